@@ -1,0 +1,13 @@
+pub mod Each
+pub mod Store
+pub mod Plan
+pub mod Route
+pub mod Requests
+pub mod Rounds
+pub mod History
+pub mod Log
+pub mod Scripts
+pub mod Times
+pub mod Good
+pub mod Text
+pub mod Report

@@ -1,0 +1,24 @@
+//! The definitions: which histories and reports are right for a platform with its scripts.
+//!
+//! - `Platform` and its rows say what a platform is, `Operation` what a script asks for; code and
+//!   definitions share them.
+//! - `specs/` has the definitions that contracts cite, one file a subject: `Store` what an access
+//!   does, `Route` where an address leads, `Requests` what an initiator asks for, `Rounds` its
+//!   syncs, `History` and `Log` the store of a history and of one memory, `Scripts` and `Good` which
+//!   histories are right, `Report` their text.
+//! - `worked` has small runs, each with a history that is good and its report, and histories that
+//!   aren't good. Each is proved to be so by computing the definitions.
+#![tactic(auto)]
+
+mod operation;
+mod platform;
+mod rows;
+#[cfg(test)]
+mod tests;
+mod trace;
+pub mod worked;
+
+pub use operation::Operation;
+pub use platform::{InitiatorRow, MemoryRow, Platform, RouterRow, Style, Target, WindowRow};
+pub use rows::Rows;
+pub use trace::Trace;

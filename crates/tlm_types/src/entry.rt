@@ -1,0 +1,83 @@
+// Entries of the history.
+use crate::bytes::Bytes;
+use crate::words::{Command, Kind, ObjectNo, Phase, Ps, Response, TlmSync, TxnId, Way};
+
+/// What an access asks for, as it reaches a memory: the offset there, the data length in bytes, the
+/// bytes sent (for a read as many zeros; for a debug read none), the byte enables, and the streaming
+/// width (clause 14).
+#[derive(Drop)]
+pub struct Access {
+    pub command: Command,
+    pub offset: u64,
+    pub length: u64,
+    pub sent: Bytes,
+    pub enables: Bytes,
+    pub width: u64,
+}
+
+/// What happened.
+#[derive(Drop)]
+pub enum What {
+    /// An access at a memory. `got` is a read's buffer afterwards, or the bytes that a debug read
+    /// moved, and is empty for a write or an ignore.
+    Access {
+        way: Way,
+        access: Access,
+        status: Response,
+        got: Bytes,
+    },
+    /// Direct access to the bytes from `first` to `last` was granted under this gate.
+    Granted {
+        gate: u32,
+        first: u64,
+        last: u64,
+        kind: Kind,
+    },
+    /// The grants that overlap the bytes from `first` to `last` are to end.
+    Invalidated {
+        first: u64,
+        last: u64,
+    },
+    /// The grant of this gate has ended.
+    Closed {
+        gate: u32,
+    },
+    /// A call of non-blocking transport on a hop, and its answer.
+    Call {
+        phase: Phase,
+        answer: TlmSync,
+    },
+    /// A payload was taken from a pool.
+    Take {
+        slot: u32,
+    },
+    /// A reference to a pooled payload was added.
+    Acquire {
+        slot: u32,
+    },
+    /// A reference to a pooled payload was given up. `freed` tells that it was the last.
+    Release {
+        slot: u32,
+        freed: bool,
+    },
+}
+
+/// An entry of the history: its position, counted from 0, where it happened, for which transaction,
+/// at what time, and what it was.
+#[derive(Drop)]
+pub struct Entry {
+    pub position: u64,
+    pub object: ObjectNo,
+    pub txn: TxnId,
+    pub time: Ps,
+    pub what: What,
+}
+
+/// An entry without what happened.
+#[derive(Clone, Copy, Debug, PartialEq, Eq)]
+pub struct Head {
+    pub position: u64,
+    pub object: ObjectNo,
+    pub txn: TxnId,
+    pub time: Ps,
+}

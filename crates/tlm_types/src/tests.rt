@@ -1,0 +1,32 @@
+use crate::{Bytes, Response, Text};
+use std::test::Fail;
+
+#[test]
+fn lists_keep_what_they_are_made_of(rt: HostRuntime) -> Result<(), Fail> {
+    let alloc = rt.alloc();
+    let copied = Bytes::from_slice(alloc, &[1, 2, 3])?;
+    assert_eq!(rt; copied.as_slice(), [1, 2, 3].as_slice());
+    let moved = Bytes::from_vec(vec![in alloc; 9u8, 8]?);
+    assert_eq!(rt; moved.as_slice(), [9, 8].as_slice());
+    let copied = Text::from_text(alloc, "ram")?;
+    assert_eq!(rt; copied.as_text(), "ram");
+    let moved = Text::from_string(String::from_str(alloc, "cpu")?);
+    assert_eq!(rt; moved.as_text(), "cpu");
+    Ok(())
+}
+
+#[test]
+fn responses_have_the_numbers_of_the_standard(rt: HostRuntime) {
+    let numbers = [
+        (Response::Ok, 1),
+        (Response::Incomplete, 0),
+        (Response::GenericError, -1),
+        (Response::AddressError, -2),
+        (Response::CommandError, -3),
+        (Response::BurstError, -4),
+        (Response::ByteEnableError, -5),
+    ];
+    for (response, number) in numbers {
+        assert_eq!(rt; response.value(), number);
+    }
+}
