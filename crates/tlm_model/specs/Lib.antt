@@ -11,3 +11,4 @@ pub mod Times
 pub mod Good
 pub mod Text
 pub mod Report
+pub mod Worked

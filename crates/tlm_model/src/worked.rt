@@ -1,1 +1,90 @@
-//! Worked runs.
+//! Worked runs. Each function says of a plan, a history and a text, all made by hand, that the history
+//! is good for the plan and that the text is its report; or of a history that it isn't good.
+ghost use Rattle.std.specs.Prelude.{[], codes};
+ghost use Rattle.tlm_model.specs.Good.{IsGood};
+ghost use Rattle.tlm_model.specs.Worked.{IsWorked, cut_short, debug_plan, debug_text, debugged, doubled, empty_plan, empty_text, enables, enables_plan, enables_text, hasty, ignore_plan, ignore_text, ignored, past_end, past_end_plan, past_end_text, quantum_plan, readback, readback_plan, readback_text, routed, routed_plan, routed_text, seven_reads, seven_reads_text, streaming, streaming_plan, streaming_text, sum_plan, sum_text, summed, swapped, wrong_byte, wrong_status};
+
+/// Four bytes are written and read back.
+pub fn reads_back()
+    ensures { IsWorked readback_plan readback readback_text }
+{}
+
+/// An empty script asks for nothing.
+pub fn runs_an_empty_script()
+    ensures { IsWorked empty_plan [] empty_text }
+{}
+
+/// A write that goes past the end of the memory is refused, and takes its time.
+pub fn refuses_past_the_end()
+    ensures { IsWorked past_end_plan past_end past_end_text }
+{}
+
+/// A disabled byte is not written, and the enables repeat.
+pub fn writes_enabled_bytes()
+    ensures { IsWorked enables_plan enables enables_text }
+{}
+
+/// Of the bytes that stream to one place the last stays.
+pub fn streams()
+    ensures { IsWorked streaming_plan streaming streaming_text }
+{}
+
+/// An ignore command is always OK.
+pub fn ignores()
+    ensures { IsWorked ignore_plan ignored ignore_text }
+{}
+
+/// A debug read takes no time, and moves what there is.
+pub fn reads_by_debug_transport()
+    ensures { IsWorked debug_plan debugged debug_text }
+{}
+
+/// `add` and `copy` write what depends on their read.
+pub fn adds_and_copies()
+    ensures { IsWorked sum_plan summed sum_text }
+{}
+
+/// A router adds its latency, and refuses an address without a window.
+pub fn passes_a_router()
+    ensures { IsWorked routed_plan routed routed_text }
+{}
+
+/// Under a quantum of 100 ps seven reads of 30 ps sync at 120 ps and at 210 ps.
+pub fn syncs_by_the_quantum()
+    ensures { IsWorked (quantum_plan 100) seven_reads (seven_reads_text (codes "2")) }
+{}
+
+/// Without a quantum each operation is one sync.
+pub fn syncs_without_a_quantum()
+    ensures { IsWorked (quantum_plan 0) seven_reads (seven_reads_text (codes "7")) }
+{}
+
+/// A read of other bytes than the store has is not good.
+pub fn wrong_byte_is_not_good()
+    ensures { ¬ IsGood readback_plan wrong_byte }
+{}
+
+/// A status that the memory does not give is not good.
+pub fn wrong_status_is_not_good()
+    ensures { ¬ IsGood readback_plan wrong_status }
+{}
+
+/// Entries against the order of the script are not good.
+pub fn swapped_entries_are_not_good()
+    ensures { ¬ IsGood readback_plan swapped }
+{}
+
+/// A request that is answered twice is not good.
+pub fn doubled_entry_is_not_good()
+    ensures { ¬ IsGood readback_plan doubled }
+{}
+
+/// A request that is not answered is not good.
+pub fn missing_entry_is_not_good()
+    ensures { ¬ IsGood readback_plan cut_short }
+{}
+
+/// An access at another time than its request gives it is not good.
+pub fn early_entry_is_not_good()
+    ensures { ¬ IsGood readback_plan hasty }
+{}

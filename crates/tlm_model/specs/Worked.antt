@@ -1,0 +1,201 @@
+-- Worked runs: plans, histories and texts that were made by hand.
+use Rattle.std.specs.Prelude.{ℕ, ◌≡◌, List, [], ◌∷◌, ◌++◌, length, true, codes}
+use Rattle.tlm_types.specs.declared.words.Command.{Command}
+use Rattle.tlm_types.specs.declared.words.Command.TheVariants.{Read as read_command, Write as write_command, Ignore as ignore_command}
+use Rattle.tlm_types.specs.declared.words.ObjectNo.TheVariants.{Memory as memory_object}
+use Rattle.tlm_types.specs.declared.words.ReqMode.TheVariants.{Accept}
+use Rattle.tlm_types.specs.declared.words.RespMode.TheVariants.{Accept as accept_response}
+use Rattle.tlm_types.specs.declared.words.Response.{Response}
+use Rattle.tlm_types.specs.declared.words.Response.TheVariants.{Ok, AddressError}
+use Rattle.tlm_types.specs.declared.words.Way.{Way}
+use Rattle.tlm_types.specs.declared.words.Way.TheVariants.{Blocking, Debug as by_debug}
+use Rattle.tlm_types.specs.declared.entry.Entry.{Entry}
+use Rattle.tlm_types.specs.declared.entry.What.{What}
+use Rattle.tlm_types.specs.declared.entry.What.TheVariants.{Access as Accessed}
+use Rattle.tlm_model.specs.declared.operation.Operation.{Operation}
+use Rattle.tlm_model.specs.declared.operation.Operation.TheVariants.{Write, Read, Ignore, Debug, Copy, Add}
+use Rattle.tlm_model.specs.declared.platform.RouterRow.{RouterRow}
+use Rattle.tlm_model.specs.declared.platform.Style.TheVariants.{Blocking as blocking_style}
+use Rattle.tlm_model.specs.declared.platform.Target.{Target}
+use Rattle.tlm_model.specs.declared.platform.Target.TheVariants.{Router, Memory}
+use Rattle.tlm_model.specs.declared.trace.Trace.TheVariants.{All as all_entries}
+use Rattle.tlm_model.specs.Good.{IsGood}
+use Rattle.tlm_model.specs.Plan.{Plan}
+use Rattle.tlm_model.specs.Report.{report_of}
+use Rattle.tlm_model.specs.Store.{zeros}
+
+-- the history is good for the plan, and its report is this text
+pub record IsWorked (p : Plan) (h : List Entry) (text : List ℕ) : Type 0 where
+  pub good : IsGood p h
+  pub report : report_of all_entries p h ≡ text
+
+-- one blocking initiator `cpu`, and a memory `ram` of 256 bytes
+abbrev pub plan_of : ℕ → ℕ → Target → List RouterRow → List Operation → Plan
+plan_of quantum latency bind routers script = record {
+  platform = record {
+    quantum = quantum;
+    initiators = record { name = codes "cpu"; style = blocking_style; script = codes "a.txt"; bind = bind; pool = 4; response = accept_response } ∷ [];
+    routers = routers;
+    memories = record {
+      name = codes "ram";
+      traits = record { size = 256; latency = latency; readable = true; writable = true; enables = true; streaming = true; dmi = true; gates = 16 };
+      reply = Accept;
+      lanes = 4;
+    } ∷ [];
+  };
+  scripts = script ∷ [];
+}
+
+-- the platform of a lone script: `cpu` on `ram`, 10 ps, and a sync after each operation
+abbrev pub lone : List Operation → Plan
+lone script = plan_of 0 10 (Memory 0) [] script
+
+-- an entry of `cpu` at `ram`
+abbrev pub entry : ℕ → ℕ → ℕ → What → Entry
+entry position seq time what = record { position = position; object = memory_object 0; txn = record { initiator = 0; seq = seq }; time = time; what = what }
+
+abbrev pub made : Way → Command → ℕ → ℕ → List ℕ → List ℕ → ℕ → Response → List ℕ → What
+made way command offset n sent enables width status got = Accessed way (record { command = command; offset = offset; length = n; sent = sent; enables = enables; width = width }) status got
+
+-- a write and a read without options
+abbrev pub wrote : ℕ → List ℕ → Response → What
+wrote offset bytes status = made Blocking write_command offset (length bytes) bytes [] (length bytes) status []
+
+abbrev pub read : ℕ → List ℕ → Response → What
+read offset got status = made Blocking read_command offset (length got) (zeros (length got)) [] (length got) status got
+
+abbrev pub deadbeef : List ℕ
+deadbeef = 0xde ∷ 0xad ∷ 0xbe ∷ 0xef ∷ []
+
+-- what was written is read back
+unfoldable pub readback_plan : Plan
+readback_plan = lone (Write 0x10 deadbeef [] 4 ∷ Read 0x10 4 [] 4 ∷ [])
+
+unfoldable pub readback : List Entry
+readback = entry 0 0 0 (wrote 0x10 deadbeef Ok) ∷ entry 1 1 10 (read 0x10 deadbeef Ok) ∷ []
+
+abbrev pub readback_text : List ℕ
+readback_text = codes "tlm-report 1\n0 0 cpu.0 ram blocking write 0x10 4 be=- sw=4 deadbeef ok\n1 10 cpu.1 ram blocking read 0x10 4 be=- sw=4 deadbeef ok\ninitiator cpu blocking transactions 2 refused 0 syncs 2 end 20\nmemory ram 256\n00000010 deadbeef000000000000000000000000\nend 2\n"
+
+-- an empty script
+unfoldable pub empty_plan : Plan
+empty_plan = lone []
+
+abbrev pub empty_text : List ℕ
+empty_text = codes "tlm-report 1\ninitiator cpu blocking transactions 0 refused 0 syncs 0 end 0\nmemory ram 256\nend 0\n"
+
+-- a write that ends at the last byte, and one that goes past it
+unfoldable pub past_end_plan : Plan
+past_end_plan = lone (Write 0xfe (0xaa ∷ 0xbb ∷ []) [] 2 ∷ Write 0xff (0xcc ∷ 0xdd ∷ []) [] 2 ∷ [])
+
+unfoldable pub past_end : List Entry
+past_end = entry 0 0 0 (wrote 0xfe (0xaa ∷ 0xbb ∷ []) Ok) ∷ entry 1 1 10 (wrote 0xff (0xcc ∷ 0xdd ∷ []) AddressError) ∷ []
+
+abbrev pub past_end_text : List ℕ
+past_end_text = codes "tlm-report 1\n0 0 cpu.0 ram blocking write 0xfe 2 be=- sw=2 aabb ok\n1 10 cpu.1 ram blocking write 0xff 2 be=- sw=2 ccdd address_error\ninitiator cpu blocking transactions 2 refused 0 syncs 2 end 20\nmemory ram 256\n000000f0 0000000000000000000000000000aabb\nend 2\n"
+
+-- a write whose second enable is off: the enables repeat
+unfoldable pub enables_plan : Plan
+enables_plan = lone (Write 0x0 (1 ∷ 2 ∷ 3 ∷ 4 ∷ []) (0xff ∷ 0 ∷ []) 4 ∷ [])
+
+unfoldable pub enables : List Entry
+enables = entry 0 0 0 (made Blocking write_command 0 4 (1 ∷ 2 ∷ 3 ∷ 4 ∷ []) (0xff ∷ 0 ∷ []) 4 Ok []) ∷ []
+
+abbrev pub enables_text : List ℕ
+enables_text = codes "tlm-report 1\n0 0 cpu.0 ram blocking write 0x0 4 be=ff00 sw=4 01020304 ok\ninitiator cpu blocking transactions 1 refused 0 syncs 1 end 10\nmemory ram 256\n00000000 01000300000000000000000000000000\nend 1\n"
+
+-- a write of five bytes that streams over two places: the last byte at a place wins
+unfoldable pub streaming_plan : Plan
+streaming_plan = lone (Write 0x0 (1 ∷ 2 ∷ 3 ∷ 4 ∷ 5 ∷ []) [] 2 ∷ [])
+
+unfoldable pub streaming : List Entry
+streaming = entry 0 0 0 (made Blocking write_command 0 5 (1 ∷ 2 ∷ 3 ∷ 4 ∷ 5 ∷ []) [] 2 Ok []) ∷ []
+
+abbrev pub streaming_text : List ℕ
+streaming_text = codes "tlm-report 1\n0 0 cpu.0 ram blocking write 0x0 5 be=- sw=2 0102030405 ok\ninitiator cpu blocking transactions 1 refused 0 syncs 1 end 10\nmemory ram 256\n00000000 05040000000000000000000000000000\nend 1\n"
+
+-- an ignore command needs no place in the memory
+unfoldable pub ignore_plan : Plan
+ignore_plan = lone (Ignore 0xfff ∷ [])
+
+unfoldable pub ignored : List Entry
+ignored = entry 0 0 0 (made Blocking ignore_command 0xfff 0 [] [] 0 Ok []) ∷ []
+
+abbrev pub ignore_text : List ℕ
+ignore_text = codes "tlm-report 1\n0 0 cpu.0 ram blocking ignore 0xfff 0 be=- sw=0 - ok\ninitiator cpu blocking transactions 1 refused 0 syncs 1 end 10\nmemory ram 256\nend 1\n"
+
+-- a debug read takes no time, and moves the bytes up to the memory's end
+unfoldable pub debug_plan : Plan
+debug_plan = lone (Write 0xfe (0xaa ∷ 0xbb ∷ []) [] 2 ∷ Debug 0xfe 4 ∷ [])
+
+unfoldable pub debugged : List Entry
+debugged = entry 0 0 0 (wrote 0xfe (0xaa ∷ 0xbb ∷ []) Ok) ∷ entry 1 1 10 (made by_debug read_command 0xfe 4 [] [] 4 Ok (0xaa ∷ 0xbb ∷ [])) ∷ []
+
+abbrev pub debug_text : List ℕ
+debug_text = codes "tlm-report 1\n0 0 cpu.0 ram blocking write 0xfe 2 be=- sw=2 aabb ok\n1 10 cpu.1 ram debug read 0xfe 4 be=- sw=4 aabb ok\ninitiator cpu blocking transactions 2 refused 0 syncs 2 end 10\nmemory ram 256\n000000f0 0000000000000000000000000000aabb\nend 2\n"
+
+-- an `add` that wraps, and a `copy`: each asks for a second access by what the first one read
+abbrev pub ones : List ℕ
+ones = 0xff ∷ 0xff ∷ 0xff ∷ 0xff ∷ []
+
+abbrev pub one : List ℕ
+one = 1 ∷ 0 ∷ 0 ∷ 0 ∷ []
+
+unfoldable pub sum_plan : Plan
+sum_plan = lone (Write 0x0 ones [] 4 ∷ Add 0x0 2 ∷ Copy 0x0 0x8 4 ∷ [])
+
+unfoldable pub summed : List Entry
+summed = entry 0 0 0 (wrote 0 ones Ok) ∷ entry 1 1 10 (read 0 ones Ok) ∷ entry 2 2 20 (wrote 0 one Ok) ∷ entry 3 3 30 (read 0 one Ok) ∷ entry 4 4 40 (wrote 8 one Ok) ∷ []
+
+abbrev pub sum_text : List ℕ
+sum_text = codes "tlm-report 1\n0 0 cpu.0 ram blocking write 0x0 4 be=- sw=4 ffffffff ok\n1 10 cpu.1 ram blocking read 0x0 4 be=- sw=4 ffffffff ok\n2 20 cpu.2 ram blocking write 0x0 4 be=- sw=4 01000000 ok\n3 30 cpu.3 ram blocking read 0x0 4 be=- sw=4 01000000 ok\n4 40 cpu.4 ram blocking write 0x8 4 be=- sw=4 01000000 ok\ninitiator cpu blocking transactions 5 refused 0 syncs 3 end 50\nmemory ram 256\n00000000 01000000000000000100000000000000\nend 5\n"
+
+abbrev pub byte_read : ℕ → Operation
+byte_read address = Read address 1 [] 1
+
+abbrev pub zero_read : ℕ → What
+zero_read offset = read offset (0 ∷ []) Ok
+
+-- a router of 5 ps in front of the memory: one address has no window
+unfoldable pub routed_plan : Plan
+routed_plan = plan_of 0 10 (Router 0) (record { name = codes "bus"; latency = 5; accept = Accept; lanes = 4; windows = record { first = 0; last = 0xff; to = Memory 0; base = 0 } ∷ [] } ∷ []) (byte_read 0x0 ∷ byte_read 0x1000 ∷ byte_read 0x1 ∷ [])
+
+unfoldable pub routed : List Entry
+routed = entry 0 0 5 (zero_read 0) ∷ entry 1 2 25 (zero_read 1) ∷ []
+
+abbrev pub routed_text : List ℕ
+routed_text = codes "tlm-report 1\n0 5 cpu.0 ram blocking read 0x0 1 be=- sw=1 00 ok\n1 25 cpu.2 ram blocking read 0x1 1 be=- sw=1 00 ok\ninitiator cpu blocking transactions 3 refused 1 syncs 3 end 35\nrefused cpu.1 15 read 0x1000\nmemory ram 256\nend 2\n"
+
+-- seven reads of 30 ps, under this quantum
+unfoldable pub quantum_plan : ℕ → Plan
+quantum_plan quantum = plan_of quantum 30 (Memory 0) [] (byte_read 0 ∷ byte_read 0 ∷ byte_read 0 ∷ byte_read 0 ∷ byte_read 0 ∷ byte_read 0 ∷ byte_read 0 ∷ [])
+
+unfoldable pub seven_reads : List Entry
+seven_reads = entry 0 0 0 (zero_read 0) ∷ entry 1 1 30 (zero_read 0) ∷ entry 2 2 60 (zero_read 0) ∷ entry 3 3 90 (zero_read 0) ∷ entry 4 4 120 (zero_read 0) ∷ entry 5 5 150 (zero_read 0) ∷ entry 6 6 180 (zero_read 0) ∷ []
+
+abbrev pub seven_reads_text : List ℕ → List ℕ
+seven_reads_text syncs = codes "tlm-report 1\n0 0 cpu.0 ram blocking read 0x0 1 be=- sw=1 00 ok\n1 30 cpu.1 ram blocking read 0x0 1 be=- sw=1 00 ok\n2 60 cpu.2 ram blocking read 0x0 1 be=- sw=1 00 ok\n3 90 cpu.3 ram blocking read 0x0 1 be=- sw=1 00 ok\n4 120 cpu.4 ram blocking read 0x0 1 be=- sw=1 00 ok\n5 150 cpu.5 ram blocking read 0x0 1 be=- sw=1 00 ok\n6 180 cpu.6 ram blocking read 0x0 1 be=- sw=1 00 ok\ninitiator cpu blocking transactions 7 refused 0 syncs " ++ (syncs ++ codes " end 210\nmemory ram 256\nend 7\n")
+
+-- of the plan that reads back: a read of a byte that isn't there
+unfoldable pub wrong_byte : List Entry
+wrong_byte = entry 0 0 0 (wrote 0x10 deadbeef Ok) ∷ entry 1 1 10 (read 0x10 (0 ∷ 0xad ∷ 0xbe ∷ 0xef ∷ []) Ok) ∷ []
+
+-- a write that is refused at an address that there is
+unfoldable pub wrong_status : List Entry
+wrong_status = entry 0 0 0 (wrote 0x10 deadbeef AddressError) ∷ entry 1 1 10 (read 0x10 (zeros 4) Ok) ∷ []
+
+-- the read stands before the write, and reads zeros
+unfoldable pub swapped : List Entry
+swapped = entry 0 1 10 (read 0x10 (zeros 4) Ok) ∷ entry 1 0 0 (wrote 0x10 deadbeef Ok) ∷ []
+
+-- the write stands twice
+unfoldable pub doubled : List Entry
+doubled = entry 0 0 0 (wrote 0x10 deadbeef Ok) ∷ entry 1 0 0 (wrote 0x10 deadbeef Ok) ∷ entry 2 1 10 (read 0x10 deadbeef Ok) ∷ []
+
+-- the read is missing
+unfoldable pub cut_short : List Entry
+cut_short = entry 0 0 0 (wrote 0x10 deadbeef Ok) ∷ []
+
+-- the read is made at once
+unfoldable pub hasty : List Entry
+hasty = entry 0 0 0 (wrote 0x10 deadbeef Ok) ∷ entry 1 1 0 (read 0x10 deadbeef Ok) ∷ []
