@@ -1,1 +1,5 @@
 mod WorkedRuns
+pub mod EachLemmas
+pub mod LogLemmas
+pub mod HistoryLemmas
+pub mod PartsLemmas

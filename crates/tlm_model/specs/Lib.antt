@@ -11,4 +11,5 @@ pub mod Times
 pub mod Good
 pub mod Text
 pub mod Report
+pub mod Laws
 pub mod Worked

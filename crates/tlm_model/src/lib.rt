@@ -10,6 +10,7 @@
 //!   aren't good. Each is proved to be so by computing the definitions.
 #![tactic(auto)]
 
+pub mod laws;
 mod operation;
 mod platform;
 mod rows;
