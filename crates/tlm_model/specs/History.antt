@@ -41,7 +41,7 @@ entries_at o h = filter (λ e. is_object o e.object) h
 abbrev pub Store : Type 0
 Store = ℕ → List ℕ
 
-abbrev zeros_of : Option MemoryRow → List ℕ
+abbrev pub zeros_of : Option MemoryRow → List ℕ
 zeros_of None = []
 zeros_of (Some row) = zeros row.traits.size
 

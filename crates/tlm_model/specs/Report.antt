@@ -106,15 +106,15 @@ what_words (Take slot) = codes "take" ∷ decimal slot ∷ []
 what_words (Acquire slot) = codes "acquire" ∷ decimal slot ∷ []
 what_words (Release slot freed) = codes "release" ∷ decimal slot ∷ freed_words freed
 
-abbrev name_of_initiator : Option InitiatorRow → List ℕ
+abbrev pub name_of_initiator : Option InitiatorRow → List ℕ
 name_of_initiator None = []
 name_of_initiator (Some row) = row.name
 
-abbrev name_of_router : Option RouterRow → List ℕ
+abbrev pub name_of_router : Option RouterRow → List ℕ
 name_of_router None = []
 name_of_router (Some row) = row.name
 
-abbrev name_of_memory : Option MemoryRow → List ℕ
+abbrev pub name_of_memory : Option MemoryRow → List ℕ
 name_of_memory None = []
 name_of_memory (Some row) = row.name
 
@@ -151,7 +151,7 @@ object_word p (Pool i) = initiator_name p i ++ codes ".pool"
 abbrev pub entry_words : Platform → Entry → List (List ℕ)
 entry_words p e = decimal e.position ∷ decimal e.time ∷ txn_word p e.txn ∷ object_word p e.object ∷ what_words e.what
 
-abbrev is_access : What → Bool
+abbrev pub is_access : What → Bool
 is_access (Accessed way a status got) = true
 is_access (Granted g f l k) = false
 is_access (Invalidated f l) = false
@@ -167,7 +167,7 @@ traced all_entries h = h
 traced accesses_alone h = filter (λ (e : Entry). is_access e.what) h
 traced no_entries h = []
 
-abbrev has_no_route : Platform → Initiator → Request → Asked → Bool
+abbrev pub has_no_route : Platform → Initiator → Request → Asked → Bool
 has_no_route p i r (Transport a) = is_none (route_of p i r.address)
 has_no_route p i r (DebugRead a) = is_none (route_of p i r.address)
 has_no_route p i r (Invalidation n) = false
@@ -176,7 +176,7 @@ has_no_route p i r (Invalidation n) = false
 abbrev pub refused_of : Platform → Initiator → List Entry → List Request
 refused_of p i h = filter (λ r. has_no_route p i r r.asked) (requests_of p i h)
 
-abbrev asked_word : Asked → List ℕ
+abbrev pub asked_word : Asked → List ℕ
 asked_word (Transport a) = command_word a.command
 asked_word (DebugRead a) = codes "debug"
 asked_word (Invalidation n) = []

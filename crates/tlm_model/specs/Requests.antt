@@ -76,7 +76,7 @@ numbers_in (op ∷ ops) = numbers_of op + numbers_in ops
 abbrev pub is_txn : ℕ → ℕ → TxnId → Bool
 is_txn i s t = (t.initiator == i) && (t.seq == s)
 
-abbrev got_in : What → Option (List ℕ)
+abbrev pub got_in : What → Option (List ℕ)
 got_in (Accessed way access status got) = Some got
 got_in (Granted g f l k) = None
 got_in (Invalidated f l) = None
@@ -86,7 +86,7 @@ got_in (Take s) = None
 got_in (Acquire s) = None
 got_in (Release s f) = None
 
-abbrev first_of_two : Option (List ℕ) → Option (List ℕ) → Option (List ℕ)
+abbrev pub first_of_two : Option (List ℕ) → Option (List ℕ) → Option (List ℕ)
 first_of_two None y = y
 first_of_two (Some x) y = Some x
 
@@ -95,7 +95,7 @@ abbrev pub answered : ℕ → ℕ → List Entry → Option (List ℕ)
 answered i s [] = None
 answered i s (e ∷ es) = first_of_two (if is_txn i s e.txn then got_in e.what else None) (answered i s es)
 
-abbrev buffer_by : Option Route → ℕ → ℕ → ℕ → List Entry → Option (List ℕ)
+abbrev pub buffer_by : Option Route → ℕ → ℕ → ℕ → List Entry → Option (List ℕ)
 buffer_by None n i s h = Some (zeros n)
 buffer_by (Some r) n i s h = answered i s h
 

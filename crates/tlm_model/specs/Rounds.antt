@@ -37,7 +37,7 @@ syncs_from p i now t (op ∷ ops) =
     then syncs_from p i (time_after p i t op) (time_after p i t op) ops + 1
     else syncs_from p i now (time_after p i t op) ops
 
-abbrev syncs_by : Style → ℕ → ℕ
+abbrev pub syncs_by : Style → ℕ → ℕ
 syncs_by Blocking n = n
 syncs_by Direct n = n
 syncs_by FourPhase n = 0

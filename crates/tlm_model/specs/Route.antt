@@ -46,21 +46,21 @@ window_of n (w ∷ ws) a = if is_within w a then Some (record { index = n; windo
 abbrev pub window_hop : Platform → ℕ → ℕ → ℕ
 window_hop p r index = length p.initiators + sum_by (λ (row : RouterRow). length row.windows) (take r p.routers) + index
 
-abbrev nowhere : ℕ → Walk
+abbrev pub nowhere : ℕ → Walk
 nowhere before = record { end = None; before = before; latency = before; hops = [] }
 
-abbrev into_memory : Option MemoryRow → ℕ → ℕ → ℕ → Walk
+abbrev pub into_memory : Option MemoryRow → ℕ → ℕ → ℕ → Walk
 into_memory None m a before = nowhere before
 into_memory (Some row) m a before = record { end = Some (record { memory = m; offset = a }); before = before; latency = later before row.traits.latency; hops = [] }
 
-abbrev over_hop : ℕ → Walk → Walk
+abbrev pub over_hop : ℕ → Walk → Walk
 over_hop h w = record w { hops = h ∷ w.hops }
 
-abbrev into_window : Platform → ℕ → Option Found → ℕ → ℕ → (Target → ℕ → ℕ → Walk) → Walk
+abbrev pub into_window : Platform → ℕ → Option Found → ℕ → ℕ → (Target → ℕ → ℕ → Walk) → Walk
 into_window p r None a before next = nowhere before
 into_window p r (Some f) a before next = over_hop (window_hop p r f.index) (next f.window.to (a - f.window.first + f.window.base) before)
 
-abbrev into_router : Platform → ℕ → Option RouterRow → ℕ → ℕ → (Target → ℕ → ℕ → Walk) → Walk
+abbrev pub into_router : Platform → ℕ → Option RouterRow → ℕ → ℕ → (Target → ℕ → ℕ → Walk) → Walk
 into_router p r None a before next = nowhere before
 into_router p r (Some row) a before next = into_window p r (window_of 0 row.windows a) a (later before row.latency) next
 

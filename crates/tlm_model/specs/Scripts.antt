@@ -25,13 +25,13 @@ OfRequest p before e Q =
     MatchOption (slice_get (initiators_of p) e.txn.initiator) ⊥ (λ i.
     MatchOption (slice_get (requests_of p.platform i before) e.txn.seq) ⊥ (λ r. Q i r))
 
-abbrev IsAccessOf : Option Route → Asked → ObjectNo → Access → Type 0
+abbrev pub IsAccessOf : Option Route → Asked → ObjectNo → Access → Type 0
 IsAccessOf None asked o access = ⊥
 IsAccessOf (Some r) (Transport a) o access = (o ≡ Memory r.memory) × (access ≡ record a { offset = r.offset })
 IsAccessOf (Some r) (DebugRead a) o access = (o ≡ Memory r.memory) × (access ≡ record a { offset = r.offset })
 IsAccessOf (Some r) (Invalidation n) o access = ⊥
 
-abbrev IsInvalidationOf : Option Route → Asked → ObjectNo → ℕ → ℕ → Type 0
+abbrev pub IsInvalidationOf : Option Route → Asked → ObjectNo → ℕ → ℕ → Type 0
 IsInvalidationOf None asked o first last = ⊥
 IsInvalidationOf (Some r) (Transport a) o first last = ⊥
 IsInvalidationOf (Some r) (DebugRead a) o first last = ⊥
@@ -43,13 +43,13 @@ IsEntryOf route asked o (Accessed way access status got) = IsAccessOf route aske
 IsEntryOf route asked o (Invalidated first last) = IsInvalidationOf route asked o first last
 IsEntryOf route asked o w = Unit {0}
 
-abbrev IsDecoupledWay : Way → Type 0
+abbrev pub IsDecoupledWay : Way → Type 0
 IsDecoupledWay Blocking = Unit {0}
 IsDecoupledWay FourPhase = ⊥
 IsDecoupledWay (Direct g) = Unit {0}
 IsDecoupledWay Debug = ⊥
 
-abbrev IsWay : Style → Asked → Way → Type 0
+abbrev pub IsWay : Style → Asked → Way → Type 0
 IsWay blocking_style (Transport a) way = way ≡ Blocking
 IsWay direct_style (Transport a) way = IsDecoupledWay way
 IsWay fourphase_style (Transport a) way = way ≡ FourPhase
@@ -86,7 +86,8 @@ comes_first blocking_style r q = nat_lt r.seq q.seq
 comes_first direct_style r q = nat_lt r.seq q.seq
 comes_first fourphase_style r q = nat_lt r.stage q.stage
 
-abbrev IsInOrder : Platform → Initiator → List Entry → Request → Bool → Type 0
+-- a request is answered once, and after those that come first
+abbrev pub IsInOrder : Platform → Initiator → List Entry → Request → Bool → Type 0
 IsInOrder p i before q false = Unit {0}
 IsInOrder p i before q true =
     (has_answer i.number q.seq before ≡ false)

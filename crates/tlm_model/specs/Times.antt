@@ -15,7 +15,7 @@ use Rattle.tlm_model.specs.Route.{later, before_of, latency_of}
 use Rattle.tlm_model.specs.Scripts.{OfRequest}
 
 -- blocking transport arrives after the routers (IEEE 1666-2011, clause 11.1.1.5)
-abbrev access_time : Platform → Initiator → Request → Way → ℕ
+abbrev pub access_time : Platform → Initiator → Request → Way → ℕ
 access_time p i r Blocking = later r.time (before_of p i r.address)
 access_time p i r FourPhase = r.time
 access_time p i r (Direct g) = r.time
@@ -32,7 +32,7 @@ decoupled_time p i r (Take s) = r.time
 decoupled_time p i r (Acquire s) = r.time
 decoupled_time p i r (Release s f) = r.time
 
-abbrev HasTime : Style → ℕ → ℕ → Type 0
+abbrev pub HasTime : Style → ℕ → ℕ → Type 0
 HasTime blocking_style wanted time = time ≡ wanted
 HasTime direct_style wanted time = time ≡ wanted
 HasTime fourphase_style wanted time = Unit {0}

@@ -1,0 +1,6 @@
+mod Runs
+mod Ends
+mod Texts
+mod RowSteps
+mod ReportLemmas
+mod Writing

@@ -1,0 +1,4 @@
+pub mod Reading
+pub mod Words
+pub mod Lines
+pub mod Plain
