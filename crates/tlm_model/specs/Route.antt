@@ -1,4 +1,4 @@
--- Where an address leads (IEEE 1666-2011, clauses 11.1.1.5 and 13).
+-- Where an address leads: an interconnect changes the address (IEEE 1666-2011, clause 14.7).
 use Rattle.std.specs.Prelude.{ℕ, zero, suc, ◌+◌, ◌-◌, ◌^◌, min, ◌&&◌, Bool, List, [], ◌∷◌, length, take, sum_by, Option, Some, None, slice_get, if◌then◌else◌, nat_le}
 use Rattle.tlm_model.specs.declared.platform.MemoryRow.{MemoryRow}
 use Rattle.tlm_model.specs.declared.platform.Platform.{Platform}

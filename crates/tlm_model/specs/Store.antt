@@ -13,11 +13,11 @@ use Rattle.tlm_types.specs.declared.entry.Access.{Access}
 abbrev pub zeros : ℕ → List ℕ
 zeros n = replicate n 0
 
--- where data byte k goes: a width below the length streams (14.12)
+-- where data byte k goes: a width below the length streams (14.15)
 abbrev pub place_of : Access → ℕ → ℕ
 place_of a k = a.offset + k % a.width
 
--- data byte k is enabled: the enables repeat, and without any each byte is enabled (14.10)
+-- data byte k is enabled: the enables repeat, and without any each byte is enabled (14.13)
 abbrev pub is_enabled : Access → ℕ → Bool
 is_enabled a k = if length a.enables == 0 then true else (slice_index a.enables (k % length a.enables) == 0xff)
 

@@ -14,7 +14,7 @@ use Rattle.tlm_model.specs.Requests.{Request}
 use Rattle.tlm_model.specs.Route.{later, before_of, latency_of}
 use Rattle.tlm_model.specs.Scripts.{OfRequest}
 
--- blocking transport arrives after the routers (IEEE 1666-2011, clause 11.1.1.5)
+-- blocking transport arrives after the routers: each adds its latency (IEEE 1666-2011, clause 11.1.3)
 abbrev pub access_time : Platform → Initiator → Request → Way → ℕ
 access_time p i r Blocking = later r.time (before_of p i r.address)
 access_time p i r FourPhase = r.time

@@ -81,3 +81,25 @@ pub struct Head {
     pub txn: TxnId,
     pub time: Ps,
 }
+
+/// The plain parts of an access: lengths and offsets are in bytes.
+#[derive(Clone, Copy, Debug, PartialEq, Eq)]
+pub struct Facts {
+    pub way: Way,
+    pub command: Command,
+    pub offset: u64,
+    pub length: u64,
+    pub width: u64,
+    pub status: Response,
+}
+
+/// What the shared history knows of an entry beside its position and its object: contracts name
+/// contents, and no part of the program makes one. The number is that of the reference in an Acquire or
+/// a Release, the index in the memory's log in an entry of a memory, and 0 in every other entry.
+#[derive(Drop)]
+pub struct Content {
+    pub txn: TxnId,
+    pub time: Ps,
+    pub what: What,
+    pub number: u32,
+}

@@ -5,21 +5,25 @@
 //!   base protocol (IEEE 1666-2011, clauses 14 and 15).
 //! - `MemoryTraits` says what a memory is and allows.
 //! - `Entry` is one event of a history: its `Head` says where and when, its `What` what happened.
+//! - `EndOf` says how an initiator ended, with the list of what was refused to it.
 //! - `Memory` is the error of every call that takes memory and was refused it.
 //!
-//! Promises: a list made of a slice, a text or a vector is that list, and `Response::value` is the
-//! standard's number.
+//! Promises: a list made of a slice, a text or a vector is that list, `Response::value` is the
+//! standard's number, `kind_of` is what a memory allows, and a `RefusedList` takes no memory after it
+//! was made.
 #![tactic(auto)]
 
 mod bytes;
+mod ends;
 mod entry;
 #[cfg(test)]
 mod tests;
 mod words;
 
 pub use bytes::{Bytes, Text};
-pub use entry::{Access, Entry, Head, What};
+pub use ends::{EndOf, RefusedItem, RefusedList};
+pub use entry::{Access, Content, Entry, Facts, Head, What};
 pub use words::{
     Command, Kind, Memory, MemoryTraits, ObjectNo, Phase, Ps, ReqMode, RespMode, Response, TlmSync,
-    TxnId, Way,
+    TxnId, Way, kind_of,
 };

@@ -1,4 +1,6 @@
-use crate::{Bytes, Response, Text};
+use crate::{
+    Bytes, Command, Kind, MemoryTraits, RefusedItem, RefusedList, Response, Text, kind_of,
+};
 use std::test::Fail;
 
 #[test]
@@ -29,4 +31,52 @@ fn responses_have_the_numbers_of_the_standard(rt: HostRuntime) {
     for (response, number) in numbers {
         assert_eq!(rt; response.value(), number);
     }
+}
+
+#[test]
+fn a_refused_list_keeps_its_items(rt: HostRuntime) -> Result<(), Fail> {
+    let mut list = RefusedList::with_room(rt.alloc(), 2)?;
+    assert!(rt; list.is_empty());
+    let item = RefusedItem {
+        seq: 1,
+        time: 15,
+        debug: false,
+        command: Command::Read,
+        address: 0x1000,
+    };
+    list.push(item);
+    list.push(RefusedItem { seq: 2, ..item });
+    assert_eq!(rt; list.len(), 2);
+    assert_eq!(rt; list.item(0), item);
+    assert_eq!(rt; list.item(1).seq, 2);
+    Ok(())
+}
+
+#[test]
+fn a_memory_grants_what_it_allows(rt: HostRuntime) {
+    let ram = MemoryTraits {
+        size: 1,
+        latency: 0,
+        readable: true,
+        writable: true,
+        enables: true,
+        streaming: true,
+        dmi: true,
+        gates: 1,
+    };
+    assert_eq!(rt; kind_of(&ram), Kind::Both);
+    assert_eq!(rt;
+        kind_of(&MemoryTraits {
+            writable: false,
+            ..ram
+        }),
+        Kind::Read
+    );
+    assert_eq!(rt;
+        kind_of(&MemoryTraits {
+            readable: false,
+            ..ram
+        }),
+        Kind::Write
+    );
 }

@@ -1,6 +1,7 @@
 // Words and numbers of the standard, and the traits of a memory.
-ghost use Rattle.std.specs.Prelude.{◌≡◌};
+ghost use Rattle.std.specs.Prelude.{◌≡◌, ◌⊎◌, IsTrue};
 ghost use Rattle.tlm_types.specs.Response.{value_of};
+ghost use Rattle.tlm_types.specs.Traits.{allowed_kind};
 
 use std::alloc::{AllocError, AllocFailed};
 use thiserror::Error;
@@ -41,7 +42,7 @@ pub enum ObjectNo {
     Pool(u32),
 }
 
-/// `tlm_command` (clause 14.7).
+/// `tlm_command` (clause 14.9).
 #[derive(Clone, Copy, Debug, PartialEq, Eq)]
 pub enum Command {
     Read,
@@ -106,7 +107,7 @@ pub enum Way {
     Debug,
 }
 
-/// What a grant of direct access allows (`tlm_dmi::dmi_access_e`, clause 11.2.5).
+/// What a grant of direct access allows (`tlm_dmi::dmi_access_e`, clause 11.2).
 #[derive(Clone, Copy, Debug, PartialEq, Eq)]
 pub enum Kind {
     Read,
@@ -144,4 +145,16 @@ pub struct MemoryTraits {
     pub streaming: bool,
     pub dmi: bool,
     pub gates: u32,
+}
+
+/// What a memory allows, as the kind of a grant (clause 11.2).
+pub fn kind_of(traits: &MemoryTraits) -> Kind
+    requires { IsTrue traits.now.readable ⊎ IsTrue traits.now.writable }
+    ensures { result ≡ allowed_kind traits.now.readable traits.now.writable }
+{
+    match (traits.readable, traits.writable) {
+        (true, true) => Kind::Both,
+        (true, false) => Kind::Read,
+        (false, _) => Kind::Write,
+    }
 }

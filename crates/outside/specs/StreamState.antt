@@ -1,0 +1,23 @@
+-- What is seen of a sink over a stream.
+use Rattle.std.specs.Prelude.{ℕ, ◌≡◌, ◌≤◌, Bool, List, length, take, Option}
+use Rattle.std.specs.Io.KnownBytes.{append_known, Appends}
+
+-- what the stream holds, where that is known; the bytes that wait to be written to it; whether it has
+-- failed; and how many calls have failed
+pub record StreamState : Type 0 where
+  pub held : Option (List ℕ)
+  pub waiting : List ℕ
+  pub failed : Bool
+  pub faults : ℕ
+
+-- all that was taken: what the stream holds, and then what waits
+abbrev pub collected : StreamState → Option (List ℕ)
+collected s = append_known s.held s.waiting
+
+-- known bytes grew by a prefix of the piece
+abbrev pub AppendsPrefix : Option (List ℕ) → Option (List ℕ) → List ℕ → Type 0
+AppendsPrefix old new bytes = (n : ℕ) × (n ≤ length bytes) × Appends old new (take n bytes)
+
+-- the calls to come hand it nothing more: it holds what it held, and the same bytes wait
+abbrev pub HasStopped : StreamState → StreamState → Type 0
+HasStopped old new = (new.held ≡ old.held) × (new.waiting ≡ old.waiting)

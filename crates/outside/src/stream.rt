@@ -1,0 +1,240 @@
+// A sink over a stream, which collects small pieces.
+ghost use Rattle.std.specs.Prelude.{◌≡◌, ◌+◌, ◌-◌, ◌≤◌, ◌↔◌, ℕ, List, [], ◌++◌, length, take, drop, Option, None, Some, IsTrue, IfOk, IsOk, IsErr, OnOk, OnErr, is_ok, is_err, true, false, ◌||◌, if◌then◌else◌, vec_len, vec_capacity};
+ghost use Rattle.std.specs.Bool.{OnTrue};
+ghost use Rattle.std.specs.Io.KnownBytes.{Appends, Keeps};
+ghost use Rattle.outside.specs.Causes.{next_count, Rose};
+ghost use Rattle.outside.specs.StreamState.{StreamState, collected, AppendsPrefix, HasStopped};
+
+use crate::traits::{Failed, Sink};
+use std::alloc::Global;
+use std::io::{ErrorKind, Write};
+use std::marker::Model;
+use tlm_types::Memory;
+
+/// How many bytes a `StreamSink` lets wait: 64 KiB.
+pub const STREAM_ROOM: usize = 65_536;
+
+/// A sink over a stream. It collects what it is given and writes it to the stream when its buffer is
+/// full and at `finish`, so that a small piece costs no call of the system. It takes no memory after
+/// `new`. Once the stream has failed nothing more is handed to it, so that it holds a prefix of what
+/// was given. What waits when the sink is dropped is lost: call `finish` first.
+#[derive(Drop)]
+pub struct StreamSink<W: Write + Drop> {
+    inner: W,
+    buffer: Vec<u8>,
+    failed: bool,
+    faults: u64,
+}
+
+impl<W: Write + Drop> Model for StreamSink<W> {
+    ghost use Rattle.std.specs.Prelude.{◌≤◌, vec_len, vec_capacity};
+    ghost use Rattle.outside.specs.StreamState.{StreamState};
+    ghost use Rattle.outside.specs.declared.stream.TheConstants.{STREAM_ROOM};
+
+    ghost Value = { StreamState };
+
+    ghost view = { λ s. record { held = W.contents s.inner; waiting = s.buffer.items; failed = s.failed; faults = s.faults } };
+
+    ghost invariant = { λ s. (vec_len s.buffer ≤ STREAM_ROOM) × (STREAM_ROOM ≤ vec_capacity s.buffer) };
+}
+
+// One write, tried again where a signal interrupted it. It answers how many bytes the stream took,
+// none where it failed.
+fn write_once<W: Write>(stream: &mut W, bytes: &[u8]) -> usize
+    ensures bound { result ≤ length bytes.now }
+    ensures taken { Appends (W.contents stream.old) (W.contents stream.new) (take result bytes.now) }
+{
+    for _ in 0..u64::MAX {
+        match stream.write(bytes) {
+            Ok(count) => return count,
+            Err(e) if e.kind() == ErrorKind::Interrupted => {}
+            Err(_) => return 0,
+        }
+    }
+    0
+}
+
+// Hands the bytes to the stream in order, and answers how many it took: all, unless it failed or took
+// nothing of what was left.
+fn hand_over<W: Write>(stream: &mut W, bytes: &[u8]) -> usize
+    ensures bound { result ≤ length bytes.now }
+    ensures taken { Appends (W.contents stream.old) (W.contents stream.new) (take result bytes.now) }
+{
+    let mut taken = 0;
+    while taken < bytes.len() {
+        let count = write_once(stream, &bytes[taken..]);
+        if count == 0 {
+            return taken;
+        }
+        taken += count;
+    }
+    taken
+}
+
+fn remove_front(buffer: &mut Vec<u8>, count: usize)
+    requires { count ≤ vec_len buffer.old }
+    ensures items { buffer.new.items ≡ drop count buffer.old.items }
+    ensures len { vec_len buffer.new ≡ vec_len buffer.old - count }
+    ensures capacity { vec_capacity buffer.new ≡ vec_capacity buffer.old }
+{
+    let len = buffer.len();
+    buffer.as_mut_slice().copy_within(count..len, 0);
+    buffer.truncate(len - count);
+}
+
+impl<W: Write + Drop> StreamSink<W> {
+    /// A sink over this stream, with an empty buffer of `STREAM_ROOM` bytes. Its only error is want of
+    /// memory, and it drops the stream then.
+    pub fn new(alloc: Global, inner: W) -> Result<StreamSink<W>, Memory>
+        ensures { IfOk result (λ s. s
+            ≡ record { held = W.contents inner; waiting = []; failed = false; faults = 0 }) }
+    {
+        let buffer = Vec::with_capacity(alloc, STREAM_ROOM)?;
+        Ok(StreamSink {
+            inner,
+            buffer,
+            failed: false,
+            faults: 0,
+        })
+    }
+
+    /// How many calls have failed.
+    pub fn faults(&self) -> u64
+        ensures { result ≡ self.now.faults }
+    {
+        self.faults
+    }
+
+    /// Writes what waits to the stream and flushes it. After a failure, of this call or an earlier one,
+    /// it fails each time.
+    pub fn finish(&mut self) -> Result<(), Failed>
+        ensures all { OnOk result (Keeps (collected self.old) self.new.held) }
+        ensures empty { OnOk result (self.new.waiting ≡ []) }
+        ensures kept { OnErr result (Keeps (collected self.old) (collected self.new)) }
+        ensures stopped { IsTrue self.old.failed → IsErr result × HasStopped self.old self.new }
+        ensures counted { self.new.faults
+            ≡ (if is_ok result then self.old.faults else next_count self.old.faults) }
+        ensures marked { self.new.failed ≡ is_err result }
+    {
+        if self.failed || !self.pour() || !self.flush() {
+            return self.fail();
+        }
+        Ok(())
+    }
+
+    /// The stream, without what waits.
+    pub fn into_inner(self) -> W
+        ensures { W.contents result ≡ self.held }
+    {
+        self.inner
+    }
+
+    // Hands what waits to the stream, and answers whether all was taken. The rest goes on waiting.
+    fn pour(&mut self) -> bool
+        ensures empty { OnTrue result (self.new.waiting ≡ []) }
+        ensures kept { Keeps (collected self.old) (collected self.new) }
+        ensures bounded { length self.new.waiting ≤ STREAM_ROOM }
+        ensures failed { self.new.failed ≡ self.old.failed }
+        ensures faults { self.new.faults ≡ self.old.faults }
+    {
+        let taken = hand_over(&mut self.inner, &self.buffer);
+        let all = taken == self.buffer.len();
+        remove_front(&mut self.buffer, taken);
+        all
+    }
+
+    fn flush(&mut self) -> bool
+        ensures kept { Keeps self.old.held self.new.held }
+        ensures rest { self.new ≡ record self.old { held = self.new.held } }
+    {
+        self.inner.flush().is_ok()
+    }
+
+    fn fail(&mut self) -> Result<(), Failed>
+        ensures err { IsErr result }
+        ensures after { self.new
+            ≡ record self.old { failed = true; faults = next_count self.old.faults } }
+    {
+        self.failed = true;
+        self.faults = self.faults.saturating_add(1);
+        Err(Failed)
+    }
+
+    fn has_room(&self, bytes: &[u8]) -> bool
+        ensures { IsTrue result ↔ (length self.now.waiting + length bytes.now ≤ STREAM_ROOM) }
+    {
+        bytes.len() <= STREAM_ROOM - self.buffer.len()
+    }
+
+    // Lets a piece wait.
+    fn collect(&mut self, bytes: &[u8])
+        requires { length self.old.waiting + length bytes.now ≤ STREAM_ROOM }
+        ensures { self.new ≡ record self.old { waiting = self.old.waiting ++ bytes.now } }
+    {
+        let Ok(()) = self.buffer.extend_from_slice(bytes) else {
+            unreachable!()
+        };
+    }
+
+    // Hands a piece to the stream, while nothing waits.
+    fn pass(&mut self, bytes: &[u8]) -> Result<(), Failed>
+        requires { self.old.waiting ≡ [] }
+        ensures all { OnOk result (Appends self.old.held self.new.held bytes.now) }
+        ensures part { OnErr result (AppendsPrefix self.old.held self.new.held bytes.now) }
+        ensures rest { self.new ≡ record self.old {
+          held = self.new.held;
+          failed = self.old.failed || is_err result;
+          faults = if is_ok result then self.old.faults else next_count self.old.faults;
+        } }
+    {
+        let taken = hand_over(&mut self.inner, bytes);
+        if taken < bytes.len() {
+            return self.fail();
+        }
+        Ok(())
+    }
+}
+
+impl<W: Write + Drop> Sink for StreamSink<W> {
+    ghost taken = { λ s. None };
+
+    ghost faults = { λ s. s.faults };
+
+    /// Lets the piece wait if there is room. Else it first writes what waits to the stream, and then,
+    /// if the piece is larger than the whole buffer, the piece too. Once the stream has failed, each
+    /// piece that isn't empty is refused.
+    fn write(&mut self, bytes: &[u8]) -> Result<(), Failed>
+        // What waits follows what the stream holds, where that is known.
+        ensures gathered { OnOk result (Appends (collected self.old) (collected self.new) bytes.now) }
+        ensures cut_short { OnErr result
+            (AppendsPrefix (collected self.old) (collected self.new) bytes.now) }
+        ensures waits { self.old.failed ≡ false → length self.old.waiting + length bytes.now ≤ STREAM_ROOM
+            → IsOk result × (self.new ≡ record self.old { waiting = self.old.waiting ++ bytes.now }) }
+        ensures bounded { length self.new.waiting ≤ STREAM_ROOM }
+        ensures stopped { IsTrue self.old.failed → HasStopped self.old self.new
+            × (IsOk result ↔ (bytes.now ≡ [])) }
+        ensures counted { self.new.faults
+            ≡ (if is_ok result then self.old.faults else next_count self.old.faults) }
+        ensures marked { self.new.failed ≡ (self.old.failed || is_err result) }
+
+        // What every sink promises.
+        ensures later { self.old.faults ≤ self.new.faults }
+        ensures failed { OnErr result (Rose self.old.faults self.new.faults) }
+    {
+        if self.failed && !bytes.is_empty() {
+            return self.fail();
+        }
+        if self.has_room(bytes) {
+            self.collect(bytes);
+            return Ok(());
+        }
+        if !self.pour() {
+            return self.fail();
+        }
+        if bytes.len() > STREAM_ROOM {
+            return self.pass(bytes);
+        }
+        self.collect(bytes);
+        Ok(())
+    }
+}
