@@ -1,0 +1,40 @@
+-- What contracts see of a payload, and the access that it stands for (IEEE 1666-2011, clause 14).
+use Rattle.std.specs.Prelude.{ℕ, ◌+◌, ◌<◌, ◌≤◌, Bool, false, ◌||◌, ◌==◌, List, [], length}
+use Rattle.tlm_types.specs.declared.words.Command.{Command}
+use Rattle.tlm_types.specs.declared.words.Command.TheVariants.{Write, Ignore}
+use Rattle.tlm_types.specs.declared.words.Response.{Response}
+use Rattle.tlm_types.specs.declared.words.Response.TheVariants.{Incomplete}
+use Rattle.tlm_types.specs.declared.entry.Access.{Access}
+use Rattle.tlm_model.specs.Store.{span_of}
+
+-- a payload's attributes, and how many data bytes and enables it can hold
+pub record PayloadView : Type 0 where
+  pub command : Command
+  pub address : ℕ
+  pub bytes : List ℕ
+  pub enables : List ℕ
+  pub width : ℕ
+  pub status : Response
+  pub hint : Bool
+  pub room : ℕ
+
+-- a new payload with this room
+abbrev pub new_payload : ℕ → PayloadView
+new_payload room = record { command = Ignore; address = 0; bytes = []; enables = []; width = 0; status = Incomplete; hint = false; room = room }
+
+-- the access that a payload asks for
+abbrev pub access_of : PayloadView → Access
+access_of p = record { command = p.command; offset = p.address; length = length p.bytes; sent = p.bytes; enables = p.enables; width = p.width }
+
+-- the access of these bytes to the first places of a memory
+abbrev pub access_from_start : List ℕ → List ℕ → ℕ → Access
+access_from_start bytes enables width = record { command = Write; offset = 0; length = length bytes; sent = bytes; enables = enables; width = width }
+
+-- an element of byte enables: disabled or enabled
+abbrev pub is_enable : ℕ → Bool
+is_enable element = (element == 0x00) || (element == 0xff)
+
+-- a read or a write finds its places among this many bytes
+pub record HasPlaces (a : Access) (size : ℕ) : Type 0 where
+  pub inside : a.offset + span_of a ≤ size
+  pub wide : 0 < a.width

@@ -1,0 +1,316 @@
+// A payload, and what it asks of a memory.
+ghost use Rattle.std.specs.Prelude.{◌≡◌, ◌≢◌, ◌↔◌, ◌+◌, ◌<◌, ◌≤◌, [], length, IsTrue, IfOk, true, false};
+ghost use Rattle.std.specs.List.{list_all};
+ghost use Rattle.generic_payload.specs.Payload.{PayloadView, new_payload, access_of, is_enable, HasPlaces};
+ghost use Rattle.tlm_model.specs.Store.{zeros, span_of, is_allowed, checked, status_by, stored_by, got_by};
+
+use crate::stream::{stream_from, stream_into};
+use lane_copy::merge;
+use std::alloc::Global;
+use std::marker::Model;
+use tlm_types::{Command, Memory, MemoryTraits, Response};
+
+/// A transaction's attributes. Addresses, lengths and the streaming width are in bytes.
+#[derive(Drop)]
+pub struct Payload {
+    command: Command,
+    address: u64,
+    bytes: Vec<u8>,
+    enables: Vec<u8>,
+    width: u64,
+    status: Response,
+    hint: bool,
+    room: u32,
+}
+
+impl Model for Payload {
+    ghost use Rattle.std.specs.Prelude.{◌≤◌, length, vec_capacity};
+    ghost use Rattle.generic_payload.specs.Payload.{PayloadView};
+
+    ghost Value = { PayloadView };
+
+    ghost view = { λ p. record {
+      command = p.command;
+      address = p.address;
+      bytes = p.bytes.items;
+      enables = p.enables.items;
+      width = p.width;
+      status = p.status;
+      hint = p.hint;
+      room = p.room;
+    } };
+
+    ghost invariant = { λ p.
+        (p.room ≤ vec_capacity p.bytes) × (length p.bytes.items ≤ p.room)
+        × (p.room ≤ vec_capacity p.enables) × (length p.enables.items ≤ p.room) };
+}
+
+impl Payload {
+    /// A new payload that can hold `room` data bytes and as many byte enables: it has the ignore
+    /// command, address 0, no data, no enables, streaming width 0, the status INCOMPLETE and no DMI
+    /// hint. Its only error is want of memory.
+    pub fn with_room(alloc: Global, room: u32) -> Result<Payload, Memory>
+        ensures { IfOk result (λ p. p ≡ new_payload room) }
+    {
+        let bytes = Vec::with_capacity(alloc, room as usize)?;
+        let enables = Vec::with_capacity(alloc, room as usize)?;
+        Ok(Payload {
+            command: Command::Ignore,
+            address: 0,
+            bytes,
+            enables,
+            width: 0,
+            status: Response::Incomplete,
+            hint: false,
+            room,
+        })
+    }
+
+    /// Makes the payload new again. The room stays.
+    pub fn reset(&mut self)
+        ensures { self.new ≡ new_payload self.old.room }
+    {
+        self.begin(Command::Ignore, 0, 0);
+    }
+
+    /// Makes it a write of these bytes, 1 to `room` of them, without byte enables. A width of at least
+    /// their number means no streaming.
+    pub fn set_write(&mut self, address: u64, bytes: &[u8], width: u64)
+        requires some { 0 < length bytes.now }
+        requires roomy { length bytes.now ≤ self.old.room }
+        ensures { self.new ≡ record (new_payload self.old.room) {
+          command = Command.Write;
+          address = address;
+          bytes = bytes.now;
+          width = width;
+        } }
+    {
+        self.begin(Command::Write, address, width);
+        self.bytes.extend_from_slice(bytes).unwrap();
+    }
+
+    /// Makes it a read of 1 to `room` bytes into a buffer of zeros, without byte enables.
+    pub fn set_read(&mut self, address: u64, length: u32, width: u64)
+        requires some { 0 < length }
+        requires roomy { length ≤ self.old.room }
+        ensures { self.new ≡ record (new_payload self.old.room) {
+          command = Command.Read;
+          address = address;
+          bytes = zeros length;
+          width = width;
+        } }
+    {
+        self.begin(Command::Read, address, width);
+        self.bytes.resize(length as usize, 0).unwrap();
+    }
+
+    /// Makes it an ignore command, with no data.
+    pub fn set_ignore(&mut self, address: u64)
+        ensures { self.new ≡ record (new_payload self.old.room) { address = address } }
+    {
+        self.begin(Command::Ignore, address, 0);
+    }
+
+    fn begin(&mut self, command: Command, address: u64, width: u64)
+        ensures { self.new ≡ record (new_payload self.old.room) {
+          command = command;
+          address = address;
+          width = width;
+        } }
+    {
+        self.command = command;
+        self.set_address(address);
+        self.bytes.clear();
+        self.enables.clear();
+        self.width = width;
+        self.status = Response::Incomplete;
+        self.hint = false;
+    }
+
+    /// Sets the byte enables, at most `room` of them, each 0x00 or 0xff. With m of them element
+    /// `k mod m` governs data byte k; without any each byte is enabled.
+    pub fn set_enables(&mut self, enables: &[u8])
+        requires roomy { length enables.now ≤ self.old.room }
+        requires legal { IsTrue (list_all is_enable enables.now) }
+        ensures { self.new ≡ record self.old { enables = enables.now } }
+    {
+        self.enables.clear();
+        self.enables.extend_from_slice(enables).unwrap();
+    }
+
+    /// The command.
+    pub fn command(&self) -> Command
+        ensures { result ≡ self.now.command }
+    {
+        self.command
+    }
+
+    /// The address of the first data byte, as the component that holds the payload sees it.
+    pub fn address(&self) -> u64
+        ensures { result ≡ self.now.address }
+    {
+        self.address
+    }
+
+    /// The data bytes: those to write, or the buffer of a read.
+    pub fn bytes(&self) -> &[u8]
+        ensures value { result.now ≡ self.now.bytes }
+        ensures roomy { length self.now.bytes ≤ self.now.room }
+    {
+        &self.bytes
+    }
+
+    /// The byte enables, none where each byte is enabled.
+    pub fn enables(&self) -> &[u8]
+        ensures value { result.now ≡ self.now.enables }
+        ensures roomy { length self.now.enables ≤ self.now.room }
+    {
+        &self.enables
+    }
+
+    /// The streaming width, in bytes.
+    pub fn width(&self) -> u64
+        ensures { result ≡ self.now.width }
+    {
+        self.width
+    }
+
+    /// The response status, INCOMPLETE until a target has answered.
+    pub fn status(&self) -> Response
+        ensures { result ≡ self.now.status }
+    {
+        self.status
+    }
+
+    /// The DMI hint: the target grants direct access.
+    pub fn hint(&self) -> bool
+        ensures { result ≡ self.now.hint }
+    {
+        self.hint
+    }
+
+    /// How many data bytes, and how many byte enables, the payload can hold.
+    pub fn room(&self) -> u32
+        ensures { result ≡ self.now.room }
+    {
+        self.room
+    }
+
+    /// Sets the address alone, as an interconnect does.
+    pub fn set_address(&mut self, address: u64)
+        ensures { self.new ≡ record self.old { address = address } }
+    {
+        self.address = address;
+    }
+
+    /// Sets the response status alone.
+    pub fn set_status(&mut self, status: Response)
+        ensures { self.new ≡ record self.old { status = status } }
+    {
+        self.status = status;
+    }
+
+    /// Sets the DMI hint alone.
+    pub fn set_hint(&mut self, hint: bool)
+        ensures { self.new ≡ record self.old { hint = hint } }
+    {
+        self.hint = hint;
+    }
+
+    /// The status that a memory with these traits gives the payload: OK for an ignore command,
+    /// and else by the first of these that fails: the bytes lie within the memory, it allows the
+    /// command, it has byte enables where there are some, the width is valid. After OK a read or a
+    /// write finds its places in the memory.
+    pub fn check(&self, traits: &MemoryTraits) -> Response
+        ensures status { result ≡ status_by traits.now (access_of self.now) self.now.command }
+        ensures places { result ≡ Response.Ok → self.now.command ≢ Command.Ignore →
+            HasPlaces (access_of self.now) traits.now.size }
+    {
+        match self.command {
+            Command::Ignore => Response::Ok,
+            Command::Read => self.check_places(traits, traits.readable),
+            Command::Write => self.check_places(traits, traits.writable),
+        }
+    }
+
+    fn check_places(&self, traits: &MemoryTraits, allowed: bool) -> Response
+        requires { allowed ≡ is_allowed traits.now self.now.command }
+        ensures { result ≡ checked traits.now (access_of self.now) }
+    {
+        if self.is_beyond(traits.size) {
+            Response::AddressError
+        } else if !allowed {
+            Response::CommandError
+        } else if !self.enables.is_empty() && !traits.enables {
+            Response::ByteEnableError
+        } else if self.width == 0 || (self.is_streaming() && !traits.streaming) {
+            Response::BurstError
+        } else {
+            Response::Ok
+        }
+    }
+
+    fn is_beyond(&self, size: u64) -> bool
+        ensures { IsTrue result ↔ (size < self.now.address + span_of (access_of self.now)) }
+    {
+        match self.address.checked_add(self.span()) {
+            Some(end) => size < end,
+            None => true,
+        }
+    }
+
+    fn span(&self) -> u64
+        ensures { result ≡ span_of (access_of self.now) }
+    {
+        let length = self.bytes.len() as u64;
+        if self.width == 0 {
+            length
+        } else {
+            length.min(self.width)
+        }
+    }
+
+    fn is_streaming(&self) -> bool
+        ensures { IsTrue result ↔ (self.now.width < length self.now.bytes) }
+    {
+        self.width < self.bytes.len() as u64
+    }
+
+    /// Puts the enabled data bytes of a write to their places in the bytes of a memory, where the check
+    /// gave OK for a memory of that size. Of the bytes that stream to one place the last stays.
+    pub fn write_into(&self, store: &mut [u8])
+        requires write { self.now.command ≡ Command.Write }
+        requires places { HasPlaces (access_of self.now) (length store.old) }
+        ensures { store.new ≡ stored_by self.now.command Response.Ok (access_of self.now) store.old }
+    {
+        let start = self.address as usize;
+        let places = &mut store[start..start + self.span() as usize];
+        let bytes = self.bytes.as_slice();
+        let enables = self.enables.as_slice();
+        if self.is_streaming() {
+            stream_into(places, bytes, enables);
+        } else {
+            merge(places, bytes, enables);
+        }
+    }
+
+    /// Fills the enabled bytes of a read's buffer from their places in the bytes of a memory, where
+    /// the check gave OK for a memory of that size. The disabled bytes stay.
+    pub fn read_from(&mut self, store: &[u8])
+        requires read { self.old.command ≡ Command.Read }
+        requires places { HasPlaces (access_of self.old) (length store.now) }
+        ensures { self.new ≡ record self.old {
+          bytes = got_by self.old.command Response.Ok (access_of self.old) store.now;
+        } }
+    {
+        let start = self.address as usize;
+        let places = &store[start..start + self.span() as usize];
+        let is_streaming = self.is_streaming();
+        let enables = self.enables.as_slice();
+        if is_streaming {
+            stream_from(&mut self.bytes, places, enables);
+        } else {
+            merge(&mut self.bytes, places, enables);
+        }
+    }
+}

@@ -1,0 +1,6 @@
+pub mod Amounts
+pub mod Keeps
+pub mod Purses
+pub mod PlaceLists
+pub mod Pulls
+pub mod Rooms

@@ -1,0 +1,147 @@
+-- The list of a wallet's places, as the map that it stands for.
+use Rattle.std.proofs.Common.{◌≡◌, ◌≢◌, ℕ, zero, suc, ◌+◌, ◌-◌, ◌<◌, ◌≤◌, ◌==◌, true, false, cond, List, [], ◌∷◌, ◌++◌, length, drop, Option, Some, None, refl, sym, ap, ◌∙◌, subst, ⊎_elim, arith}
+use Rattle.std.specs.Prelude.{slice_get, is_some, IsSome, remove}
+use Rattle.std.specs.Ordering.{nat_cmp, eq_by_cmp}
+use Rattle.std.specs.Cmp.{nat_cmp_total}
+use Rattle.std.proofs.lemmas.Bool.{cases_eq, cond-true, cond-false, eq-eqb, ne_eqb}
+use Rattle.std.specs.FinMap as map
+use Rattle.std.specs.FinMap.{FinMap, from_entries_push, get-empty, get-from_entries, empty_of_len, len-empty, len-insert, len-remove, same_map, nat_cmp-IsAntisymmetric}
+use Rattle.token_book.specs.Pocket.{Pocket}
+use Rattle.token_book.specs.Purse.{Purse, purse, left_in, bytes_left_in, left_of, bytes_of, HasPlace, HasRoom, with_pocket, AreApart, AreFull}
+use Rattle.token_book.proofs.Purses.{eq_by_cmp-nat, get-removed, remove-absent}
+
+-- what is looked for and stands in front is found, and else it is looked for behind
+find-here : (q : ℕ) (e : ℕ × Pocket) (es : List (ℕ × Pocket)) → q ≡ e.0 → map.find nat_cmp q (e ∷ es) ≡ Some e.1
+find-here q e es is = cond-true (eq_by_cmp nat_cmp q e.0) (Some e.1) (map.find nat_cmp q es) (eq_by_cmp-nat q e.0 ∙ eq-eqb q e.0 is)
+
+find-later : (q : ℕ) (e : ℕ × Pocket) (es : List (ℕ × Pocket)) → q ≢ e.0 → map.find nat_cmp q (e ∷ es) ≡ map.find nat_cmp q es
+find-later q e es far = cond-false (eq_by_cmp nat_cmp q e.0) (Some e.1) (map.find nat_cmp q es) (eq_by_cmp-nat q e.0 ∙ ne_eqb q e.0 far)
+
+-- what is looked for from its place on is found there
+pub find-drop : (es : List (ℕ × Pocket)) (i : ℕ) (e : ℕ × Pocket) (q : ℕ) → slice_get es i ≡ Some e → q ≡ e.0 → map.find nat_cmp q (drop i es) ≡ Some e.1
+find-drop [] i e q at is = absurd (cc (at))
+find-drop (x ∷ xs) zero e q at is = let same : x ≡ e = cc (at) in find-here q x xs (is ∙ ap (λ (y : ℕ × Pocket). y.0) (sym same)) ∙ ap (λ (y : ℕ × Pocket). Some y.1) same
+find-drop (x ∷ xs) (suc i) e q at is = find-drop xs i e q at is
+
+-- an object that isn't found stands nowhere
+not_here : (q : ℕ) (e : ℕ × Pocket) (es : List (ℕ × Pocket)) → map.find nat_cmp q (e ∷ es) ≡ None → q ≢ e.0
+not_here q e es none is = let x : Some e.1 ≡ None = sym (find-here q e es is) ∙ none in cc (x)
+
+not_later : (q : ℕ) (e : ℕ × Pocket) (es : List (ℕ × Pocket)) → map.find nat_cmp q (e ∷ es) ≡ None → map.find nat_cmp q es ≡ None
+not_later q e es none = sym (find-later q e es (not_here q e es none)) ∙ none
+
+not_at : (es : List (ℕ × Pocket)) (i : ℕ) (e : ℕ × Pocket) (q : ℕ) → map.find nat_cmp q es ≡ None → slice_get es i ≡ Some e → q ≢ e.0
+not_at [] i e q none at is = cc (at)
+not_at (x ∷ xs) zero e q none at is = let same : x ≡ e = cc (at) in not_here q x xs none (is ∙ ap (λ (y : ℕ × Pocket). y.0) (sym same))
+not_at (x ∷ xs) (suc i) e q none at is = not_at xs i e q (not_later q x xs none) at is
+
+-- what is found after one place was taken out
+pub find-remove : (es : List (ℕ × Pocket)) (i : ℕ) (e : ℕ × Pocket) (q : ℕ) → AreApart es → slice_get es i ≡ Some e → map.find nat_cmp q (remove es i) ≡ cond (q == e.0) None (map.find nat_cmp q es)
+find-remove [] i e q apart at = absurd (cc (at))
+find-remove (x ∷ xs) zero e q apart at =
+    let same : x ≡ e = cc (at) in
+    ⊎_elim
+    (λ (is : q ≡ x.0). ap (λ (k : ℕ). map.find nat_cmp k xs) is ∙ apart.0 ∙ sym (cond-true (q == e.0) None (map.find nat_cmp q (x ∷ xs)) (eq-eqb q e.0 (is ∙ ap (λ (y : ℕ × Pocket). y.0) same))))
+    (λ (no : q ≢ x.0). sym (cond-false (q == e.0) None (map.find nat_cmp q (x ∷ xs)) (ne_eqb q e.0 (λ k. no (k ∙ ap (λ (y : ℕ × Pocket). y.0) (sym same)))) ∙ find-later q x xs no))
+    (cases_eq q x.0)
+find-remove (x ∷ xs) (suc i) e q apart at =
+    ⊎_elim
+    (λ (is : q ≡ x.0).
+    find-here q x (remove xs i) is
+    ∙ sym (cond-false (q == e.0) None (map.find nat_cmp q (x ∷ xs)) (ne_eqb q e.0 (λ k. not_at xs i e x.0 apart.0 at (sym is ∙ k))) ∙ find-here q x xs is))
+    (λ (no : q ≢ x.0).
+    find-later q x (remove xs i) no ∙ find-remove xs i e q apart.1 at ∙ ap (λ (o : Option Pocket). cond (q == e.0) None o) (sym (find-later q x xs no)))
+    (cases_eq q x.0)
+
+-- an object that isn't found isn't found after one place was taken out
+find-remove_absent : (es : List (ℕ × Pocket)) (i : ℕ) (e : ℕ × Pocket) (q : ℕ) → AreApart es → slice_get es i ≡ Some e → map.find nat_cmp q es ≡ None → map.find nat_cmp q (remove es i) ≡ None
+find-remove_absent es i e q apart at none =
+    find-remove es i e q apart at ∙ ap (λ (o : Option Pocket). cond (q == e.0) None o) none
+    ∙ elim (q == e.0) as (λ b. cond {A = Option Pocket} b None None ≡ None) [ true ↦ refl | false ↦ refl ]
+
+pub AreApart-remove : (es : List (ℕ × Pocket)) (i : ℕ) (e : ℕ × Pocket) → AreApart es → slice_get es i ≡ Some e → AreApart (remove es i)
+AreApart-remove [] i e apart at = absurd (cc (at))
+AreApart-remove (x ∷ xs) zero e apart at = apart.1
+AreApart-remove (x ∷ xs) (suc i) e apart at = (find-remove_absent xs i e x.0 apart.1 at apart.0, AreApart-remove xs i e apart.1 at)
+
+pub AreFull-remove : (es : List (ℕ × Pocket)) (i : ℕ) (e : ℕ × Pocket) → AreFull es → slice_get es i ≡ Some e → AreFull (remove es i)
+AreFull-remove [] i e full at = absurd (cc (at))
+AreFull-remove (x ∷ xs) zero e full at = full.1
+AreFull-remove (x ∷ xs) (suc i) e full at = (full.0, AreFull-remove xs i e full.1 at)
+
+-- one place more, of an object that has none
+find-push_absent : (es : List (ℕ × Pocket)) (k : ℕ) (p : Pocket) (q : ℕ) → map.find nat_cmp q es ≡ None → q ≢ k → map.find nat_cmp q (es ++ (k, p) ∷ []) ≡ None
+find-push_absent [] k p q none far = find-later q (k, p) [] far
+find-push_absent (x ∷ xs) k p q none far = find-later q x (xs ++ (k, p) ∷ []) (not_here q x xs none) ∙ find-push_absent xs k p q (not_later q x xs none) far
+
+pub AreApart-push : (es : List (ℕ × Pocket)) (k : ℕ) (p : Pocket) → AreApart es → map.find nat_cmp k es ≡ None → AreApart (es ++ (k, p) ∷ [])
+AreApart-push [] k p apart none = (refl, tt)
+AreApart-push (x ∷ xs) k p apart none = (find-push_absent xs k p x.0 apart.0 (λ is. not_here k x xs none (sym is)), AreApart-push xs k p apart.1 (not_later k x xs none))
+
+pub AreFull-push : (es : List (ℕ × Pocket)) (k : ℕ) (p : Pocket) → AreFull es → 0 < p.left + p.bytes → AreFull (es ++ (k, p) ∷ [])
+AreFull-push [] k p full more = (more, tt)
+AreFull-push (x ∷ xs) k p full more = (full.0, AreFull-push xs k p full.1 more)
+
+-- what is found isn't empty
+pub find_full : (es : List (ℕ × Pocket)) (q : ℕ) (p : Pocket) → AreFull es → map.find nat_cmp q es ≡ Some p → 0 < p.left + p.bytes
+find_full [] q p full is = absurd (cc (is))
+find_full (x ∷ xs) q p full is =
+    ⊎_elim
+    (λ (here : q ≡ x.0). let e : Some x.1 ≡ Some p = sym (find-here q x xs here) ∙ is in let f : x.1 ≡ p = cc (e) in subst (λ (y : Pocket). 0 < y.left + y.bytes) f full.0)
+    (λ (no : q ≢ x.0). find_full xs q p full.1 (sym (find-later q x xs no) ∙ is))
+    (cases_eq q x.0)
+
+-- the map has as many entries as there are places
+pub len-places : (es : List (ℕ × Pocket)) → AreApart es → map.len (map.from_entries {R = nat_cmp} es) ≡ length es
+len-places [] apart = len-empty nat_cmp Pocket
+len-places (x ∷ xs) apart =
+    let m = map.from_entries {R = nat_cmp} xs in
+    let none : map.contains_key m x.0 ≡ false = ap (λ (o : Option Pocket). is_some o) (get-from_entries nat_cmp_total xs x.0 ∙ apart.0) in
+    let more = len-insert nat_cmp_total m x.0 x.1 in
+    let one : cond (map.contains_key m x.0) (map.len m) (map.len m + 1) ≡ map.len m + 1 = cond-false (map.contains_key m x.0) (map.len m) (map.len m + 1) none in
+    let rest = len-places xs apart.1 in
+    omega arith
+
+-- to take a place out is to remove it from the map
+pub from_entries-remove : (es : List (ℕ × Pocket)) (i : ℕ) (e : ℕ × Pocket) → AreApart es → slice_get es i ≡ Some e → map.from_entries {R = nat_cmp} (remove es i) ≡ map.remove (map.from_entries es) e.0
+from_entries-remove es i e apart at = same_map nat_cmp_total nat_cmp-IsAntisymmetric (map.from_entries (remove es i)) (map.remove (map.from_entries es) e.0) (λ q.
+    get-from_entries nat_cmp_total (remove es i) q ∙ find-remove es i e q apart at ∙ ap (λ (o : Option Pocket). cond (q == e.0) None o) (sym (get-from_entries nat_cmp_total es q)) ∙ sym (get-removed (map.from_entries es) e.0 q))
+
+-- to keep a place that isn't empty is to give its object that pocket
+pub with_pocket-push : (most : ℕ) (es : List (ℕ × Pocket)) (k : ℕ) (p : Pocket) → map.find nat_cmp k es ≡ None → (p.left + p.bytes == 0) ≡ false
+    → purse most (es ++ (k, p) ∷ []) ≡ with_pocket (purse most es) k p
+with_pocket-push most es k p none some =
+    ap (λ (h : FinMap nat_cmp Pocket). let x : Purse = record { places = most; held = h } in x)
+    (from_entries_push nat_cmp_total nat_cmp-IsAntisymmetric es k p none
+    ∙ sym (cond-false (p.left + p.bytes == 0) (map.remove (map.from_entries es) k) (map.insert (map.from_entries es) k p) some))
+
+-- an object has a place where its pocket isn't empty
+pub placed : (most : ℕ) (es : List (ℕ × Pocket)) (o : ℕ) → AreFull es → (HasPlace (purse most es) o → 0 < left_of (purse most es) o + bytes_of (purse most es) o) × (0 < left_of (purse most es) o + bytes_of (purse most es) o → HasPlace (purse most es) o)
+placed most es o full = one (map.get (map.from_entries {R = nat_cmp} es) o) (λ p is. find_full es o p full (sym (get-from_entries nat_cmp_total es o) ∙ is))
+  where
+    one : (x : Option Pocket) → ((p : Pocket) → x ≡ Some p → 0 < p.left + p.bytes) → (IsSome x → 0 < left_in x + bytes_left_in x) × (0 < left_in x + bytes_left_in x → IsSome x)
+    one None h = ((λ is. absurd (cc (is))), λ more. absurd (omega arith))
+    one (Some p) h = ((λ _. h p refl), λ _. refl)
+
+-- the map has fewer entries after one was removed
+pub len-removed : (m : FinMap nat_cmp Pocket) (o : ℕ) (p : Pocket) → map.get m o ≡ Some p → map.len (map.remove m o) < map.len m
+len-removed m o p is =
+    let there : map.contains_key m o ≡ true = ap (λ (x : Option Pocket). is_some x) is in
+    let less : map.len (map.remove m o) ≡ map.len m - 1 = len-remove nat_cmp_total m o ∙ cond-true (map.contains_key m o) (map.len m - 1) (map.len m) there in
+    ⊎_elim
+    (λ (none : map.len m ≡ 0). let e : None ≡ Some p = sym (get-empty nat_cmp o) ∙ ap (λ (x : FinMap nat_cmp Pocket). map.get x o) (sym (empty_of_len m none)) ∙ is in absurd (cc (e)))
+    (λ (some : map.len m ≢ 0). omega arith)
+    (cases_eq (map.len m) 0)
+
+-- where an object has room, there is a free place once its own is taken out
+pub room-removed : (w : Purse) (o : ℕ) → HasRoom w o → map.len w.held ≤ w.places → map.len (map.remove w.held o) < w.places
+room-removed w o room few = one (map.get w.held o) refl
+  where
+    one : (x : Option Pocket) → map.get w.held o ≡ x → map.len (map.remove w.held o) < w.places
+    one (Some p) is = let less = len-removed w.held o p is in omega arith
+    one None is =
+        let same : map.len (map.remove w.held o) ≡ map.len w.held = ap (λ (m : FinMap nat_cmp Pocket). map.len m) (remove-absent w.held o is) in
+        ⊎_elim
+        (λ (some : IsSome (map.get w.held o)). let e : false ≡ true = sym (ap (λ (x : Option Pocket). is_some x) is) ∙ some in absurd (cc (e)))
+        (λ (free : map.len w.held < w.places). omega arith)
+        room

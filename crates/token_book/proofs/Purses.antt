@@ -1,0 +1,114 @@
+-- Wallets as maps from objects to pockets, and the list of places that stands for one.
+use Rattle.std.proofs.Common.{◌≡◌, ◌≢◌, ◌⊎◌, ℕ, ◌+◌, ◌<◌, ◌≤◌, ◌==◌, true, false, cond, Some, None, refl, sym, ap, ◌∙◌, inl, inr, ⊎_elim, arith}
+use Rattle.std.specs.Ordering.{nat_cmp, eq_by_cmp, is_eq}
+use Rattle.std.specs.declared.cmp.Ordering.TheVariants.{Less, Equal, Greater}
+use Rattle.std.specs.Cmp.{nat_cmp_total, nat_cmp_is}
+use Rattle.std.proofs.lemmas.Bool.{cases_eq, cases_lt, cond-true, cond-false, eq-eqb, ne_eqb}
+use Rattle.std.specs.FinMap as map
+use Rattle.std.specs.FinMap.{FinMap, get-insert, get-remove, same_map, nat_cmp-IsAntisymmetric}
+use Rattle.atomic_table.specs.Seated.{TableId}
+use Rattle.token_book.specs.Pocket.{Pocket}
+use Rattle.token_book.specs.Purse.{Purse, left_in, bytes_left_in, left_of, bytes_of, IsOf, with_pocket}
+
+-- the order's ties are the equal numbers
+pub eq_by_cmp-nat : (a b : ℕ) → eq_by_cmp nat_cmp a b ≡ (a == b)
+eq_by_cmp-nat a b =
+    ⊎_elim
+    (λ (same : a ≡ b). ap is_eq (sym (nat_cmp_is a b Equal same)) ∙ sym (eq-eqb a b same))
+    (λ (other : a ≢ b). ⊎_elim
+    (λ (less : a < b). ap is_eq (sym (nat_cmp_is a b Less less)) ∙ sym (ne_eqb a b other))
+    (λ (more : b ≤ a). ap is_eq (sym (nat_cmp_is a b Greater (omega arith))) ∙ sym (ne_eqb a b other))
+    (cases_lt a b))
+    (cases_eq a b)
+
+module _ (m : FinMap nat_cmp Pocket) where
+  pub get-inserted : (o : ℕ) (p : Pocket) (q : ℕ) → map.get (map.insert m o p) q ≡ cond (q == o) (Some p) (map.get m q)
+  get-inserted o p q = get-insert nat_cmp_total m o p q ∙ ap (λ b. cond b (Some p) (map.get m q)) (eq_by_cmp-nat q o)
+
+  pub get-removed : (o q : ℕ) → map.get (map.remove m o) q ≡ cond (q == o) None (map.get m q)
+  get-removed o q = get-remove nat_cmp_total m o q ∙ ap (λ b. cond b None (map.get m q)) (eq_by_cmp-nat q o)
+
+  -- to remove what isn't there changes nothing
+  pub remove-absent : (o : ℕ) → map.get m o ≡ None → map.remove m o ≡ m
+  remove-absent o none = same_map nat_cmp_total nat_cmp-IsAntisymmetric (map.remove m o) m (λ q. get-removed o q ∙ ⊎_elim
+      (λ (is : q ≡ o). cond-true (q == o) None (map.get m q) (eq-eqb q o is) ∙ sym (ap (map.get m) is ∙ none))
+      (λ (no : q ≢ o). cond-false (q == o) None (map.get m q) (ne_eqb q o no))
+      (cases_eq q o))
+
+-- what was removed is gone
+pub get-removed_here : (m : FinMap nat_cmp Pocket) (o : ℕ) → map.get (map.remove m o) o ≡ None
+get-removed_here m o = get-removed m o o ∙ cond-true (o == o) None (map.get m o) (eq-eqb o o refl)
+
+-- to insert after a removal is to insert
+pub insert-removed : (m : FinMap nat_cmp Pocket) (o : ℕ) (p : Pocket) → map.insert (map.remove m o) o p ≡ map.insert m o p
+insert-removed m o p = same_map nat_cmp_total nat_cmp-IsAntisymmetric (map.insert (map.remove m o) o p) (map.insert m o p) (λ q. get-inserted (map.remove m o) o p q ∙ ⊎_elim
+    (λ (is : q ≡ o). let t = eq-eqb q o is in cond-true (q == o) (Some p) (map.get (map.remove m o) q) t ∙ sym (get-inserted m o p q ∙ cond-true (q == o) (Some p) (map.get m q) t))
+    (λ (no : q ≢ o). let t = ne_eqb q o no in cond-false (q == o) (Some p) (map.get (map.remove m o) q) t ∙ get-removed m o q ∙ cond-false (q == o) None (map.get m q) t ∙ sym (get-inserted m o p q ∙ cond-false (q == o) (Some p) (map.get m q) t))
+    (cases_eq q o))
+
+-- a place that is taken out and kept again with another pocket
+pub with_pocket-removed : (w : Purse) (o : ℕ) (p : Pocket) → with_pocket (record { places = w.places; held = map.remove w.held o }) o p ≡ with_pocket w o p
+with_pocket-removed w o p =
+    ap (λ (h : FinMap nat_cmp Pocket). let x : Purse = record { places = w.places; held = h } in x)
+    (elim (p.left + p.bytes == 0) as (λ b. cond b (map.remove (map.remove w.held o) o) (map.insert (map.remove w.held o) o p) ≡ cond b (map.remove w.held o) (map.insert w.held o p)) [
+      | true ↦ remove-absent (map.remove w.held o) o (get-removed_here w.held o)
+      | false ↦ insert-removed w.held o p
+    ])
+
+-- a wallet that keeps an empty pocket of an object without a place stays the same
+pub with_pocket-empty : (w : Purse) (o : ℕ) (p : Pocket) → map.get w.held o ≡ None → (p.left + p.bytes == 0) ≡ true → with_pocket w o p ≡ w
+with_pocket-empty w o p none is =
+    ap (λ (h : FinMap nat_cmp Pocket). let x : Purse = record { places = w.places; held = h } in x)
+    (cond-true (p.left + p.bytes == 0) (map.remove w.held o) (map.insert w.held o p) is ∙ remove-absent w.held o none)
+
+-- what a wallet holds of each object after one has another pocket
+pub get-with_pocket : (w : Purse) (o : ℕ) (p : Pocket) (q : ℕ)
+    → ((q ≡ o) × (p.left + p.bytes ≡ 0) × (map.get (with_pocket w o p).held q ≡ None)) ⊎ (((q ≡ o) × (map.get (with_pocket w o p).held q ≡ Some p)) ⊎ ((q ≢ o) × (map.get (with_pocket w o p).held q ≡ map.get w.held q)))
+get-with_pocket w o p q =
+    ⊎_elim
+    (λ (none : p.left + p.bytes ≡ 0).
+    let held : (with_pocket w o p).held ≡ map.remove w.held o = cond-true (p.left + p.bytes == 0) (map.remove w.held o) (map.insert w.held o p) (eq-eqb (p.left + p.bytes) 0 none) in
+    ⊎_elim
+    (λ (is : q ≡ o). inl (is, none, ap (λ (m : FinMap nat_cmp Pocket). map.get m q) held ∙ get-removed w.held o q ∙ cond-true (q == o) None (map.get w.held q) (eq-eqb q o is)))
+    (λ (no : q ≢ o). inr (inr (no, ap (λ (m : FinMap nat_cmp Pocket). map.get m q) held ∙ get-removed w.held o q ∙ cond-false (q == o) None (map.get w.held q) (ne_eqb q o no))))
+    (cases_eq q o))
+    (λ (some : p.left + p.bytes ≢ 0).
+    let held : (with_pocket w o p).held ≡ map.insert w.held o p = cond-false (p.left + p.bytes == 0) (map.remove w.held o) (map.insert w.held o p) (ne_eqb (p.left + p.bytes) 0 some) in
+    ⊎_elim
+    (λ (is : q ≡ o). inr (inl (is, ap (λ (m : FinMap nat_cmp Pocket). map.get m q) held ∙ get-inserted w.held o p q ∙ cond-true (q == o) (Some p) (map.get w.held q) (eq-eqb q o is))))
+    (λ (no : q ≢ o). inr (inr (no, ap (λ (m : FinMap nat_cmp Pocket). map.get m q) held ∙ get-inserted w.held o p q ∙ cond-false (q == o) (Some p) (map.get w.held q) (ne_eqb q o no))))
+    (cases_eq q o))
+    (cases_eq (p.left + p.bytes) 0)
+
+-- the tickets of each object after one has another pocket
+pub left_of-with_pocket : (w : Purse) (o : ℕ) (p : Pocket) (q : ℕ) → left_of (with_pocket w o p) q ≡ cond (q == o) p.left (left_of w q)
+left_of-with_pocket w o p q =
+    ⊎_elim
+    (λ (gone : (q ≡ o) × (p.left + p.bytes ≡ 0) × (map.get (with_pocket w o p).held q ≡ None)). let n = gone.1 in let z : 0 ≡ p.left = omega arith in ap left_in gone.2 ∙ z ∙ sym (cond-true (q == o) p.left (left_of w q) (eq-eqb q o gone.0)))
+    (λ (rest : ((q ≡ o) × (map.get (with_pocket w o p).held q ≡ Some p)) ⊎ ((q ≢ o) × (map.get (with_pocket w o p).held q ≡ map.get w.held q))). ⊎_elim
+    (λ (here : (q ≡ o) × (map.get (with_pocket w o p).held q ≡ Some p)). ap left_in here.1 ∙ sym (cond-true (q == o) p.left (left_of w q) (eq-eqb q o here.0)))
+    (λ (else : (q ≢ o) × (map.get (with_pocket w o p).held q ≡ map.get w.held q)). ap left_in else.1 ∙ sym (cond-false (q == o) p.left (left_of w q) (ne_eqb q o else.0)))
+    rest)
+    (get-with_pocket w o p q)
+
+-- and the bytes
+pub bytes_of-with_pocket : (w : Purse) (o : ℕ) (p : Pocket) (q : ℕ) → bytes_of (with_pocket w o p) q ≡ cond (q == o) p.bytes (bytes_of w q)
+bytes_of-with_pocket w o p q =
+    ⊎_elim
+    (λ (gone : (q ≡ o) × (p.left + p.bytes ≡ 0) × (map.get (with_pocket w o p).held q ≡ None)). let n = gone.1 in let z : 0 ≡ p.bytes = omega arith in ap bytes_left_in gone.2 ∙ z ∙ sym (cond-true (q == o) p.bytes (bytes_of w q) (eq-eqb q o gone.0)))
+    (λ (rest : ((q ≡ o) × (map.get (with_pocket w o p).held q ≡ Some p)) ⊎ ((q ≢ o) × (map.get (with_pocket w o p).held q ≡ map.get w.held q))). ⊎_elim
+    (λ (here : (q ≡ o) × (map.get (with_pocket w o p).held q ≡ Some p)). ap bytes_left_in here.1 ∙ sym (cond-true (q == o) p.bytes (bytes_of w q) (eq-eqb q o here.0)))
+    (λ (else : (q ≢ o) × (map.get (with_pocket w o p).held q ≡ map.get w.held q)). ap bytes_left_in else.1 ∙ sym (cond-false (q == o) p.bytes (bytes_of w q) (ne_eqb q o else.0)))
+    rest)
+    (get-with_pocket w o p q)
+
+-- all stays of one table
+pub IsOf-with_pocket : (table : TableId) (w : Purse) (o : ℕ) (p : Pocket) → IsOf table w → p.table ≡ table → IsOf table (with_pocket w o p)
+IsOf-with_pocket table w o p all is q r at =
+    ⊎_elim
+    (λ (gone : (q ≡ o) × (p.left + p.bytes ≡ 0) × (map.get (with_pocket w o p).held q ≡ None)). let e : None ≡ Some r = sym gone.2 ∙ at in absurd (cc (e)))
+    (λ (rest : ((q ≡ o) × (map.get (with_pocket w o p).held q ≡ Some p)) ⊎ ((q ≢ o) × (map.get (with_pocket w o p).held q ≡ map.get w.held q))). ⊎_elim
+    (λ (here : (q ≡ o) × (map.get (with_pocket w o p).held q ≡ Some p)). let e : Some p ≡ Some r = sym here.1 ∙ at in let f : p ≡ r = cc (e) in ap (λ (x : Pocket). x.table) (sym f) ∙ is)
+    (λ (else : (q ≢ o) × (map.get (with_pocket w o p).held q ≡ map.get w.held q)). all q r (sym else.1 ∙ at))
+    rest)
+    (get-with_pocket w o p q)

@@ -1,0 +1,46 @@
+-- What a wallet holds of one object.
+use Rattle.std.specs.Prelude.{◌≡◌, ℕ, ◌+◌, ◌-◌, ◌==◌, [], Option, Some, None, if◌then◌else◌, refl}
+use Rattle.std.specs.Coded.{Coded, code_by, coded×, coded_ℕ}
+use Rattle.atomic_table.specs.Seated.{TableId, table_id_coded}
+use Rattle.token_book.specs.Account.{Slip}
+
+-- in which table they are, how many tickets, and the amount of the bytes
+pub record Pocket : Type 0 where
+  pub table : TableId
+  pub left : ℕ
+  pub bytes : ℕ
+
+-- the code by which proofs tell pockets apart
+abbrev pub pocket_code : Coded Pocket
+pocket_code = code_by (TableId × (ℕ × ℕ)) (coded× table_id_coded (coded× coded_ℕ coded_ℕ)) (λ p. (p.table, (p.left, p.bytes))) (λ p. record { table = p.0; left = p.1.0; bytes = p.1.1 }) (λ _. refl)
+
+-- what a token adds to the tickets: its amount, if its name is 0
+abbrev pub tickets_in : Slip → ℕ
+tickets_in t = if t.name == 0 then t.amount else 0
+
+-- what a token adds to the bytes: its amount, if its name isn't 0
+abbrev pub bytes_in : Slip → ℕ
+bytes_in t = if t.name == 0 then 0 else t.amount
+
+-- the table of two tokens, of which there is one at least
+abbrev pub table_of : Option Slip → Option Slip → TableId
+table_of None None = record { words = 0; slots = 0; views_name = 0; atom = 0; block = 0; offset = 0; slot_names = [] }
+table_of None (Some b) = b.table
+table_of (Some e) b = e.table
+
+-- a token of this table, owner and name, or none
+abbrev pub IsLike : TableId → ℕ → ℕ → Option Slip → Type 0
+IsLike table owner name None = Unit {0}
+IsLike table owner name (Some t) = (t.table ≡ table) × (t.owner ≡ owner) × (t.name ≡ name)
+
+-- the pocket after a token was put in
+abbrev pub with_token : Slip → Pocket → Pocket
+with_token t p = record { table = p.table; left = p.left + tickets_in t; bytes = p.bytes + bytes_in t }
+
+-- the pocket after a ticket for so many bytes was taken out
+abbrev pub without_ticket : ℕ → Pocket → Pocket
+without_ticket bytes p = record { table = p.table; left = p.left - 1; bytes = p.bytes - bytes }
+
+-- a pocket of nothing
+abbrev pub no_pocket : TableId → Pocket
+no_pocket table = record { table = table; left = 0; bytes = 0 }

@@ -1,0 +1,276 @@
+// The tokens, their books, and the steps on them.
+ghost use Rattle.std.specs.Prelude.{◌≡◌, ℕ, ◌+◌, ◌-◌, ◌<◌, ◌≤◌, ◌^◌, [], length, slice_get, Some, codes, IfOk};
+ghost use Rattle.token_book.specs.Account.{Account, out_of, fresh, issued, retired, slip, with_amount, AreFresh};
+ghost use Rattle.token_book.specs.Rule.{a_book};
+
+use crate::view::{
+    Amounts, Counted, Issues, Makes, Merges, Names, Parts, Settles, TakesIn, View, Weighs,
+};
+use atomic_table::{Seat, Table};
+use std::alloc::{AllocError, AllocFailed, Global};
+use std::fmt;
+use std::marker::{Brand, Model};
+
+/// Memory was refused.
+#[derive(Clone, Copy, Debug, PartialEq, Eq)]
+pub struct Memory;
+
+impl fmt::Display for Memory {
+    ghost output = { λ _. Some (codes "out of memory") };
+
+    fn fmt<W: fmt::Write>(&self, f: &mut fmt::Formatter<W>) -> fmt::Result {
+        write!(f, "out of memory")
+    }
+}
+
+impl std::error::Error for Memory {}
+
+impl From<AllocError> for Memory {
+    fn from(_: AllocError) -> Memory {
+        Memory
+    }
+}
+
+impl<T: Drop> From<AllocFailed<T>> for Memory {
+    fn from(_: AllocFailed<T>) -> Memory {
+        Memory
+    }
+}
+
+/// What all books and tokens of one making share. Contracts see which table it is.
+#[derive(Drop)]
+pub struct Tokens {
+    table: Table<u8, View, (), Counted, Global>,
+}
+
+impl Model for Tokens {
+    ghost use Rattle.std.specs.Prelude.{◌≡◌};
+    ghost use Rattle.atomic_table.specs.Seated.{TableId, table_id_coded};
+
+    ghost Value = { TableId };
+
+    ghost coded = { table_id_coded };
+
+    ghost view = { λ t. t.table.shared.table_id };
+
+    ghost invariant = { λ t. t.table.shared.table_id.words ≡ 1 };
+}
+
+/// The book of an owner. Contracts see its table, its owner, and what is out of each name.
+#[derive(Drop)]
+pub struct Book {
+    owner: u32,
+    seat: Seat<u8, View>,
+}
+
+impl Model for Book {
+    ghost use Rattle.std.specs.Prelude.{◌≡◌, []};
+    ghost use Rattle.token_book.specs.Account.{Account, account_code};
+    ghost use Rattle.token_book.specs.Rule.{a_book, out_in, made_in};
+
+    ghost Value = { Account };
+
+    ghost coded = { account_code };
+
+    ghost view = { λ b. record { table = b.seat.table_id; owner = b.owner; out = out_in b.seat.me.0 } };
+
+    ghost invariant = { λ b. b.seat.me ≡ (a_book b.owner (out_in b.seat.me.0) (made_in b.seat.me.0), []) };
+}
+
+/// An amount of one name that is out of its owner's book. Contracts see its table, its owner, its
+/// name and its amount.
+#[derive(Drop)]
+pub struct Token {
+    owner: u32,
+    name: u32,
+    amount: u64,
+    seat: Seat<u8, View>,
+}
+
+impl Model for Token {
+    ghost use Rattle.std.specs.Prelude.{◌≡◌, []};
+    ghost use Rattle.token_book.specs.Account.{Slip, slip_code};
+    ghost use Rattle.token_book.specs.Rule.{a_token};
+
+    ghost Value = { Slip };
+
+    ghost coded = { slip_code };
+
+    ghost view = { λ t. record { table = t.seat.table_id; owner = t.owner; name = t.name; amount = t.amount } };
+
+    ghost invariant = { λ t. t.seat.me ≡ (a_token t.owner t.name t.amount, []) };
+}
+
+impl Book {
+    /// The number of its owner.
+    pub fn owner(&self) -> u32
+        ensures { result ≡ self.now.owner }
+    {
+        self.owner
+    }
+}
+
+impl Token {
+    /// The number of the owner in whose book it counts.
+    pub fn owner(&self) -> u32
+        ensures { result ≡ self.now.owner }
+    {
+        self.owner
+    }
+
+    /// Its name.
+    pub fn name(&self) -> u32
+        ensures { result ≡ self.now.name }
+    {
+        self.name
+    }
+
+    /// Its amount.
+    pub fn amount(&self) -> u64
+        ensures { result ≡ self.now.amount }
+    {
+        self.amount
+    }
+}
+
+impl Tokens {
+    /// A book for each owner, in order from owner 0 on, with nothing out. Its only error is want of
+    /// memory.
+    pub fn new(alloc: Global, owners: u32) -> Result<(Tokens, Vec<Book>), Memory>
+        requires { 0 < owners }
+        ensures count { IfOk result (λ r. length r.1.items ≡ owners) }
+        ensures fresh { IfOk result (λ r. AreFresh r.0 r.1.items) }
+    {
+        let (table, mut seat) = Table::of_words(alloc, &[0], &())?;
+        let tokens = Tokens { table };
+        let mut books = tokens.make_all(alloc, &mut seat, owners)?;
+        books.insert(0, Book { owner: 0, seat })?;
+        Ok((tokens, books))
+    }
+
+    // The books of all owners but the first.
+    fn make_all(
+        &self,
+        alloc: Global,
+        first: &mut Seat<u8, View>,
+        owners: u32,
+    ) -> Result<Vec<Book>, AllocError>
+        requires owners { 0 < owners }
+        requires first { (first.old.table_id ≡ self.now) × (first.old.me ≡ (a_book 0 [] (Some 1), [])) }
+        ensures count { IfOk result (λ books. length books.items + 1 ≡ owners) }
+        ensures first { IfOk result (λ _. (first.new.table_id ≡ self.now) × (first.new.me ≡ (a_book 0 [] (Some owners), []))) }
+        ensures books { IfOk result (λ books. (o : ℕ) (b : Account) → slice_get books.items o ≡ Some b → b ≡ fresh self.now (o + 1)) }
+    {
+        let mut books = Vec::new(alloc);
+        for owner in 1..owners {
+            books.push(self.make(first, owner))?;
+        }
+        Ok(books)
+    }
+
+    // The book of the next owner.
+    fn make(&self, first: &mut Seat<u8, View>, owner: u32) -> Book
+        requires table { first.old.table_id ≡ self.now }
+        requires first { first.old.me ≡ (a_book 0 [] (Some owner), []) }
+        ensures first { (first.new.table_id ≡ self.now) × (first.new.me ≡ (a_book 0 [] (Some (owner + 1)), [])) }
+        ensures book { result ≡ fresh self.now owner }
+    {
+        let seat = self.table.shared.split_seat::<Makes>(first);
+        Book { owner, seat }
+    }
+
+    /// A token of this name and amount, which is then out of the book. No more than 2^64 - 1 of a
+    /// name may be out.
+    pub fn issue(&self, book: &mut Book, name: u32, amount: u64) -> Token
+        requires book { book.old.table ≡ self.now }
+        requires fits { out_of name book.old.out + amount < 2 ^ 64 }
+        ensures book { book.new ≡ issued book.old name amount }
+        ensures token { result ≡ slip book.old name amount }
+    {
+        self.issue_as::<Brand, Brand>(book, name, amount)
+    }
+
+    // The call picks the name and the amount.
+    fn issue_as<N: Names, A: Amounts>(&self, book: &mut Book, name: u32, amount: u64) -> Token
+        requires book { book.old.table ≡ self.now }
+        requires fits { out_of name book.old.out + amount < 2 ^ 64 }
+        requires picked { (N.name ≡ name) × (A.amount ≡ amount) }
+        ensures book { book.new ≡ issued book.old name amount }
+        ensures token { result ≡ slip book.old name amount }
+    {
+        let owner = book.owner;
+        let seat = self.table.shared.split_seat::<Issues<N, A>>(&mut book.seat);
+        Token {
+            owner,
+            name,
+            amount,
+            seat,
+        }
+    }
+
+    /// Takes the token back. Its amount was out of its owner's book, and is so no more.
+    pub fn retire(&self, book: &mut Book, token: Token)
+        requires book { book.old.table ≡ self.now }
+        requires token { (token.table ≡ self.now) × (token.owner ≡ book.old.owner) }
+        ensures out { token.amount ≤ out_of token.name book.old.out }
+        ensures book { book.new ≡ retired book.old token }
+    {
+        let Token {
+            owner: _,
+            name: _,
+            amount: _,
+            seat,
+        } = token;
+        self.table.shared.join_seat::<TakesIn>(&mut book.seat, seat);
+        self.table.shared.load::<Settles>(&mut book.seat, 0);
+    }
+
+    /// Takes this amount off the token, and answers a token of it.
+    pub fn part(&self, token: &mut Token, amount: u64) -> Token
+        requires token { token.old.table ≡ self.now }
+        requires enough { amount ≤ token.old.amount }
+        ensures left { token.new ≡ with_amount token.old (token.old.amount - amount) }
+        ensures part { result ≡ with_amount token.old amount }
+    {
+        self.part_as::<Brand>(token, amount)
+    }
+
+    // The call picks the amount.
+    fn part_as<A: Amounts>(&self, token: &mut Token, amount: u64) -> Token
+        requires token { token.old.table ≡ self.now }
+        requires enough { amount ≤ token.old.amount }
+        requires picked { A.amount ≡ amount }
+        ensures left { token.new ≡ with_amount token.old (token.old.amount - amount) }
+        ensures part { result ≡ with_amount token.old amount }
+    {
+        let owner = token.owner;
+        let name = token.name;
+        let seat = self.table.shared.split_seat::<Parts<A>>(&mut token.seat);
+        token.amount -= amount;
+        Token {
+            owner,
+            name,
+            amount,
+            seat,
+        }
+    }
+
+    /// Adds the amount of another token of the same owner and name. The sum fits, since both are
+    /// out of one book, and no book has more of a name out than a token can have.
+    pub fn merge(&self, token: &mut Token, other: Token)
+        requires same { (token.old.table ≡ self.now) × (other.table ≡ self.now) }
+        requires alike { (other.owner ≡ token.old.owner) × (other.name ≡ token.old.name) }
+        ensures fits { token.old.amount + other.amount < 2 ^ 64 }
+        ensures sum { token.new ≡ with_amount token.old (token.old.amount + other.amount) }
+    {
+        let Token {
+            owner: _,
+            name: _,
+            amount,
+            seat,
+        } = other;
+        self.table.shared.join_seat::<Merges>(&mut token.seat, seat);
+        self.table.shared.load::<Weighs>(&mut token.seat, 0);
+        token.amount += amount;
+    }
+}

@@ -1,0 +1,176 @@
+// Wallets: the tickets of many objects.
+ghost use Rattle.std.specs.Prelude.{◌≡◌, ℕ, ◌+◌, ◌-◌, ◌<◌, ◌≤◌, ◌==◌, ◌↔◌, length, slice_get, if◌then◌else◌, IfOk, IfSome, IfNone, Some, None};
+ghost use Rattle.std.specs.Ordering.{nat_cmp};
+ghost use Rattle.std.specs.FinMap as map;
+ghost use Rattle.atomic_table.specs.Seated.{TableId};
+ghost use Rattle.token_book.specs.Account.{amount_of};
+ghost use Rattle.token_book.specs.Ticket.{entry_right, bytes_rights, IsTicket};
+ghost use Rattle.token_book.specs.Pocket.{Pocket, tickets_in, bytes_in, with_token};
+ghost use Rattle.token_book.specs.Purse.{empty_purse, left_of, bytes_of, HasPlace, HasRoom, IsOf, with_pocket, pocket_of, pulled, put_in};
+
+use crate::place::Place;
+use crate::ticket::Ticket;
+use crate::tokens::{Memory, Token, Tokens};
+use std::alloc::Global;
+use std::marker::Model;
+
+/// The tickets of many objects. It has a place for each object of which it holds some, and its places
+/// are made with it. Contracts see how many places it has, and what it holds of each object.
+#[derive(Drop)]
+pub struct Wallet {
+    most: u32,
+    places: Vec<Place>,
+}
+
+impl Model for Wallet {
+    ghost use Rattle.token_book.specs.Purse.{Purse, purse_code, purse, IsPurse};
+
+    ghost Value = { Purse };
+
+    ghost coded = { purse_code };
+
+    ghost view = { λ w. purse w.most w.places.items };
+
+    ghost invariant = { λ w. IsPurse w.most w.places };
+}
+
+// The place of an object.
+fn index_of(places: &[Place], object: u32) -> Option<usize>
+    ensures found { IfSome result (λ i. (p : Pocket) × (slice_get places.now i ≡ Some (object, p)) × (map.find nat_cmp object places.now ≡ Some p)) }
+    ensures none { IfNone result (map.find nat_cmp object places.now ≡ None) }
+{
+    for i in 0..places.len() {
+        if places[i].object() == object {
+            return Some(i);
+        }
+    }
+    None
+}
+
+impl Wallet {
+    /// An empty wallet with room for this many objects. Its only error is want of memory.
+    pub fn new(alloc: Global, places: u32) -> Result<Wallet, Memory>
+        ensures wallet { IfOk result (λ w. w ≡ empty_purse places) }
+        ensures empty { IfOk result (λ w. (o : ℕ) → (left_of w o ≡ 0) × (bytes_of w o ≡ 0)) }
+        ensures of { IfOk result (λ w. (table : TableId) → IsOf table w) }
+    {
+        Ok(Wallet {
+            most: places,
+            places: Vec::with_capacity(alloc, places as usize)?,
+        })
+    }
+
+    // The place of an object.
+    fn place(&self, object: u32) -> Option<&Place>
+        ensures found { IfSome result (λ place. map.get self.now.held object ≡ Some place.now.1) }
+        ensures none { IfNone result (map.get self.now.held object ≡ None) }
+        ensures place { HasPlace self.now object ↔ (0 < left_of self.now object + bytes_of self.now object) }
+    {
+        match index_of(&self.places, object) {
+            Some(i) => Some(&self.places[i]),
+            None => None,
+        }
+    }
+
+    /// How many tickets of the object it holds.
+    pub fn left(&self, object: u32) -> u64
+        ensures left { result ≡ left_of self.now object }
+        ensures place { HasPlace self.now object ↔ (0 < left_of self.now object + bytes_of self.now object) }
+    {
+        match self.place(object) {
+            Some(place) => place.left(),
+            None => 0,
+        }
+    }
+
+    /// How many bytes of the object it holds the right to.
+    pub fn bytes(&self, object: u32) -> u64
+        ensures bytes { result ≡ bytes_of self.now object }
+        ensures place { HasPlace self.now object ↔ (0 < left_of self.now object + bytes_of self.now object) }
+    {
+        match self.place(object) {
+            Some(place) => place.bytes(),
+            None => 0,
+        }
+    }
+
+    // Takes the place of an object out.
+    fn take(&mut self, object: u32) -> Option<Place>
+        ensures found { IfSome result (λ place. (place.0 ≡ object) × (map.get self.old.held object ≡ Some place.1)) }
+        ensures none { IfNone result (map.get self.old.held object ≡ None) }
+        ensures held { self.new.held ≡ map.remove self.old.held object }
+        ensures places { self.new.places ≡ self.old.places }
+        ensures few { map.len self.old.held ≤ self.old.places }
+    {
+        let Some(i) = index_of(&self.places, object) else {
+            return None;
+        };
+        Some(self.places.remove(i))
+    }
+
+    // Takes the place of the token's owner out, or a new one, and puts the token into it.
+    fn take_with(&mut self, tokens: &Tokens, token: Token) -> Place
+        requires of { IsOf tokens.now self.old }
+        requires token { (token.table ≡ tokens.now) × (token.name < 2) }
+        ensures place { result ≡ (token.owner, with_token token (pocket_of token.table self.old token.owner)) }
+        ensures held { self.new.held ≡ map.remove self.old.held token.owner }
+        ensures places { self.new.places ≡ self.old.places }
+        ensures few { map.len self.old.held ≤ self.old.places }
+    {
+        match self.take(token.owner()) {
+            Some(place) => place.with(tokens, token),
+            None => Place::of(token),
+        }
+    }
+
+    // Keeps a place unless it is empty.
+    fn keep(&mut self, place: Place)
+        requires new { map.get self.old.held place.0 ≡ None }
+        requires room { map.len self.old.held < self.old.places }
+        ensures { self.new ≡ with_pocket self.old place.0 place.1 }
+    {
+        if place.is_empty() {
+            return;
+        }
+        let Ok(()) = self.places.push(place) else {
+            unreachable!()
+        };
+    }
+
+    /// Takes out a ticket of the object for so many bytes. It has no bytes where it is for 0.
+    pub fn pull(&mut self, tokens: &Tokens, object: u32, bytes: u64) -> Ticket
+        requires of { IsOf tokens.now self.old }
+        requires left { 0 < left_of self.old object }
+        requires bytes { bytes ≤ bytes_of self.old object }
+        ensures wallet { self.new ≡ pulled tokens.now self.old object bytes }
+        ensures of { IsOf tokens.now self.new }
+        ensures left { (o : ℕ) → left_of self.new o ≡ (if o == object then left_of self.old object - 1 else left_of self.old o) }
+        ensures bytes { (o : ℕ) → bytes_of self.new o ≡ (if o == object then bytes_of self.old object - bytes else bytes_of self.old o) }
+        ensures entry { result.entry ≡ entry_right tokens.now object }
+        ensures rights { result.bytes ≡ bytes_rights tokens.now object bytes }
+        ensures ticket { IsTicket tokens.now object result }
+        ensures amount { amount_of result.bytes ≡ bytes }
+    {
+        let Some(place) = self.take(object) else {
+            unreachable!()
+        };
+        let (place, ticket) = place.split(tokens, bytes);
+        self.keep(place);
+        ticket
+    }
+
+    /// Puts in a token of the name 0, which is tickets of its owner, or of the name 1, which is bytes.
+    /// The owner has a place, or a place is free. A token of the amount 0 takes no place.
+    pub fn put(&mut self, tokens: &Tokens, token: Token)
+        requires of { IsOf tokens.now self.old }
+        requires token { (token.table ≡ tokens.now) × (token.name < 2) }
+        requires room { HasRoom self.old token.owner }
+        ensures wallet { self.new ≡ put_in self.old token }
+        ensures of { IsOf tokens.now self.new }
+        ensures left { (o : ℕ) → left_of self.new o ≡ (if o == token.owner then left_of self.old o + tickets_in token else left_of self.old o) }
+        ensures bytes { (o : ℕ) → bytes_of self.new o ≡ (if o == token.owner then bytes_of self.old o + bytes_in token else bytes_of self.old o) }
+    {
+        let place = self.take_with(tokens, token);
+        self.keep(place);
+    }
+}

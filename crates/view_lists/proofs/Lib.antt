@@ -1,0 +1,5 @@
+pub mod Places
+pub mod Members
+pub mod Totals
+pub mod Keys
+pub mod Distinct
