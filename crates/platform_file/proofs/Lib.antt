@@ -1,0 +1,6 @@
+pub mod Loops
+pub mod KnownKeys
+pub mod RowLoops
+pub mod NameLemmas
+pub mod Documents
+pub mod WorkedDocuments

@@ -1,0 +1,12 @@
+pub mod Code
+pub mod Place
+pub mod Reading
+pub mod Kinds
+pub mod Words
+pub mod Keys
+pub mod Tables
+pub mod Names
+pub mod NamesView
+pub mod Platform
+pub mod Document
+pub mod Worked

@@ -1,0 +1,37 @@
+//! The platform file: a TOML document that describes a platform, or its first fault.
+//!
+//! - `read_platform` reads the bytes of a file. It answers a `Platform` of `tlm_model`, or a
+//!   `PlatformFault`: a `PlatformCode` with the table and the key where it stands.
+//! - `Place` names a table of the document, and makes refusals that stand there.
+//! - Inside, `Kind` is a kind of values, `Keys` a table with its required and optional keys, and
+//!   `rows` the one loop over tables and over rows.
+//!
+//! Promises: what is read, or refused, is what `platform_of` of `specs/Platform.antt` gives of the
+//! bytes: every key, default and range, and the first fault in the order of the format. The only
+//! other answer is want of memory.
+#![tactic(auto)]
+
+mod bound;
+mod fault;
+mod initiators;
+mod keys;
+mod kinds;
+mod memories;
+mod names;
+mod place;
+mod read;
+mod reading;
+mod routers;
+mod sums;
+mod tables;
+#[cfg(test)]
+mod tests;
+mod top;
+mod windows;
+mod words;
+pub mod worked;
+
+pub use fault::{PlatformCode, PlatformFault};
+pub use place::Place;
+pub use read::read_platform;
+pub use tlm_model::{InitiatorRow, MemoryRow, Platform, RouterRow, Rows, Style, Target, WindowRow};

@@ -1,0 +1,99 @@
+// Tables of memories.
+ghost use Rattle.toml.specs.View.{table_view};
+ghost use Rattle.platform_file.specs.Reading.{Gives};
+ghost use Rattle.platform_file.specs.Tables.{memory_traits, memory_row};
+
+use crate::fault::{PlatformCode, PlatformFault};
+use crate::keys::Keys;
+use crate::kinds::{Count, Name, Number, Truth};
+use crate::place::Place;
+use crate::reading::TableKind;
+use crate::routers::{LANES, LATENCY};
+use crate::words::{MemoryModes, Word};
+use std::alloc::Global;
+use tlm_model::MemoryRow;
+use tlm_types::{MemoryTraits, ReqMode};
+use toml::Table;
+
+/// The size of a memory in bytes, at most 16 MiB.
+const SIZE: Number = Number {
+    least: 1,
+    most: 16_777_216,
+};
+
+/// The gates of a memory.
+const GATES: Count = Count {
+    least: 1,
+    most: 256,
+};
+
+/// The keys of a memory's traits.
+#[tactic(auto, unfolding(crate::specs::Tables::memory_traits))]
+fn memory_traits(keys: &Keys) -> Result<MemoryTraits, PlatformFault>
+    ensures { Gives result (memory_traits keys.now.place (table_view keys.now.table.now)) }
+{
+    let size = keys.required("size", SIZE)?;
+    let latency = keys.optional("latency", LATENCY, 0)?;
+    let readable = keys.optional("read", Truth, true)?;
+    let writable = keys.optional("write", Truth, true)?;
+    let enables = keys.optional("byte_enables", Truth, true)?;
+    let streaming = keys.optional("streaming", Truth, true)?;
+    let dmi = keys.optional("dmi", Truth, true)?;
+    let gates = keys.optional("gates", GATES, 16)?;
+    Ok(MemoryTraits {
+        size,
+        latency,
+        readable,
+        writable,
+        enables,
+        streaming,
+        dmi,
+        gates,
+    })
+}
+
+/// The tables of memories.
+#[derive(Drop)]
+pub struct Memories;
+
+impl TableKind for Memories {
+    type Row = MemoryRow;
+
+    ghost reads = { λ _. memory_row };
+
+    #[tactic(auto, unfolding(crate::specs::Tables::memory_row))]
+    fn read(&self, alloc: Global, index: usize, table: &Table) -> Result<MemoryRow, PlatformFault> {
+        let place = Place::Memory(index);
+        let keys = Keys {
+            alloc,
+            place,
+            table,
+        };
+        keys.known(&[
+            "name",
+            "size",
+            "latency",
+            "read",
+            "write",
+            "byte_enables",
+            "streaming",
+            "dmi",
+            "gates",
+            "reply",
+            "lanes",
+        ])?;
+        let name = keys.required("name", Name)?;
+        let traits = memory_traits(&keys)?;
+        let reply = keys.optional("reply", Word(MemoryModes), ReqMode::Accept)?;
+        let lanes = keys.optional("lanes", LANES, 4)?;
+        if !traits.readable && !traits.writable {
+            return Err(place.refuse(alloc, PlatformCode::NoAccess, "read"));
+        }
+        Ok(MemoryRow {
+            name,
+            traits,
+            reply,
+            lanes,
+        })
+    }
+}

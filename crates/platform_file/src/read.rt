@@ -1,0 +1,63 @@
+// The platform of some bytes.
+ghost use Rattle.toml.specs.View.{table_view};
+ghost use Rattle.platform_file.specs.Reading.{Gives};
+ghost use Rattle.platform_file.specs.Platform.{platform_of, platform_of_table, document_of};
+ghost use Rattle.platform_file.specs.Document.{GivesDocument};
+
+use crate::bound::{BoundInitiators, BoundRouters};
+use crate::fault::{PlatformCode, PlatformFault};
+use crate::names::names;
+use crate::place::Place;
+use crate::reading::rows;
+use crate::sums::check_sums;
+use crate::top::platform_keys;
+use crate::windows::RouterWindows;
+use std::alloc::{AllocError, Global};
+use tlm_model::Platform;
+use toml::Table;
+
+/// The platform of a document's table: its keys, its names, what these lead to, its windows, and the
+/// sums over its memories.
+#[tactic(auto, unfolding(crate::specs::Platform::platform_of_table))]
+fn platform(alloc: Global, table: &Table) -> Result<Platform, PlatformFault>
+    ensures { Gives result (platform_of_table (table_view table.now)) }
+{
+    let keys = platform_keys(alloc, table)?;
+    let names = names(alloc, &keys)?;
+    let kind = BoundInitiators { names: &names };
+    let initiators = rows(alloc, &kind, keys.initiators.as_slice())?;
+    let kind = BoundRouters { names: &names };
+    let routers = rows(alloc, &kind, keys.routers.as_slice())?;
+    rows(alloc, &RouterWindows, routers.as_slice())?;
+    check_sums(alloc, keys.memories.as_slice())?;
+    Ok(Platform {
+        quantum: keys.quantum,
+        initiators,
+        routers,
+        memories: keys.memories,
+    })
+}
+
+/// The document that some bytes are, if they are one.
+fn document(alloc: Global, bytes: &[u8]) -> Result<Option<Table>, AllocError>
+    ensures { GivesDocument result (document_of bytes.now) }
+{
+    match toml::table_from_slice(alloc, bytes) {
+        Ok(table) => Ok(Some(table)),
+        Err(error) if error.is_memory() => Err(AllocError),
+        Err(_) => Ok(None),
+    }
+}
+
+/// The platform that some bytes describe, with times in picoseconds and sizes in bytes, or the first
+/// fault of the bytes: `Syntax` where they are no TOML document, and then, in this order, the faults
+/// of tables and keys, of names, of targets, of windows, and of the sums over the memories. The only
+/// other error is want of memory.
+pub fn read_platform(alloc: Global, bytes: &[u8]) -> Result<Platform, PlatformFault>
+    ensures { Gives result (platform_of bytes.now) }
+{
+    match document(alloc, bytes)? {
+        Some(table) => platform(alloc, &table),
+        None => Err(Place::Top.refuse(alloc, PlatformCode::Syntax, "-")),
+    }
+}

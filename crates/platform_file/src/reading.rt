@@ -1,0 +1,82 @@
+// Rows that are read one after the other.
+ghost use Rattle.std.specs.Prelude.{◌≡◌, ℕ, length, map, Result, IfOk};
+ghost use Rattle.toml.specs.Data.{Members};
+ghost use Rattle.toml.specs.View.{table_view};
+ghost use Rattle.platform_file.specs.Reading.{Gives, Refusal, rows_from};
+
+use crate::fault::PlatformFault;
+use std::alloc::Global;
+use tlm_model::Rows;
+use toml::Table;
+
+/// A kind of rows, each made of an item and of its number. Its member `reads` says what is read of
+/// an item, or with which refusal. A test of items is a kind of rows, too: its rows are `()`.
+pub trait RowKind<I> {
+    type Row;
+
+    ghost reads: { Self → ℕ → I → Result Self.Row Refusal };
+
+    /// The row of the item with this number. Its only other error is want of memory.
+    fn read(&self, alloc: Global, index: usize, item: &I) -> Result<Self::Row, PlatformFault>
+        ensures { Gives result (reads self.now index item.now) };
+}
+
+/// The rows of some items in order, which are numbered from 0, or the first refusal.
+pub fn rows<I, K: RowKind<I>>(
+    alloc: Global,
+    kind: &K,
+    items: &[I],
+) -> Result<Rows<K::Row>, PlatformFault>
+where
+    K::Row: Drop,
+    ensures read { Gives result (rows_from (K.reads kind.now) 0 items.now) }
+    ensures count { IfOk result (λ r. length r ≡ length items.now) }
+{
+    let mut rows = Vec::new(alloc);
+    for (index, item) in items.iter().enumerate() {
+        let row = kind.read(alloc, index, item)?;
+        rows.push(row)?;
+    }
+    Ok(Rows::from_vec(rows))
+}
+
+/// A kind of rows, each made of a table of the document and of its number there.
+pub trait TableKind {
+    type Row;
+
+    ghost reads: { Self → ℕ → Members → Result Self.Row Refusal };
+
+    /// The row of the table with this number. Its only other error is want of memory.
+    fn read(&self, alloc: Global, index: usize, table: &Table) -> Result<Self::Row, PlatformFault>
+        ensures { Gives result (reads self.now index (table_view table.now)) };
+}
+
+/// The rows of tables as rows of references to tables.
+#[derive(Drop)]
+struct OfTables<'k, K> {
+    kind: &'k K,
+}
+
+impl<'a, 'k, K: TableKind> RowKind<&'a Table> for OfTables<'k, K> {
+    type Row = K::Row;
+
+    ghost reads = { λ s i t. K.reads s.kind.now i (table_view t.now) };
+
+    fn read(&self, alloc: Global, index: usize, item: &&'a Table) -> Result<K::Row, PlatformFault> {
+        self.kind.read(alloc, index, *item)
+    }
+}
+
+/// The rows of some tables in order, which are numbered from 0, or the first refusal.
+pub fn table_rows<K: TableKind>(
+    alloc: Global,
+    kind: &K,
+    tables: &[&Table],
+) -> Result<Rows<K::Row>, PlatformFault>
+where
+    K::Row: Drop,
+    ensures read { Gives result (rows_from (K.reads kind.now) 0 (map (λ t. table_view t.now) tables.now)) }
+    ensures count { IfOk result (λ r. length r ≡ length tables.now) }
+{
+    rows(alloc, &OfTables { kind }, tables)
+}
