@@ -1,0 +1,4 @@
+mod FindLemmas
+mod FaultLemmas
+mod UpLemmas
+mod Rows

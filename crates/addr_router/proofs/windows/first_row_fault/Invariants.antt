@@ -1,0 +1,6 @@
+use Rattle.std.proofs.Common.{◌≡◌, [], take, drop}
+use Rattle.addr_router.specs.Windows.{first_fault, row_fault}
+use Rattle.addr_router.proofs.windows.first_row_fault.Given as goal
+
+abbrev pub invariant-loop-row : goal.invariant-loop-row
+invariant-loop-row l = first_fault row_fault (take l.row l.rows) (drop l.row l.rows) ≡ first_fault row_fault [] l.rows

@@ -1,0 +1,138 @@
+// The windows of a router.
+ghost use Rattle.std.specs.Prelude.{◌≡◌, ◌≢◌, ◌==◌, ◌↔◌, ◌<◌, ◌^◌, [], length, vec_len, position, find, option_copied, IfOk, IfSome, IsOk};
+ghost use Rattle.std.specs.Result.{result_err};
+ghost use Rattle.addr_router.specs.Windows.{HasOneWindow, IsValid, decoded, first_fault, is_overlapping, is_within, overlap_fault, row_fault, translated_up, window_fault};
+
+use crate::window::{Window, WindowFault};
+use std::marker::Model;
+
+/// The windows of a router. Contracts see the list of their rows.
+#[derive(Drop)]
+pub struct Windows {
+    rows: Vec<Window>,
+}
+
+impl Model for Windows {
+    ghost use Rattle.std.specs.Prelude.{List};
+    ghost use Rattle.addr_router.specs.declared.window.Window.{Window};
+    ghost use Rattle.addr_router.specs.Windows.{IsValid};
+
+    ghost Value = { List Window };
+
+    ghost view = { λ w. w.rows.items };
+
+    ghost invariant = { λ w. IsValid w.rows.items };
+}
+
+impl Windows {
+    /// The windows with these rows, or their first fault. There are fewer than 2^32 rows.
+    ///
+    /// Row by row comes `Empty` where `first` is past `last`, and then `PastEnd` where `last` or
+    /// `base + (last - first)` is past 2^63 - 1; after all rows comes `Overlap`, with the least row `b`
+    /// that overlaps an earlier one and the least such row `a`. Nothing is allocated, so `Memory` never
+    /// comes.
+    pub fn new(rows: Vec<Window>) -> Result<Windows, WindowFault>
+        requires { vec_len rows < 2 ^ 32 }
+        ensures ok { IfOk result (λ windows. windows ≡ rows.items) }
+        ensures valid { IsOk result ↔ IsValid rows.items }
+        ensures fault { result_err result ≡ window_fault rows.items }
+        ensures no_memory { result ≢ Err WindowFault.Memory }
+    {
+        if let Some(fault) = fault_of(&rows) {
+            return Err(fault);
+        }
+        Ok(Windows { rows })
+    }
+
+    /// The rows, in order.
+    pub fn rows(&self) -> &[Window]
+        ensures rows { result.now ≡ self.now }
+        ensures valid { IsValid self.now }
+    {
+        self.rows.as_slice()
+    }
+
+    /// The port that an address leads to, and the address that the target there sees for it. `None`
+    /// exactly where no window has the address.
+    pub fn decode(&self, address: u64) -> Option<(u32, u64)>
+        ensures { result ≡ decoded self.now address }
+    {
+        let window = window_at(&self.rows, address)?;
+        Some((window.port, address - window.first + window.base))
+    }
+
+    /// The addresses for which the target at this port sees the range from `first` to `last`, both
+    /// included: the range is cut to the port's window and moved back. `None` exactly where the range
+    /// and the window don't meet. Just one window must have this port.
+    pub fn translate_up(&self, first: u64, last: u64, port: u32) -> Option<(u64, u64)>
+        requires { HasOneWindow self.now port }
+        ensures { result ≡ translated_up self.now first last port }
+    {
+        let window = window_of(&self.rows, port)?;
+        window.part_up(first, last)
+    }
+}
+
+fn fault_of(rows: &[Window]) -> Option<WindowFault>
+    requires { length rows.now < 2 ^ 32 }
+    ensures { result ≡ window_fault rows.now }
+{
+    first_row_fault(rows).or_else(|| first_overlap(rows))
+}
+
+// The first fault of a row by itself.
+fn first_row_fault(rows: &[Window]) -> Option<WindowFault>
+    requires { length rows.now < 2 ^ 32 }
+    ensures { result ≡ first_fault row_fault [] rows.now }
+{
+    for (row, window) in rows.iter().enumerate() {
+        if let Some(fault) = window.fault(row as u32) {
+            return Some(fault);
+        }
+    }
+    None
+}
+
+// The overlap of the first row that overlaps an earlier one.
+fn first_overlap(rows: &[Window]) -> Option<WindowFault>
+    requires { length rows.now < 2 ^ 32 }
+    ensures { result ≡ first_fault overlap_fault [] rows.now }
+{
+    for (row, window) in rows.iter().enumerate() {
+        if let Some(fault) = overlap(&rows[..row], window) {
+            return Some(fault);
+        }
+    }
+    None
+}
+
+// The overlap of a window with the first of the earlier ones that has an address of it.
+fn overlap(earlier: &[Window], window: &Window) -> Option<WindowFault>
+    requires { length earlier.now < 2 ^ 32 }
+    ensures { result ≡ overlap_fault earlier.now window.now }
+{
+    let place = first_met(earlier, window)?;
+    Some(WindowFault::Overlap {
+        a: place as u32,
+        b: earlier.len() as u32,
+    })
+}
+
+fn first_met(earlier: &[Window], window: &Window) -> Option<usize>
+    ensures place { result ≡ position (λ other. is_overlapping other window.now) earlier.now }
+    ensures below { IfSome result (λ k. k < length earlier.now) }
+{
+    earlier.iter().position(|other| other.overlaps(window))
+}
+
+fn window_at(rows: &[Window], address: u64) -> Option<&Window>
+    ensures { option_copied result ≡ find (λ w. is_within w address) rows.now }
+{
+    rows.iter().find(|window| window.contains(address))
+}
+
+fn window_of(rows: &[Window], port: u32) -> Option<&Window>
+    ensures { option_copied result ≡ find (λ w. w.port == port) rows.now }
+{
+    rows.iter().find(|window| window.port == port)
+}

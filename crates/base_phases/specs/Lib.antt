@@ -1,0 +1,4 @@
+pub mod Phases
+pub mod Sequences
+pub mod Walks
+pub mod Laws

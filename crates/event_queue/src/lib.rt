@@ -1,0 +1,16 @@
+//! A queue of events by their times, as the payload event queue of IEEE 1666-2011, clause 16.3.
+//!
+//! - `EventQueue<T>` holds items, each with a time in picoseconds. Contracts see it as its entries, in
+//!   the order in which they are given, and its room.
+//! - `Memory` is the error of `new`, which was refused memory.
+//!
+//! Promises: entries are given in the order of their times, those of equal times in the order of their
+//! notification. An entry is given as soon as its time has come, and none before. No call but `new`
+//! takes memory, and no call but `pop` lets go of an item.
+#![tactic(auto)]
+
+mod queue;
+#[cfg(test)]
+mod tests;
+
+pub use queue::{EventQueue, Memory};
