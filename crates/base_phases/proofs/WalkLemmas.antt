@@ -17,21 +17,22 @@ pub stuck : (calls : List Call) (s : LaneState) → fold after_call None calls �
 stuck [] s e = cc
 stuck (c ∷ cs) s e = stuck cs s e
 
-begins-cons : (c : Call) (cs : List Call) → count_by is_begin (c ∷ cs) ≡ cond {A = ℕ} (is_begin c) 1 0 + count_by is_begin cs
+pub begins-cons : (c : Call) (cs : List Call) → count_by is_begin (c ∷ cs) ≡ cond {A = ℕ} (is_begin c) 1 0 + count_by is_begin cs
 begins-cons c cs = sum_by-cons (λ x. cond {A = ℕ} (is_begin x) 1 0) c cs
 
 -- calls on both sides of a place begin as often as all of them
 pub begins-append : (cs ds : List Call) → count_by is_begin (cs ++ ds) ≡ count_by is_begin cs + count_by is_begin ds
 begins-append cs ds = sum_by-append (λ c. cond {A = ℕ} (is_begin c) 1 0) cs ds
 
-rest_none : (c : Call) (cs : List Call) → count_by is_begin (c ∷ cs) ≡ 0 → count_by is_begin cs ≡ 0
+-- where no call begins, none does after the first
+pub rest_none : (c : Call) (cs : List Call) → count_by is_begin (c ∷ cs) ≡ 0 → count_by is_begin cs ≡ 0
 rest_none c cs z = let e = begins-cons c cs in omega arith
 
 begun_twice : (a : TlmSync) (cs : List Call) → count_by is_begin ((BeginReq, a) ∷ cs) ≡ 0 → ⊥
 begun_twice a cs z = let e = begins-cons (BeginReq, a) cs in omega arith
 
 -- on a free lane nothing but a BEGIN_REQ is allowed
-free : (calls : List Call) (s : LaneState) → fold after_call (Some Free) calls ≡ Some s → count_by is_begin calls ≡ 0 → [] ≡ calls
+pub free : (calls : List Call) (s : LaneState) → fold after_call (Some Free) calls ≡ Some s → count_by is_begin calls ≡ 0 → [] ≡ calls
 free [] s e z = refl
 free ((BeginReq, a) ∷ cs) s e z = absurd (begun_twice a cs z)
 free ((EndReq, a) ∷ cs) s e z = absurd (stuck cs s e)
@@ -69,7 +70,8 @@ requested ((BeginResp, Updated EndResp) ∷ cs) s e z = subst (λ (t : List Call
 requested ((BeginResp, Completed) ∷ cs) s e z = subst (λ (t : List Call). IsBegun ((BeginReq, Accepted) ∷ (BeginResp, Completed) ∷ t)) (free cs s e (rest_none (BeginResp, Completed) cs z)) (10, [], refl)
 requested (c ∷ cs) s e z = absurd (stuck cs s e)
 
-one_gone : (a : TlmSync) (cs : List Call) → count_by is_begin ((BeginReq, a) ∷ cs) ≤ 1 → count_by is_begin cs ≡ 0
+-- none after the first begins again
+pub one_gone : (a : TlmSync) (cs : List Call) → count_by is_begin ((BeginReq, a) ∷ cs) ≤ 1 → count_by is_begin cs ≡ 0
 one_gone a cs z = let e = begins-cons (BeginReq, a) cs in omega arith
 
 -- a walk with one BEGIN_REQ at most is a prefix of a sequence

@@ -1,0 +1,35 @@
+// The board that threads share.
+ghost use Rattle.std.specs.Prelude.{◌≡◌, IfOk};
+ghost use Rattle.time_board.specs.Rounds.{IsAnswer};
+
+use crate::rounds::{Advance, Memory, Rounds};
+use std::alloc::Global;
+use std::sync::{Mutex, Wait};
+
+/// Rounds under a lock. Its calls may wait for the lock, and for nothing else.
+#[derive(Drop)]
+pub struct Board {
+    lock: Mutex<Rounds>,
+}
+
+impl Board {
+    /// A board of so many members in round 0. Its only error is want of memory.
+    pub fn new(alloc: Global, members: u32) -> Result<Board, Memory> {
+        let rounds = Rounds::new(alloc, members)?;
+        Ok(Board {
+            lock: Mutex::new(rounds),
+        })
+    }
+
+    /// What `Rounds::advance` answers at some moment during this call.
+    pub fn advance<R: Wait>(&self, rt: &R, who: u32) -> Advance
+        ensures { IsAnswer who result }
+    {
+        self.lock.lock(rt).advance(who)
+    }
+
+    /// What `Rounds::finish` does.
+    pub fn finish<R: Wait>(&self, rt: &R, who: u32) {
+        self.lock.lock(rt).finish(who);
+    }
+}
