@@ -3,13 +3,13 @@
 
 all: tlmrun
 
-tlmrun: crates.txt $(wildcard crates/*/src/*.rt crates/*/specs/*.antt crates/*/proofs/*.antt)
-	@echo "The first build proves every crate: that took some 5 minutes on four processors last time."
-	cd crates/tlmrun && rt run -- script data/a.txt >/dev/null
-	cp crates/tlmrun/out/tlmrun tlmrun
+tlmrun: crates.txt $(shell find crates -name '*.rt' -o -name '*.antt')
+	@echo "The first build proves every part of the program, which takes minutes; build.log tells how far it is."
+	@cd crates/tlmrun && rt run -- script data/a.txt >../../build.log 2>&1 || { cat ../../build.log; exit 1; }
+	@cp crates/tlmrun/out/tlmrun tlmrun
 
 test:
 	rt ci
 
 clean:
-	rm -rf crates/*/out tlmrun
+	rm -rf crates/*/out tlmrun build.log
