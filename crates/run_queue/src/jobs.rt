@@ -1,0 +1,235 @@
+// The jobs.
+ghost use Rattle.std.specs.Prelude.{◌≡◌, ◌<◌, ◌≤◌, ◌↔◌, [], length, map, count_by, IfOk, IfSome, IsTrue, vec_len, vec_capacity};
+ghost use Rattle.std.specs.List.{range_with_len};
+ghost use Rattle.std.specs.VecDeque.{deque_capacity};
+ghost use Rattle.run_queue.specs.Queue.{job_of, IsOut, finished_count, AreNumbered, IsLine, IfTook, UnlessTook, Takes, given_back, ended, Gathers};
+ghost use Rattle.run_queue.specs.Sound.{ArePlaced};
+
+use std::alloc::{AllocError, AllocFailed, Global};
+use std::collections::VecDeque;
+use std::marker::Model;
+use std::mem;
+use thiserror::Error;
+
+/// Memory was refused.
+#[derive(Clone, Copy, Debug, PartialEq, Eq, Error)]
+#[error("out of memory")]
+pub struct Memory;
+
+impl From<AllocError> for Memory {
+    fn from(_: AllocError) -> Memory {
+        Memory
+    }
+}
+
+impl<T: Drop> From<AllocFailed<T>> for Memory {
+    fn from(_: AllocFailed<T>) -> Memory {
+        Memory
+    }
+}
+
+/// What is given turns.
+pub trait Job: Drop {
+    ghost use Rattle.std.specs.Prelude.{ℕ, Bool};
+
+    /// Its number.
+    ghost number_of: { Self → ℕ };
+
+    /// Whether it needs no more turns.
+    ghost is_done: { Self → Bool };
+
+    /// Its number, from 0.
+    fn number(&self) -> u32
+        ensures { result ≡ number_of self.now };
+
+    /// Whether it needs no more turns.
+    fn done(&self) -> bool
+        ensures { result ≡ is_done self.now };
+}
+
+/// Where the job of a number is: it waits, is out with a worker, or has finished.
+#[derive(Drop)]
+pub enum Place<J> {
+    Waiting(J),
+    Out,
+    Finished(J),
+}
+
+impl<J> Place<J> {
+    fn into_job(self) -> Option<J>
+        ensures { result ≡ job_of self }
+    {
+        match self {
+            Place::Waiting(job) => Some(job),
+            Place::Out => None,
+            Place::Finished(job) => Some(job),
+        }
+    }
+}
+
+/// What `take` answers: a job, that none waits, or that enough jobs have finished.
+#[derive(Drop)]
+pub enum Taken<J> {
+    Took(J),
+    Nothing,
+    AllDone,
+}
+
+/// Jobs, each at the place of its number.
+#[derive(Drop)]
+pub struct Jobs<J: Job> {
+    places: Vec<Place<J>>,
+    order: VecDeque<usize>,
+    finished: usize,
+    unfinished: u32,
+    room: Vec<J>,
+}
+
+impl<J: Job> Model for Jobs<J> {
+    ghost use Rattle.std.specs.Prelude.{◌≡◌, ◌≤◌, [], length, vec_capacity};
+    ghost use Rattle.std.specs.VecDeque.{deque_capacity};
+    ghost use Rattle.run_queue.specs.Queue.{Queue, finished_count};
+    ghost use Rattle.run_queue.specs.Sound.{IsSound};
+
+    ghost Value = { Queue J };
+
+    ghost view = { λ q. record { places = q.places.items; order = q.order.items; unfinished = q.unfinished } };
+
+    ghost invariant = { λ q. IsSound J.number_of J.is_done q.places.items q.order.items × (q.finished ≡ finished_count q.places.items) × (length q.places.items ≤ deque_capacity q.order) × (q.room.items ≡ []) × (length q.places.items ≤ vec_capacity q.room) };
+}
+
+fn make_order(alloc: Global, count: usize) -> Result<VecDeque<usize>, Memory>
+    ensures order { IfOk result (λ q. q.items ≡ range_with_len 0 count) }
+    ensures room { IfOk result (λ q. count ≤ deque_capacity q) }
+{
+    let mut order = VecDeque::with_capacity(alloc, count)?;
+    for number in 0..count {
+        order.push_back(number)?;
+    }
+    Ok(order)
+}
+
+fn make_places<J: Drop>(alloc: Global, jobs: Vec<J>) -> Result<Vec<Place<J>>, AllocError>
+    ensures { IfOk result (λ v. v.items ≡ map Place.Waiting jobs.items) }
+{
+    jobs.into_iter()
+        .map(|job| Place::Waiting(job))
+        .collect(alloc)
+}
+
+fn is_out<J>(places: &[Place<J>], number: usize) -> bool
+    ensures { IsTrue result ↔ IsOut places.now number }
+{
+    matches!(places.get(number), Some(Place::Out))
+}
+
+// All jobs, where none is out.
+fn gather<J: Job>(places: Vec<Place<J>>, mut room: Vec<J>) -> Option<Vec<J>>
+    requires placed { ArePlaced J.number_of J.is_done places.items }
+    requires empty { room.items ≡ [] }
+    requires fits { length places.items ≤ vec_capacity room }
+    ensures { IfSome result (λ v. Gathers J.number_of J.is_done places.items v.items) }
+{
+    for place in places {
+        let job = place.into_job()?;
+        room.push_reserved(job);
+    }
+    Some(room)
+}
+
+impl<J: Job> Jobs<J> {
+    /// Jobs that all wait, in order, of which so many have to finish. Its only error is want of memory.
+    pub fn new(alloc: Global, jobs: Vec<J>, unfinished: u32) -> Result<Jobs<J>, Memory>
+        requires { AreNumbered J.number_of jobs.items }
+        ensures { IfOk result (λ q. q ≡ record {
+          places = map Place.Waiting jobs.items;
+          order = range_with_len 0 (length jobs.items);
+          unfinished = unfinished;
+        }) }
+    {
+        let count = jobs.len();
+        let room = Vec::with_capacity(alloc, count)?;
+        let order = make_order(alloc, count)?;
+        let places = make_places(alloc, jobs)?;
+        Ok(Jobs {
+            places,
+            order,
+            finished: 0,
+            unfinished,
+            room,
+        })
+    }
+
+    /// Takes out the job that has waited longest.
+    pub fn take(&mut self) -> Taken<J>
+        ensures took { IfTook result (λ job. Takes J.number_of self.old self.new job) }
+        ensures unchanged { UnlessTook result (self.new ≡ self.old) }
+
+        // Each of the other two answers comes exactly where it is true.
+        ensures all_done { (result ≡ Taken.AllDone)
+            ↔ (self.old.unfinished ≤ finished_count self.old.places) }
+        ensures nothing { (result ≡ Taken.Nothing)
+            ↔ ((self.old.order ≡ []) × (finished_count self.old.places < self.old.unfinished)) }
+
+        // The numbers that wait stand in the order once each, and no others do.
+        ensures line { IsLine self.old }
+    {
+        if self.unfinished as usize <= self.finished {
+            return Taken::AllDone;
+        }
+        let Some(number) = self.order.pop_front() else {
+            return Taken::Nothing;
+        };
+        let Place::Waiting(job) = mem::replace(&mut self.places[number], Place::Out) else {
+            unreachable!()
+        };
+        Taken::Took(job)
+    }
+
+    /// The job waits again, behind all that wait. A job whose number isn't out is dropped.
+    pub fn give_back(&mut self, job: J)
+        ensures back { IsOut self.old.places (J.number_of job)
+            → self.new ≡ given_back self.old (J.number_of job) job }
+        ensures dropped { ¬ (IsOut self.old.places (J.number_of job)) → self.new ≡ self.old }
+    {
+        let number = job.number() as usize;
+        if is_out(&self.places, number) {
+            self.places[number] = Place::Waiting(job);
+            self.order.push_back_reserved(number);
+        }
+    }
+
+    /// The job, which is done, has finished. A job whose number isn't out is dropped.
+    pub fn finish(&mut self, job: J)
+        requires { IsTrue (J.is_done job) }
+        ensures finished { IsOut self.old.places (J.number_of job)
+            → self.new ≡ ended self.old (J.number_of job) job }
+        ensures dropped { ¬ (IsOut self.old.places (J.number_of job)) → self.new ≡ self.old }
+    {
+        let number = job.number() as usize;
+        if is_out(&self.places, number) {
+            self.places[number] = Place::Finished(job);
+            self.finished += 1;
+        }
+    }
+
+    // Each job, in the order of their numbers, where there are so many, none is out, and so many have
+    // finished.
+    pub(crate) fn into_jobs(self, count: usize, unfinished: u32) -> Option<Vec<J>>
+        ensures numbered { IfSome result (λ v. AreNumbered J.number_of v.items) }
+        ensures all { IfSome result (λ v. vec_len v ≡ count) }
+        ensures enough { IfSome result (λ v. unfinished ≤ count_by J.is_done v.items) }
+    {
+        let Jobs {
+            places,
+            order: _,
+            finished,
+            unfinished: _,
+            room,
+        } = self;
+        if places.len() != count || finished < unfinished as usize {
+            return None;
+        }
+        gather(places, room)
+    }
+}

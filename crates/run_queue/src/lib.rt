@@ -1,0 +1,20 @@
+//! A queue of jobs that workers take, give a turn, and give back, until enough of them have finished.
+//!
+//! - A `Job` has a number and tells whether it is done.
+//! - `Jobs<J>` has each job at a `Place`: it waits, is out with a worker, or has finished. Contracts see
+//!   the places by number, the order of the numbers that wait, and how many jobs have to finish.
+//! - `RunQueue<J>` is the same for threads, under a lock.
+//! - `Memory` is the error of the two calls named `new`, which were refused memory.
+//!
+//! Promises: the jobs that wait are taken first in, first out. A job is out at most once, and a job
+//! that is handed in while its number isn't out is dropped. In the end each job comes back once, and
+//! those that finished are done. No call but `new` takes memory.
+#![tactic(auto)]
+
+mod jobs;
+mod queue;
+#[cfg(test)]
+mod tests;
+
+pub use jobs::{Job, Jobs, Memory, Place, Taken};
+pub use queue::RunQueue;
