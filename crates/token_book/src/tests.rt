@@ -83,7 +83,11 @@ fn tickets_are_pulled_and_retired(rt: HostRuntime) -> Result<(), Fail> {
     let ticket = wallet.pull(&tokens, 1, 0);
     assert!(rt; ticket.bytes.is_none() && ticket.entry.owner() == 1 && ticket.entry.name() == 0);
     retire(&tokens, &mut second, ticket);
-    assert!(rt; wallet.left(1) == 0);
+    assert!(rt; wallet.left(0) == 1 && wallet.left(1) == 0);
+    let ticket = wallet.pull(&tokens, 0, 2);
+    assert!(rt; ticket.bytes.as_ref().map_or(0, |b| b.amount()) == 2);
+    retire(&tokens, &mut first, ticket);
+    assert!(rt; wallet.left(0) == 0 && wallet.left(1) == 0 && wallet.bytes(0) == 0);
     Ok(())
 }
 
