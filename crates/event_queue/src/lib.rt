@@ -2,7 +2,7 @@
 //!
 //! - `EventQueue<T>` holds items, each with a time in picoseconds. Contracts see it as its entries, in
 //!   the order in which they are given, and its room.
-//! - `Memory` is the error of `new`, which was refused memory.
+//! - `tlm_types::Memory` is the error of `new`, which was refused memory.
 //!
 //! Promises: entries are given in the order of their times, those of equal times in the order of their
 //! notification. An entry is given as soon as its time has come, and none before. No call but `new`
@@ -13,4 +13,4 @@ mod queue;
 #[cfg(test)]
 mod tests;
 
-pub use queue::{EventQueue, Memory};
+pub use queue::EventQueue;

@@ -2,20 +2,9 @@
 ghost use Rattle.std.specs.Prelude.{◌≡◌, ◌<◌, ◌≤◌, ◌↔◌, ◌++◌, [], ◌∷◌, length, All, IsNone, IfNone, IfSome, IfOk, IsTrue};
 ghost use Rattle.event_queue.specs.EventQueue.{place_of, notified, first_time};
 
-use std::alloc::{AllocError, Global};
+use std::alloc::Global;
 use std::marker::Model;
-use thiserror::Error;
-
-/// Memory was refused.
-#[derive(Clone, Copy, Debug, PartialEq, Eq, Error)]
-#[error("out of memory")]
-pub struct Memory;
-
-impl From<AllocError> for Memory {
-    fn from(_: AllocError) -> Memory {
-        Memory
-    }
-}
+use tlm_types::Memory;
 
 /// Items that wait for their times, which are picoseconds.
 #[derive(Drop)]

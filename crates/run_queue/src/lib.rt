@@ -4,7 +4,7 @@
 //! - `Jobs<J>` has each job at a `Place`: it waits, is out with a worker, or has finished. Contracts see
 //!   the places by number, the order of the numbers that wait, and how many jobs have to finish.
 //! - `RunQueue<J>` is the same for threads, under a lock.
-//! - `Memory` is the error of the two calls named `new`, which were refused memory.
+//! - `tlm_types::Memory` is the error of the two calls named `new`, which were refused memory.
 //!
 //! Promises: the jobs that wait are taken first in, first out. A job is out at most once, and a job
 //! that is handed in while its number isn't out is dropped. In the end each job comes back once, and
@@ -16,5 +16,5 @@ mod queue;
 #[cfg(test)]
 mod tests;
 
-pub use jobs::{Job, Jobs, Memory, Place, Taken};
+pub use jobs::{Job, Jobs, Place, Taken};
 pub use queue::RunQueue;

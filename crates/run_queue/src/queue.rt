@@ -2,10 +2,11 @@
 ghost use Rattle.std.specs.Prelude.{◌≡◌, ◌≤◌, count_by, IfOk, IsTrue, vec_len};
 ghost use Rattle.run_queue.specs.Queue.{AreNumbered};
 
-use crate::jobs::{Job, Jobs, Memory, Taken};
+use crate::jobs::{Job, Jobs, Taken};
 use std::alloc::Global;
 use std::marker::Model;
 use std::sync::{Mutex, Wait};
+use tlm_types::Memory;
 
 /// Jobs under a lock. Contracts see how many there are, and how many of them have to finish.
 #[derive(Drop)]

@@ -1,12 +1,13 @@
 ghost use Rattle.std.specs.Prelude.{◌==◌, IfOk};
 ghost use Rattle.run_queue.specs.Queue.{AreNumbered};
 
-use crate::{Job, Jobs, Memory, RunQueue, Taken};
+use crate::{Job, Jobs, RunQueue, Taken};
 use std::alloc::Global;
 use std::process::Abort;
 use std::sync::Wait;
 use std::test::Fail;
 use std::thread;
+use tlm_types::Memory;
 
 // A job that is done after so many turns.
 #[derive(Drop)]

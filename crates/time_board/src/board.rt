@@ -2,9 +2,10 @@
 ghost use Rattle.std.specs.Prelude.{◌≡◌, IfOk};
 ghost use Rattle.time_board.specs.Rounds.{IsAnswer};
 
-use crate::rounds::{Advance, Memory, Rounds};
+use crate::rounds::{Advance, Rounds};
 use std::alloc::Global;
 use std::sync::{Mutex, Wait};
+use tlm_types::Memory;
 
 /// Rounds under a lock. Its calls may wait for the lock, and for nothing else.
 #[derive(Drop)]

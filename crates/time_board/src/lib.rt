@@ -4,7 +4,7 @@
 //! - `Rounds` has a member for each number below a fixed one. A member goes on to the next round, or is
 //!   told who is behind, or finishes. Contracts see it as the list of its members.
 //! - `Board` is the same for threads, under a lock.
-//! - `Memory` is the error of the two calls named `new`, which were refused memory.
+//! - `tlm_types::Memory` is the error of the two calls named `new`, which were refused memory.
 //!
 //! Promises: a member goes on exactly where no unfinished member is in a lower round, so that the
 //! rounds of unfinished members differ by at most one. Who is held back is told the least member that
@@ -18,4 +18,4 @@ mod tally;
 mod tests;
 
 pub use board::Board;
-pub use rounds::{Advance, Member, Memory, Rounds};
+pub use rounds::{Advance, Member, Rounds};

@@ -3,26 +3,9 @@ ghost use Rattle.std.specs.Prelude.{◌≡◌, ◌+◌, ◌^◌, ◌<◌, ◌≤
 ghost use Rattle.time_board.specs.Rounds.{new_member, member_of, first_behind, answer_at, answer_of, members_after, members_finished, AreClose};
 
 use crate::tally::Tally;
-use std::alloc::{AllocError, AllocFailed, Global};
+use std::alloc::Global;
 use std::marker::Model;
-use thiserror::Error;
-
-/// Memory was refused.
-#[derive(Clone, Copy, Debug, PartialEq, Eq, Error)]
-#[error("out of memory")]
-pub struct Memory;
-
-impl From<AllocError> for Memory {
-    fn from(_: AllocError) -> Memory {
-        Memory
-    }
-}
-
-impl<T: Drop> From<AllocFailed<T>> for Memory {
-    fn from(_: AllocFailed<T>) -> Memory {
-        Memory
-    }
-}
+use tlm_types::Memory;
 
 /// A member: in which round it is, from 0, and whether it has finished.
 #[derive(Clone, Copy, Debug, PartialEq, Eq)]

@@ -20,5 +20,5 @@ mod view;
 mod wallet;
 
 pub use ticket::Ticket;
-pub use tokens::{Book, Memory, Token, Tokens};
+pub use tokens::{Book, Token, Tokens};
 pub use wallet::Wallet;

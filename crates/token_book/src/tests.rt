@@ -4,10 +4,11 @@ ghost use Rattle.token_book.specs.Account.{out_of, fresh, issued, slip, with_amo
 ghost use Rattle.token_book.specs.Ticket.{IsTicket};
 ghost use Rattle.token_book.specs.Purse.{HasPlace, HasRoom, IsOf, left_of, bytes_of};
 
-use crate::{Book, Memory, Ticket, Token, Tokens, Wallet};
+use crate::{Book, Ticket, Token, Tokens, Wallet};
 use std::alloc::Global;
 use std::test::Fail;
 use std::thread::{Threads, join};
+use tlm_types::Memory;
 
 // The tokens of two owners, with their books.
 fn two_owners(alloc: Global) -> Result<(Tokens, Book, Book), Memory>

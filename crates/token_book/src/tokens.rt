@@ -7,35 +7,9 @@ use crate::view::{
     Amounts, Counted, Issues, Makes, Merges, Names, Parts, Settles, TakesIn, View, Weighs,
 };
 use atomic_table::{Seat, Table};
-use std::alloc::{AllocError, AllocFailed, Global};
-use std::fmt;
+use std::alloc::{AllocError, Global};
 use std::marker::{Brand, Model};
-
-/// Memory was refused.
-#[derive(Clone, Copy, Debug, PartialEq, Eq)]
-pub struct Memory;
-
-impl fmt::Display for Memory {
-    ghost output = { λ _. Some (codes "out of memory") };
-
-    fn fmt<W: fmt::Write>(&self, f: &mut fmt::Formatter<W>) -> fmt::Result {
-        write!(f, "out of memory")
-    }
-}
-
-impl std::error::Error for Memory {}
-
-impl From<AllocError> for Memory {
-    fn from(_: AllocError) -> Memory {
-        Memory
-    }
-}
-
-impl<T: Drop> From<AllocFailed<T>> for Memory {
-    fn from(_: AllocFailed<T>) -> Memory {
-        Memory
-    }
-}
+use tlm_types::Memory;
 
 /// What all books and tokens of one making share. Contracts see which table it is.
 #[derive(Drop)]

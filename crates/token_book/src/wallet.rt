@@ -10,9 +10,10 @@ ghost use Rattle.token_book.specs.Purse.{empty_purse, left_of, bytes_of, HasPlac
 
 use crate::place::Place;
 use crate::ticket::Ticket;
-use crate::tokens::{Memory, Token, Tokens};
+use crate::tokens::{Token, Tokens};
 use std::alloc::Global;
 use std::marker::Model;
+use tlm_types::Memory;
 
 /// The tickets of many objects. It has a place for each object of which it holds some, and its places
 /// are made with it. Contracts see how many places it has, and what it holds of each object.
