@@ -1,0 +1,16 @@
+use Rattle.std.proofs.Common.{◌≡◌, ◌≤◌, ◌+◌, ℕ, length, sym, ap, ◌∙◌, arith}
+use Rattle.one_history.specs.Rule.{plain}
+use Rattle.one_history.proofs.Keeps.{joins}
+use Rattle.one_history.proofs.history.History.take_seat.Goals as goal
+
+pub join_seat-requires : goal.join_seat-requires
+join_seat-requires g c =
+    let v = sym (ap (λ h. h.table) c.self.view_is) in
+    let n = c.into_seat-other.ensures.seat in
+    let some = c.requires.master.1 in (
+      c.requires.master.0 ∙ v,
+      n.0 ∙ c.requires.seat ∙ v,
+      ap (λ m. m.1) n.1,
+      omega (arith, c.self.invariant.0),
+      joins g.W.Law.backs (plain c.self.inside.table.shared.key) _ _ c.args.master.now.me.0 _ (omega arith),
+    )

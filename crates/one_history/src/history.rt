@@ -1,0 +1,197 @@
+// The history, and the steps on it.
+ghost use Rattle.std.specs.Prelude.{◌≡◌, ℕ, ◌+◌, ◌<◌, ◌≤◌, [], ◌∷◌, ◌++◌, length, slice_index_or, sum, Some, IfOk};
+ghost use Rattle.one_history.specs.Rule.{plain};
+ghost use Rattle.one_history.specs.Moves.{IsFrame, counting, one_more, blank_seat, number_of, own_of, entry, drawn, copied, one_gone, one_less, parted, joined};
+
+use crate::entry::Sign;
+use crate::law::{Drawn, Law, Looked};
+use crate::seats::{Note, ObjectSeat};
+use crate::steps::{Copies, Draws, Joins, Makes, Parts, Signed};
+use crate::view::{Key, Rule, View};
+use atomic_table::{Seat, Table};
+use std::alloc::{AllocError, Global};
+use std::marker::{Brand, Model, PhantomData};
+use std::snapshot::Snapshot;
+use tlm_types::Memory;
+
+/// A history of entries with the content E, in a world G, under a law W. Contracts see which table it
+/// is, and what `new` was given.
+#[derive(Drop)]
+pub struct History<E, G, W: Law<E, G>> {
+    pub(crate) table: Table<u8, View<E, G>, Key<G>, Rule<E, G, W>, Global>,
+}
+
+impl<E, G, W: Law<E, G>> Model for History<E, G, W> {
+    ghost use Rattle.std.specs.Prelude.{◌≡◌, ◌<◌, ◌≤◌, sum, length};
+    ghost use Rattle.one_history.specs.Rule.{plain};
+    ghost use Rattle.one_history.specs.Held.{Opened};
+
+    ghost Value = { Opened G };
+
+    ghost view = { λ h. record { table = h.table.shared.table_id; frame = plain h.table.shared.key } };
+
+    ghost invariant = { λ h. (h.table.shared.table_id.words ≡ 1) × (sum h.table.shared.key.planned.items ≤ 1000000) × (0 < length h.table.shared.key.planned.items) };
+}
+
+// The facts that the table keeps.
+fn key_of<G>(
+    alloc: Global,
+    world: &G,
+    planned: &[u64],
+    gates: &[u32],
+    notes: u32,
+) -> Result<Key<G>, AllocError>
+    ensures { IfOk result (λ k. IsFrame (plain k) world.now planned.now gates.now notes) }
+{
+    let mut kept_planned = Vec::new(alloc);
+    kept_planned.extend_from_slice(planned)?;
+    let mut kept_gates = Vec::new(alloc);
+    kept_gates.extend_from_slice(gates)?;
+    Ok(Key {
+        world: Snapshot::of(world),
+        planned: kept_planned,
+        gates: kept_gates,
+        notes,
+    })
+}
+
+impl<E, G, W: Law<E, G>> History<E, G, W> {
+    ghost use Rattle.one_history.specs.Seats.{AreFresh};
+
+    /// An empty history in this world, with a seat for each object, in order, and a note that stands
+    /// for so many notes. `planned` gives the most entries of each object, 1,000,000 in all at most,
+    /// and `gates` how many gates it has. Its only error is want of memory.
+    pub fn new(
+        alloc: Global,
+        world: &G,
+        planned: &[u64],
+        gates: &[u32],
+        notes: u32,
+    ) -> Result<(History<E, G, W>, Vec<ObjectSeat<E, G, W>>, Note<E, G, W>), Memory>
+        requires lists { (length gates.now ≡ length planned.now) × (0 < length planned.now) }
+        requires few { sum planned.now ≤ 1000000 }
+        requires notes { 0 < notes }
+        ensures frame { IfOk result (λ r. IsFrame r.0.frame world.now planned.now gates.now notes) }
+        ensures seats { IfOk result (λ r. (length r.1.items ≡ length planned.now) × AreFresh r.0.table r.0.frame r.1.items) }
+        ensures note { IfOk result (λ r. (r.2.table ≡ r.0.table) × (r.2.knows ≡ counting r.0.frame (length planned.now))) }
+    {
+        let key = key_of(alloc, world, planned, gates, notes)?;
+        let (table, seat) = Table::of_words(alloc, &[0], &key)?;
+        let history = History { table };
+        let mut note = Note {
+            seat,
+            of: PhantomData,
+        };
+        let seats = history.make_all(alloc, &mut note, planned.len())?;
+        Ok((history, seats, note))
+    }
+
+    // The seats of all objects.
+    fn make_all(
+        &self,
+        alloc: Global,
+        note: &mut Note<E, G, W>,
+        count: usize,
+    ) -> Result<Vec<ObjectSeat<E, G, W>>, AllocError>
+        requires note { (note.old.table ≡ self.now.table) × (note.old.knows ≡ counting self.now.frame 0) }
+        requires some { 0 < self.now.frame.notes }
+        ensures note { IfOk result (λ r. (note.new.table ≡ self.now.table) × (note.new.knows ≡ counting self.now.frame count)) }
+        ensures seats { IfOk result (λ r. (length r.items ≡ count) × AreFresh self.now.table self.now.frame r.items) }
+    {
+        let mut seats = Vec::new(alloc);
+        for _i in 0..count {
+            seats.push(self.make(note))?;
+        }
+        Ok(seats)
+    }
+
+    // The seat of the next object.
+    fn make(&self, note: &mut Note<E, G, W>) -> ObjectSeat<E, G, W>
+        requires note { note.old.table ≡ self.now.table }
+        requires counts { (n : ℕ) × (note.old.knows.counts ≡ Some n) }
+        requires notes { 1 ≤ note.old.knows.notes }
+        ensures note { (note.new.table ≡ note.old.table) × (note.new.knows ≡ one_more note.old.knows) }
+        ensures seat { (result.table ≡ note.old.table) × (result.knows ≡ blank_seat note.old.knows) }
+    {
+        let seat = self.table.shared.split_seat::<Makes>(&mut note.seat);
+        ObjectSeat {
+            seat,
+            of: PhantomData,
+        }
+    }
+
+    // The call picks the sign.
+    fn draw_as<D: Drawn<E>, B: Signed>(&self, seat: &mut Seat<u8, View<E, G>>, _sign: Sign) -> u64
+        requires seat { (seat.old.table_id ≡ self.now.table) × (length seat.old.me.0.objects ≡ 1) }
+        requires planned { length (own_of seat.old.me.0) < slice_index_or self.now.frame.planned (number_of seat.old.me.0) 0 }
+        requires backed { (p : ℕ) → seat.old.me.0.seen ≤ p → W.backs self.now.frame.world seat.old.me.0.known (entry p (number_of seat.old.me.0) B.sign D.content) }
+        ensures same { (seat.new.table_id ≡ seat.old.table_id) × (seat.new.me.1 ≡ seat.old.me.1) }
+        ensures after { seat.old.me.0.seen ≤ result }
+        ensures below { result < 1000000 }
+        ensures drawn { seat.new.me.0 ≡ drawn seat.old.me.0 (entry result (number_of seat.old.me.0) B.sign D.content) }
+    {
+        self.table.shared.fetch_add::<Draws<D, B>>(seat, 0, 1)
+    }
+
+    /// Adds an entry of the seat's object, with this sign and the content of D, and answers its
+    /// position: the length that the history had, which is no less than what the seat had seen. The
+    /// seat has fewer entries than planned, and what it knows backs the entry.
+    pub fn draw<D: Drawn<E>>(&self, seat: &mut ObjectSeat<E, G, W>, sign: Sign) -> u64
+        requires seat { seat.old.table ≡ self.now.table }
+        requires planned { length (own_of seat.old.knows) < slice_index_or self.now.frame.planned (number_of seat.old.knows) 0 }
+        requires backed { (p : ℕ) → seat.old.knows.seen ≤ p → W.backs self.now.frame.world seat.old.knows.known (entry p (number_of seat.old.knows) sign D.content) }
+        ensures table { seat.new.table ≡ seat.old.table }
+        ensures after { seat.old.knows.seen ≤ result }
+        ensures below { result < 1000000 }
+        ensures drawn { seat.new.knows ≡ drawn seat.old.knows (entry result (number_of seat.old.knows) sign D.content) }
+        ensures number { number_of seat.new.knows ≡ number_of seat.old.knows }
+        ensures own { own_of seat.new.knows ≡ own_of seat.old.knows ++ entry result (number_of seat.old.knows) sign D.content ∷ [] }
+    {
+        self.draw_as::<D, Brand>(&mut seat.seat, sign)
+    }
+
+    /// A note that has seen what the seat has seen and stands for one of its notes. The seat's looks go
+    /// to it, with one more: the seat's object and the number of D.
+    pub fn copy<D: Looked>(&self, seat: &mut ObjectSeat<E, G, W>) -> Note<E, G, W>
+        requires seat { seat.old.table ≡ self.now.table }
+        requires notes { 1 ≤ seat.old.knows.notes }
+        ensures table { (seat.new.table ≡ self.now.table) × (result.table ≡ self.now.table) }
+        ensures seat { seat.new.knows ≡ one_gone seat.old.knows }
+        ensures note { result.knows ≡ copied D.number seat.old.knows }
+    {
+        let other = self.table.shared.split_seat::<Copies<D>>(&mut seat.seat);
+        Note {
+            seat: other,
+            of: PhantomData,
+        }
+    }
+
+    /// A second note that has seen what the first has seen and stands for one of its notes. It has no
+    /// looks.
+    pub fn split(&self, note: &mut Note<E, G, W>) -> Note<E, G, W>
+        requires note { note.old.table ≡ self.now.table }
+        requires notes { 2 ≤ note.old.knows.notes }
+        ensures table { (note.new.table ≡ self.now.table) × (result.table ≡ self.now.table) }
+        ensures left { note.new.knows ≡ one_less note.old.knows }
+        ensures part { result.knows ≡ parted note.old.knows }
+    {
+        let other = self.table.shared.split_seat::<Parts>(&mut note.seat);
+        Note {
+            seat: other,
+            of: PhantomData,
+        }
+    }
+
+    /// Afterwards the seat has seen what both had seen. It has the notes and the looks of both.
+    pub fn join(&self, seat: &mut ObjectSeat<E, G, W>, note: Note<E, G, W>)
+        requires seat { seat.old.table ≡ self.now.table }
+        requires note { note.table ≡ self.now.table }
+        ensures table { seat.new.table ≡ seat.old.table }
+        ensures joined { seat.new.knows ≡ joined seat.old.knows note.knows }
+        ensures number { number_of seat.new.knows ≡ number_of seat.old.knows }
+        ensures own { own_of seat.new.knows ≡ own_of seat.old.knows }
+    {
+        let other = note.into_seat();
+        self.table.shared.join_seat::<Joins>(&mut seat.seat, other);
+    }
+}

@@ -1,0 +1,65 @@
+// The seats of objects, and notes.
+ghost use Rattle.std.specs.Prelude.{◌≡◌, [], length};
+
+use crate::view::View;
+use atomic_table::Seat;
+use std::marker::{Model, PhantomData};
+
+/// The seat of an object. Contracts see its history's table and what it knows.
+#[derive(Drop)]
+pub struct ObjectSeat<E, G, W> {
+    pub(crate) seat: Seat<u8, View<E, G>>,
+    pub(crate) of: PhantomData<W>,
+}
+
+impl<E, G, W> Model for ObjectSeat<E, G, W> {
+    ghost use Rattle.std.specs.Prelude.{◌≡◌, [], length};
+    ghost use Rattle.one_history.specs.Held.{Held};
+
+    ghost Value = { Held E G };
+
+    ghost view = { λ s. record { table = s.seat.table_id; knows = s.seat.me.0 } };
+
+    ghost invariant = { λ s. (s.seat.me.1 ≡ []) × (length s.seat.me.0.objects ≡ 1) };
+}
+
+/// A note, which carries what was seen to a seat. Contracts see its history's table and what it
+/// knows. It stands for a number of notes, and those that `split` and `copy` give away are fewer.
+#[derive(Drop)]
+pub struct Note<E, G, W> {
+    pub(crate) seat: Seat<u8, View<E, G>>,
+    pub(crate) of: PhantomData<W>,
+}
+
+impl<E, G, W> Model for Note<E, G, W> {
+    ghost use Rattle.std.specs.Prelude.{◌≡◌, []};
+    ghost use Rattle.one_history.specs.Held.{Held};
+
+    ghost Value = { Held E G };
+
+    ghost view = { λ s. record { table = s.seat.table_id; knows = s.seat.me.0 } };
+
+    ghost invariant = { λ s. (s.seat.me.1 ≡ []) × (s.seat.me.0.objects ≡ []) };
+}
+
+impl<E, G, W> ObjectSeat<E, G, W> {
+    /// The seat of the table.
+    pub(crate) fn into_seat(self) -> Seat<u8, View<E, G>>
+        ensures seat { (result.table_id ≡ self.table) × (result.me ≡ (self.knows, [])) }
+        ensures one { length self.knows.objects ≡ 1 }
+    {
+        let ObjectSeat { seat, of: _ } = self;
+        seat
+    }
+}
+
+impl<E, G, W> Note<E, G, W> {
+    /// The seat of the table.
+    pub(crate) fn into_seat(self) -> Seat<u8, View<E, G>>
+        ensures seat { (result.table_id ≡ self.table) × (result.me ≡ (self.knows, [])) }
+        ensures none { self.knows.objects ≡ [] }
+    {
+        let Note { seat, of: _ } = self;
+        seat
+    }
+}
