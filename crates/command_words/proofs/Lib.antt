@@ -1,0 +1,4 @@
+pub mod ShapeFits
+pub mod WalkSteps
+pub mod Walks
+pub mod RunWords
