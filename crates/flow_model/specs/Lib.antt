@@ -1,0 +1,11 @@
+pub mod World
+pub mod Events
+pub mod Numbers
+pub mod Backed
+pub mod Pools
+pub mod Points
+pub mod Counts
+pub mod Ends
+pub mod Platform
+pub mod Issue
+pub mod Traffic
