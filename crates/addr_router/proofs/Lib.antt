@@ -1,4 +1,4 @@
 mod FindLemmas
-mod FaultLemmas
+pub mod FaultLemmas
 mod UpLemmas
 mod Rows

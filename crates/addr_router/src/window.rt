@@ -22,13 +22,13 @@ pub struct Window {
 pub enum WindowFault {
     /// The row's first address is past its last.
     #[error("window {row} is empty")]
-    Empty { row: u32 },
+    Empty { row: usize },
     /// The row's last address, or what the target sees for it, is past 2^63 - 1.
     #[error("window {row} goes past the greatest address")]
-    PastEnd { row: u32 },
+    PastEnd { row: usize },
     /// Row `b` has an address of the earlier row `a`.
     #[error("windows {a} and {b} overlap")]
-    Overlap { a: u32, b: u32 },
+    Overlap { a: usize, b: usize },
     /// Memory was refused.
     #[error("out of memory")]
     Memory,
@@ -49,7 +49,7 @@ impl Window {
     }
 
     // What is wrong with this window by itself, where it stands in this row.
-    pub(crate) fn fault(&self, row: u32) -> Option<WindowFault>
+    pub(crate) fn fault(&self, row: usize) -> Option<WindowFault>
         ensures { result ≡ fault_at row self.now }
     {
         if self.first > self.last {

@@ -1,5 +1,5 @@
 // The windows of a router.
-ghost use Rattle.std.specs.Prelude.{◌≡◌, ◌≢◌, ◌==◌, ◌↔◌, ◌<◌, ◌^◌, [], length, vec_len, position, find, option_copied, IfOk, IfSome, IsOk};
+ghost use Rattle.std.specs.Prelude.{◌≡◌, ◌≢◌, ◌==◌, ◌↔◌, [], position, find, option_copied, IfOk, IsOk};
 ghost use Rattle.std.specs.Result.{result_err};
 ghost use Rattle.addr_router.specs.Windows.{HasOneWindow, IsValid, decoded, first_fault, is_overlapping, is_within, overlap_fault, row_fault, translated_up, window_fault};
 
@@ -25,14 +25,13 @@ impl Model for Windows {
 }
 
 impl Windows {
-    /// The windows with these rows, or their first fault. There are fewer than 2^32 rows.
+    /// The windows with these rows, or their first fault.
     ///
     /// Row by row comes `Empty` where `first` is past `last`, and then `PastEnd` where `last` or
     /// `base + (last - first)` is past 2^63 - 1; after all rows comes `Overlap`, with the least row `b`
     /// that overlaps an earlier one and the least such row `a`. Nothing is allocated, so `Memory` never
     /// comes.
     pub fn new(rows: Vec<Window>) -> Result<Windows, WindowFault>
-        requires { vec_len rows < 2 ^ 32 }
         ensures ok { IfOk result (λ windows. windows ≡ rows.items) }
         ensures valid { IsOk result ↔ IsValid rows.items }
         ensures fault { result_err result ≡ window_fault rows.items }
@@ -74,7 +73,6 @@ impl Windows {
 }
 
 fn fault_of(rows: &[Window]) -> Option<WindowFault>
-    requires { length rows.now < 2 ^ 32 }
     ensures { result ≡ window_fault rows.now }
 {
     first_row_fault(rows).or_else(|| first_overlap(rows))
@@ -82,11 +80,10 @@ fn fault_of(rows: &[Window]) -> Option<WindowFault>
 
 // The first fault of a row by itself.
 fn first_row_fault(rows: &[Window]) -> Option<WindowFault>
-    requires { length rows.now < 2 ^ 32 }
     ensures { result ≡ first_fault row_fault [] rows.now }
 {
     for (row, window) in rows.iter().enumerate() {
-        if let Some(fault) = window.fault(row as u32) {
+        if let Some(fault) = window.fault(row) {
             return Some(fault);
         }
     }
@@ -95,7 +92,6 @@ fn first_row_fault(rows: &[Window]) -> Option<WindowFault>
 
 // The overlap of the first row that overlaps an earlier one.
 fn first_overlap(rows: &[Window]) -> Option<WindowFault>
-    requires { length rows.now < 2 ^ 32 }
     ensures { result ≡ first_fault overlap_fault [] rows.now }
 {
     for (row, window) in rows.iter().enumerate() {
@@ -108,19 +104,17 @@ fn first_overlap(rows: &[Window]) -> Option<WindowFault>
 
 // The overlap of a window with the first of the earlier ones that has an address of it.
 fn overlap(earlier: &[Window], window: &Window) -> Option<WindowFault>
-    requires { length earlier.now < 2 ^ 32 }
     ensures { result ≡ overlap_fault earlier.now window.now }
 {
     let place = first_met(earlier, window)?;
     Some(WindowFault::Overlap {
-        a: place as u32,
-        b: earlier.len() as u32,
+        a: place,
+        b: earlier.len(),
     })
 }
 
 fn first_met(earlier: &[Window], window: &Window) -> Option<usize>
-    ensures place { result ≡ position (λ other. is_overlapping other window.now) earlier.now }
-    ensures below { IfSome result (λ k. k < length earlier.now) }
+    ensures { result ≡ position (λ other. is_overlapping other window.now) earlier.now }
 {
     earlier.iter().position(|other| other.overlaps(window))
 }

@@ -1,5 +1,5 @@
 -- Worked four-phase histories, made by hand.
-use Rattle.std.specs.Prelude.{ℕ, List, [], ◌∷◌, codes, true, false}
+use Rattle.std.specs.Prelude.{ℕ, List, [], ◌∷◌, codes, true, false, None}
 use Rattle.tlm_types.specs.declared.words.Command.TheVariants.{Write as write_command}
 use Rattle.tlm_types.specs.declared.words.ObjectNo.{ObjectNo}
 use Rattle.tlm_types.specs.declared.words.ObjectNo.TheVariants.{Memory as at_memory, Hop, Pool}
@@ -70,7 +70,7 @@ abbrev pub written : ℕ → ℕ → Event
 written position time = event position (at_memory 0) time 0 (Accessed FourPhase (record { command = write_command; offset = 0; length = 1; sent = 0xaa ∷ []; enables = []; width = 1 }) Ok [])
 
 abbrev pub write_at : ℕ → List Operation
-write_at address = Write address (0xaa ∷ []) [] 1 ∷ []
+write_at address = Write address (0xaa ∷ []) [] None ∷ []
 
 -- `dma` on `ram`, by the replies of the memory
 unfoldable pub lone : ReqMode → RespMode → Plan

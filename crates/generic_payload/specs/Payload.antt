@@ -1,5 +1,5 @@
 -- What contracts see of a payload, and the access that it stands for (IEEE 1666-2011, clause 14).
-use Rattle.std.specs.Prelude.{ℕ, ◌+◌, ◌<◌, ◌≤◌, Bool, false, ◌||◌, ◌==◌, List, [], length}
+use Rattle.std.specs.Prelude.{ℕ, ◌+◌, ◌<◌, ◌≤◌, Bool, false, ◌||◌, ◌==◌, List, [], length, take, drop}
 use Rattle.tlm_types.specs.declared.words.Command.{Command}
 use Rattle.tlm_types.specs.declared.words.Command.TheVariants.{Write, Ignore}
 use Rattle.tlm_types.specs.declared.words.Response.{Response}
@@ -38,3 +38,7 @@ is_enable element = (element == 0x00) || (element == 0xff)
 pub record HasPlaces (a : Access) (size : ℕ) : Type 0 where
   pub inside : a.offset + span_of a ≤ size
   pub wide : 0 < a.width
+
+-- the bytes of a memory that a debug read moves
+abbrev pub moved_by : PayloadView → List ℕ → List ℕ
+moved_by p store = take (length p.bytes) (drop p.address store)

@@ -3,7 +3,7 @@
 //! - `Payload` has the attributes of a transaction. Contracts see it as one value, the record
 //!   `PayloadView`.
 //! - `check` answers the status that a memory gives the payload; `write_into` and `read_from` move
-//!   its bytes where the check gave OK.
+//!   its bytes where the check gave OK, and `debug_from` those of a debug read.
 //!
 //! Promises: every call is exact. The check and the moves are those of the definitions for the
 //! access that the payload stands for. Room for data bytes and byte enables is taken once, by

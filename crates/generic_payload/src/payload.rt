@@ -1,7 +1,7 @@
 // A payload, and what it asks of a memory.
-ghost use Rattle.std.specs.Prelude.{◌≡◌, ◌≢◌, ◌↔◌, ◌+◌, ◌<◌, ◌≤◌, [], length, IsTrue, IfOk, true, false};
+ghost use Rattle.std.specs.Prelude.{◌≡◌, ◌≢◌, ◌↔◌, ◌+◌, ◌<◌, ◌≤◌, [], ◌++◌, length, take, drop, IsTrue, IfOk, true, false};
 ghost use Rattle.std.specs.List.{list_all};
-ghost use Rattle.generic_payload.specs.Payload.{PayloadView, new_payload, access_of, is_enable, HasPlaces};
+ghost use Rattle.generic_payload.specs.Payload.{PayloadView, new_payload, access_of, is_enable, moved_by, HasPlaces};
 ghost use Rattle.tlm_model.specs.Store.{zeros, span_of, is_allowed, checked, status_by, stored_by, got_by};
 
 use crate::stream::{stream_from, stream_into};
@@ -313,4 +313,27 @@ impl Payload {
             merge(&mut self.bytes, places, enables);
         }
     }
+
+    /// Moves the bytes of a memory from the address on to the front of the data, to the memory's end at
+    /// most, as debug transport does (11.3): byte enables and streaming width don't count. Answers how
+    /// many bytes were moved. The other data bytes stay.
+    pub fn debug_from(&mut self, store: &[u8]) -> u64
+        ensures payload { let got = moved_by self.old store.now in
+            self.new ≡ record self.old { bytes = got ++ drop (length got) self.old.bytes } }
+        ensures moved { result ≡ length (moved_by self.old store.now) }
+    {
+        let start = (self.address as usize).min(store.len());
+        copy_front(&mut self.bytes, &store[start..]) as u64
+    }
+}
+
+// Copies the first places to the front of the bytes, as many as there are of both, and answers how many.
+fn copy_front(bytes: &mut [u8], places: &[u8]) -> usize
+    ensures copied { let got = take (length bytes.old) places.now in
+        bytes.new ≡ got ++ drop (length got) bytes.old }
+    ensures count { result ≡ length (take (length bytes.old) places.now) }
+{
+    let count = places.len().min(bytes.len());
+    bytes[..count].copy_from_slice(&places[..count]);
+    count
 }

@@ -263,3 +263,21 @@ fn refuses_to_stream(rt: HostRuntime) -> Result<(), Fail> {
     assert_eq!(rt; payload.check(&memory), Response::CommandError);
     Ok(())
 }
+
+#[test]
+fn a_debug_read_ends_at_the_end(rt: HostRuntime) -> Result<(), Fail> {
+    let store = [1, 2, 3, 4];
+    for (address, moved, want) in [
+        (0, 3, [1, 2, 3]),
+        (2, 2, [3, 4, 0]),
+        (4, 0, [0, 0, 0]),
+        (u64::MAX, 0, [0, 0, 0]),
+    ] {
+        let mut payload = Payload::with_room(rt.alloc(), 3)?;
+        payload.set_read(address, 3, 1);
+        payload.set_enables(&[0x00]);
+        assert_eq!(rt; payload.debug_from(&store), moved, "at {address}");
+        assert_eq!(rt; payload.bytes(), want.as_slice(), "at {address}");
+    }
+    Ok(())
+}

@@ -1,16 +1,14 @@
 -- All seats become one.
-use Rattle.std.proofs.Common.{◌≡◌, ℕ, suc, ◌+◌, ◌≤◌, ◌⊎◌, List, [], ◌∷◌, ◌++◌, length, take, refl, sym, ap, ◌∙◌, subst, ⊎_elim, arith}
+use Rattle.std.proofs.Common.{◌≡◌, ℕ, ◌+◌, List, [], ◌∷◌, length, sym, ap, ◌∙◌, subst, ⊎_elim, arith}
 use Rattle.std.proofs.lemmas.Bool.{cases_eq}
 use mathlib.Core.Option.{some, some-injective}
 use lib.ListN.{get_elem?}
 use Rattle.one_history.specs.declared.entry.Entry.{Entry}
 use Rattle.one_history.specs.declared.view.Owned.{Owned}
-use Rattle.one_history.specs.declared.view.View.{View}
 use Rattle.one_history.specs.Held.{Held}
 use Rattle.view_lists.specs.Lists.{Has, Within}
-use Rattle.one_history.specs.Moves.{number_of, own_of, first_number, first_own, joined}
+use Rattle.one_history.specs.Moves.{own_of, first_number, first_own}
 use Rattle.one_history.specs.Seats.{Gathers, Tell, owned}
-use Rattle.view_lists.proofs.Members.{has_left, has_right}
 
 module _ {E : Type 0} where
   -- a list of one object

@@ -1,14 +1,13 @@
 -- Each step keeps the rule.
-use Rattle.std.proofs.Common.{◌≡◌, ◌≢◌, ◌⊎◌, ℕ, zero, suc, ◌+◌, ◌-◌, ◌%◌, ◌^◌, ◌<◌, ◌≤◌, ◌==◌, Bool, true, false, cond, List, [], ◌∷◌, ◌++◌, map, length, set, take, sum, Some, None, refl, sym, ap, ◌∙◌, subst, inl, inr, ⊎_elim, max, arith, append-nil, length-append, length-set}
+use Rattle.std.proofs.Common.{◌≡◌, ◌≢◌, ℕ, zero, suc, ◌+◌, ◌%◌, ◌^◌, ◌<◌, ◌≤◌, ◌==◌, true, false, cond, List, [], ◌∷◌, ◌++◌, length, set, take, sum, Some, None, refl, sym, ap, ◌∙◌, subst, ⊎_elim, arith, length-append, length-set}
 use Rattle.std.specs.Prelude.{slice_index, slice_index_or, slice_set}
-use Rattle.std.specs.List.{sum_by}
 use Rattle.std.proofs.lemmas.List.Sums.{sum_by-cons}
 use Rattle.std.proofs.lemmas.List.{take-append-le}
 use Rattle.std.proofs.Math.Seq.{take-append_seam}
 use Rattle.std.proofs.lemmas.Bool.{cases_eq, cond-true, cond-false, eq-eqb, ne_eqb}
-use mathlib.Core.Option.{Option, some, none, some-ne-none, some-injective}
+use mathlib.Core.Option.{some, none, some-ne-none, some-injective}
 use lib.ListN.{get_elem?}
-use Rattle.atomic_table.specs.Table.{State, Me, Step, step, Act, keeps, Allows, Splits, Joins, opening}
+use Rattle.atomic_table.specs.Table.{State, Me, step, keeps, Allows, Splits, Joins, opening}
 use Rattle.atomic_table.proofs.Lists.{at_set, at_longer, at_last, set_here, set_else}
 use Rattle.one_history.specs.declared.entry.Entry.{Entry}
 use Rattle.one_history.specs.declared.entry.Sign.{Sign}
@@ -19,11 +18,11 @@ use Rattle.view_lists.specs.Lists.{Has, Within}
 use Rattle.one_history.specs.Lists.{object_of, entries_at}
 use Rattle.one_history.specs.Rule.{spent_view, first_view, Fits, Seated, HasLog}
 use Rattle.one_history.specs.Closing.{Learned, AreBacked, ArePlanned}
-use Rattle.one_history.specs.Moves.{made_of, entry, first_number, first_own, with_own, number_of, own_of, drawn, Drew, one_less, one_gone, copied, parted, one_more, blank_seat, joined}
+use Rattle.one_history.specs.Moves.{made_of, entry, first_number, first_own, with_own, number_of, own_of, KnowsOwn, Recalled, drawn, Drew, one_less, one_gone, copied, parted, one_more, blank_seat, joined}
 use Rattle.view_lists.proofs.Places.{at_short, at_end}
 use Rattle.view_lists.proofs.Members.{has_left, has_right, has_either, has_one, has_none, has_map, has_mapped}
 use Rattle.view_lists.proofs.Totals.{total_put, total_end}
-use Rattle.view_lists.proofs.Keys.{of_key-same, of_key-other, of_key-within, within_planned}
+use Rattle.view_lists.proofs.Keys.{of_key-same, of_key-other, of_key-within, of_key-has, of_key-key, within_planned}
 
 set_word : (ws : List ℕ) (n : ℕ) → length ws ≡ 1 → slice_index (slice_set ws 0 n) 0 ≡ n
 set_word [] n h = absurd (omega arith)
@@ -110,8 +109,50 @@ module _ {E G : Type 0} (backs : G → List (Entry E) → Entry E → Type 0) (k
     known_within : (log : List (Entry E)) (place : ℕ → ℕ) (counter made i : ℕ) (v : View E G) → Fits key log place counter made i v → Within v.known log
     known_within log place counter made i v f x h = let k = f.known x h in (x.position, k.1)
 
+    -- what a seat knows of its object is among its own entries
+    knows_own : (log : List (Entry E)) (place : ℕ → ℕ) (counter made i : ℕ) (v : View E G) → length v.objects ≡ 1 → Fits key log place counter made i v → KnowsOwn v
+    knows_own log place counter made i v one f = record { among = among }
+      where
+        among : Within (entries_at (number_of v) v.known) (own_of v)
+        among x h =
+            let o = number_of v in
+            let here : Has v.objects (record { number = first_number v.objects; own = first_own v.objects }) = (0, subst (λ (l : List (Owned E)). get_elem? l 0 ≡ some (record { number = first_number v.objects; own = first_own v.objects })) (sym (alone v.objects one)) refl) in
+            let own : own_of v ≡ entries_at o log = (f.owns _ here).2 in
+            let is : x.object ≡ o = of_key-key object_of o v.known x h in
+            let k = f.known x (of_key-within object_of o v.known x h) in
+            subst (λ (l : List (Entry E)). Has l x) (sym own) (subst (λ (n : ℕ). Has (entries_at n log) x) is (of_key-has object_of log x (x.position, k.1)))
+
+    -- a seat looks at what it knows of its object
+    pub recalls : (slots id : ℕ) (me : Me ℕ (View E G)) → length me.0.objects ≡ 1 → Allows (HasLog backs key) slots id me 0 (λ n. n) (Recalled (step slots 0 0 0 none) me)
+    recalls slots id me one st h homes mine wide =
+        let v = me.0 in
+        let n = slice_index st.words 0 in (
+          v,
+          keeps,
+          tt,
+          record {
+            log = h.log;
+            place = h.place;
+            counter = h.counter;
+            made = h.made;
+            words = length-set st.words 0 n ∙ h.words;
+            count = set_word st.words n h.words ∙ h.count;
+            numbered = h.numbered;
+            backed = h.backed;
+            planned = h.planned;
+            unmade = h.unmade;
+            homes = λ o less. seated_put st.views id v v h.place o mine (λ x has. (x, has, refl)) (h.homes o less);
+            fits = λ j u is. ⊎_elim
+                (λ (same : (j ≡ id) × (v ≡ u)). subst (λ (y : ℕ × View E G). Fits key h.log h.place h.counter h.made y.0 y.1) (λ i. (sym same.0 i, same.1 i)) (h.fits id v mine))
+                (λ (else : (j ≢ id) × (get_elem? st.views j ≡ some u)). h.fits j u else.1)
+                (at_set st.views id j v u is);
+            notes = let q = total_put (λ (u : View E G). u.notes) st.views id v v mine in let r = h.notes in omega arith;
+          },
+          (refl, knows_own h.log h.place h.counter h.made id v one (h.fits id v mine)),
+        )
+
     pub draws : (slots id : ℕ) (me : Me ℕ (View E G)) (c : E) (s : Sign) → length me.0.objects ≡ 1 → length (own_of me.0) < slice_index_or key.planned (number_of me.0) 0 → sum key.planned ≤ 1000000
-        → ((p : ℕ) → me.0.seen ≤ p → backs key.world me.0.known (entry p (number_of me.0) s c))
+        → ((p : ℕ) → me.0.seen ≤ p → KnowsOwn me.0 → backs key.world me.0.known (entry p (number_of me.0) s c))
         → Allows (HasLog backs key) slots id me 0 (λ n. (n + 1) % 2 ^ 64) (Drew c s (step slots 0 1 0 none) me)
     draws slots id me c s one room few backed st h homes mine wide =
         let v = me.0 in
@@ -129,6 +170,7 @@ module _ {E G : Type 0} (backs : G → List (Entry E) → Entry E → Type 0) (k
         let below : n < 1000000 = omega arith in
         let seen : v.seen ≤ n = let q = fits.seen in omega arith in
         let dead : v.frame ≡ None → ⊥ = λ none. let q : length v.objects ≡ 0 = ap (λ (u : View E G). length u.objects) (fits.spent none) in omega arith in
+        let own_known = knows_own log h.place h.counter h.made id v one fits in
         let w = drawn v e in (
           w,
           keeps,
@@ -144,7 +186,7 @@ module _ {E G : Type 0} (backs : G → List (Entry E) → Entry E → Type 0) (k
             backed = λ p x is. ⊎_elim
                 (λ (old : get_elem? log p ≡ some x). let q = at_short log p x old in subst (λ (l : List (Entry E)). backs key.world l x) (sym (take-append-le p log (e ∷ []) (omega arith))) (h.backed p x old))
                 (λ (new : (p ≡ length log) × (e ≡ x)). subst (λ (l : List (Entry E)). backs key.world l x) (sym (take-append_seam log (e ∷ [])) ∙ ap (λ k. take k (log ++ e ∷ [])) (sym new.0))
-                (subst (λ (y : Entry E). backs key.world log y) new.1 (grows key.world v.known log e (known_within log h.place h.counter h.made id v fits) (backed n seen))))
+                (subst (λ (y : Entry E). backs key.world log y) new.1 (grows key.world v.known log e (known_within log h.place h.counter h.made id v fits) (backed n seen own_known))))
                 (at_end log e x p is);
             planned = planned;
             unmade = λ o not. of_key-other object_of o log e (λ is. let q = owns.1 in omega arith) ∙ h.unmade o not;
@@ -155,7 +197,7 @@ module _ {E G : Type 0} (backs : G → List (Entry E) → Entry E → Type 0) (k
                 (at_set st.views id j w u is);
             notes = let q = total_put (λ (u : View E G). u.notes) st.views id v w mine in let r = h.notes in omega arith;
           },
-          (refl, below, seen, refl),
+          (refl, below, seen, refl, own_known),
         )
 
 -- one view's part of the rule does not change

@@ -1,5 +1,5 @@
 -- The parts of the rule, from the rule.
-use Rattle.std.proofs.Common.{◌≡◌, ◌⊎◌, ℕ, zero, suc, ◌+◌, ◌<◌, ◌≤◌, List, [], ◌∷◌, length, Some, None, refl, sym, ap, ◌∙◌, subst, ⊎_elim, arith}
+use Rattle.std.proofs.Common.{◌≡◌, ℕ, zero, suc, ◌<◌, ◌≤◌, List, [], ◌∷◌, length, refl, sym, ap, ◌∙◌, subst, ⊎_elim, arith}
 use Rattle.std.specs.Prelude.{slice_index, slice_index_or}
 use Rattle.std.proofs.lemmas.Bool.{cases_lt}
 use mathlib.Core.Option.{some, some-injective}
@@ -14,7 +14,7 @@ use Rattle.one_history.specs.declared.view.Frame.{Frame}
 use Rattle.one_history.specs.declared.view.Owned.{Owned}
 use Rattle.one_history.specs.declared.view.View.{View}
 use Rattle.one_history.specs.Lists.{object_of, entries_at}
-use Rattle.one_history.specs.Rule.{Fits, HasLog}
+use Rattle.one_history.specs.Rule.{HasLog}
 use Rattle.one_history.specs.Parts.{Sits, Owns, StandsOnce, KnowsHistory, HasOneSeat, SharesNotes, MergesBacked, IsKept}
 
 module _ {A : Type 0} where

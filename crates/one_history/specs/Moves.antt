@@ -1,11 +1,13 @@
 -- What each step does to the views.
-use Rattle.std.specs.Prelude.{◌≡◌, ℕ, ◌+◌, ◌-◌, ◌<◌, ◌≤◌, ◌==◌, List, [], ◌∷◌, ◌++◌, length, map, cond, max, Option, Some, None}
+use Rattle.std.specs.Prelude.{◌≡◌, ℕ, ◌+◌, ◌-◌, ◌<◌, ◌≤◌, ◌==◌, List, [], ◌∷◌, ◌++◌, map, cond, max, Option, Some, None}
 use Rattle.atomic_table.specs.Table.{Step, Me}
 use Rattle.one_history.specs.declared.entry.Entry.{Entry}
 use Rattle.one_history.specs.declared.entry.Sign.{Sign}
 use Rattle.one_history.specs.declared.view.Frame.{Frame}
 use Rattle.one_history.specs.declared.view.Owned.{Owned}
 use Rattle.one_history.specs.declared.view.View.{View}
+use Rattle.view_lists.specs.Lists.{Within}
+use Rattle.one_history.specs.Lists.{entries_at}
 
 -- how many seats a view counts
 abbrev pub made_of : Option ℕ → ℕ
@@ -44,9 +46,17 @@ module _ {E G : Type 0} where
   abbrev pub drawn : View E G → Entry E → View E G
   drawn v e = record { frame = v.frame; notes = v.notes; seen = e.position + 1; known = v.known ++ e ∷ []; looks = v.looks; objects = map (with_own e) v.objects; counts = v.counts }
 
+  -- what a seat knows of its object is among its own entries
+  pub record KnowsOwn (v : View E G) : Type 0 where
+    pub among : Within (entries_at (number_of v) v.known) (own_of v)
+
+  -- the step that looks at what the seat knows of its object
+  abbrev pub Recalled : Step ℕ → Me ℕ (View E G) → ℕ → Me ℕ (View E G) → Type 0
+  Recalled st m r m' = (m' ≡ m) × KnowsOwn m.0
+
   -- the step that draws: its position is past all that the seat had seen
   abbrev pub Drew : E → Sign → Step ℕ → Me ℕ (View E G) → ℕ → Me ℕ (View E G) → Type 0
-  Drew c s st m r m' = (m'.1 ≡ m.1) × (r < 1000000) × (m.0.seen ≤ r) × (m'.0 ≡ drawn m.0 (entry r (number_of m.0) s c))
+  Drew c s st m r m' = (m'.1 ≡ m.1) × (r < 1000000) × (m.0.seen ≤ r) × (m'.0 ≡ drawn m.0 (entry r (number_of m.0) s c)) × KnowsOwn m.0
 
   -- a note after one of its notes was given away
   abbrev pub one_less : View E G → View E G

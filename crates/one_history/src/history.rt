@@ -1,12 +1,12 @@
 // The history, and the steps on it.
 ghost use Rattle.std.specs.Prelude.{◌≡◌, ℕ, ◌+◌, ◌<◌, ◌≤◌, [], ◌∷◌, ◌++◌, length, slice_index_or, sum, Some, IfOk};
 ghost use Rattle.one_history.specs.Rule.{plain};
-ghost use Rattle.one_history.specs.Moves.{IsFrame, counting, one_more, blank_seat, number_of, own_of, entry, drawn, copied, one_gone, one_less, parted, joined};
+ghost use Rattle.one_history.specs.Moves.{IsFrame, counting, one_more, blank_seat, number_of, own_of, KnowsOwn, entry, drawn, copied, one_gone, one_less, parted, joined};
 
 use crate::entry::Sign;
 use crate::law::{Drawn, Law, Looked};
 use crate::seats::{Note, ObjectSeat};
-use crate::steps::{Copies, Draws, Joins, Makes, Parts, Signed};
+use crate::steps::{Copies, Draws, Joins, Makes, Parts, Recalls, Signed};
 use crate::view::{Key, Rule, View};
 use atomic_table::{Seat, Table};
 use std::alloc::{AllocError, Global};
@@ -124,30 +124,42 @@ impl<E, G, W: Law<E, G>> History<E, G, W> {
     fn draw_as<D: Drawn<E>, B: Signed>(&self, seat: &mut Seat<u8, View<E, G>>, _sign: Sign) -> u64
         requires seat { (seat.old.table_id ≡ self.now.table) × (length seat.old.me.0.objects ≡ 1) }
         requires planned { length (own_of seat.old.me.0) < slice_index_or self.now.frame.planned (number_of seat.old.me.0) 0 }
-        requires backed { (p : ℕ) → seat.old.me.0.seen ≤ p → W.backs self.now.frame.world seat.old.me.0.known (entry p (number_of seat.old.me.0) B.sign D.content) }
+        requires backed { (p : ℕ) → seat.old.me.0.seen ≤ p → KnowsOwn seat.old.me.0 → W.backs self.now.frame.world seat.old.me.0.known (entry p (number_of seat.old.me.0) B.sign D.content) }
         ensures same { (seat.new.table_id ≡ seat.old.table_id) × (seat.new.me.1 ≡ seat.old.me.1) }
         ensures after { seat.old.me.0.seen ≤ result }
         ensures below { result < 1000000 }
         ensures drawn { seat.new.me.0 ≡ drawn seat.old.me.0 (entry result (number_of seat.old.me.0) B.sign D.content) }
+        ensures mine { KnowsOwn seat.old.me.0 }
     {
         self.table.shared.fetch_add::<Draws<D, B>>(seat, 0, 1)
     }
 
     /// Adds an entry of the seat's object, with this sign and the content of D, and answers its
     /// position: the length that the history had, which is no less than what the seat had seen. The
-    /// seat has fewer entries than planned, and what it knows backs the entry.
+    /// seat has fewer entries than planned, and what it knows backs the entry. What it knows of its
+    /// object is among its own entries.
     pub fn draw<D: Drawn<E>>(&self, seat: &mut ObjectSeat<E, G, W>, sign: Sign) -> u64
         requires seat { seat.old.table ≡ self.now.table }
         requires planned { length (own_of seat.old.knows) < slice_index_or self.now.frame.planned (number_of seat.old.knows) 0 }
-        requires backed { (p : ℕ) → seat.old.knows.seen ≤ p → W.backs self.now.frame.world seat.old.knows.known (entry p (number_of seat.old.knows) sign D.content) }
+        requires backed { (p : ℕ) → seat.old.knows.seen ≤ p → KnowsOwn seat.old.knows → W.backs self.now.frame.world seat.old.knows.known (entry p (number_of seat.old.knows) sign D.content) }
         ensures table { seat.new.table ≡ seat.old.table }
         ensures after { seat.old.knows.seen ≤ result }
         ensures below { result < 1000000 }
         ensures drawn { seat.new.knows ≡ drawn seat.old.knows (entry result (number_of seat.old.knows) sign D.content) }
         ensures number { number_of seat.new.knows ≡ number_of seat.old.knows }
         ensures own { own_of seat.new.knows ≡ own_of seat.old.knows ++ entry result (number_of seat.old.knows) sign D.content ∷ [] }
+        ensures mine { KnowsOwn seat.old.knows }
     {
         self.draw_as::<D, Brand>(&mut seat.seat, sign)
+    }
+
+    /// Looks at the history: what the seat knows of its object is among its own entries.
+    pub fn recall(&self, seat: &mut ObjectSeat<E, G, W>)
+        requires { seat.old.table ≡ self.now.table }
+        ensures same { seat.new ≡ seat.old }
+        ensures mine { KnowsOwn seat.old.knows }
+    {
+        self.table.shared.load::<Recalls>(&mut seat.seat, 0);
     }
 
     /// A note that has seen what the seat has seen and stands for one of its notes. The seat's looks go

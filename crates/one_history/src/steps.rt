@@ -28,6 +28,15 @@ impl<E, G, D: Drawn<E>, B: Signed> Play<u8, View<E, G>> for Draws<D, B> {
     ghost then = { Drew D.content B.sign };
 }
 
+/// A seat looks at what it knows of its object.
+pub struct Recalls;
+
+impl<E, G> Play<u8, View<E, G>> for Recalls {
+    ghost use Rattle.one_history.specs.Moves.{Recalled};
+
+    ghost then = { Recalled };
+}
+
 /// A seat gives a note away.
 pub struct Copies<D> {
     of: PhantomData<D>,

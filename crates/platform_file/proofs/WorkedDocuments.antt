@@ -4,13 +4,13 @@ use Rattle.std.specs.Fmt.{digits}
 use Rattle.std.specs.Str.{chars, is_utf8}
 use Rattle.toml.proofs.OnLiterals.{toml_on_literals}
 use Rattle.platform_file.specs.Names.{names_of, with_names}
-use Rattle.platform_file.specs.Platform.{bound_initiator, bound_router, bound_window, checked_windows, document_of, platform_of, platform_of_table}
+use Rattle.platform_file.specs.Platform.{bound_initiator, bound_router, bound_window, document_of, platform_of, platform_of_table}
 use Rattle.platform_file.specs.Reading.{rows_from}
 use Rattle.platform_file.specs.Tables.{initiator_keys, memory_row, memory_traits, platform_keys, router_keys, window_keys}
 use Rattle.platform_file.specs.Worked.{example, example_platform, least_unknown_key, second_bearer, shared_name, unknown_keys}
 
 pub example_read : platform_of example ≡ Ok example_platform
-unfolding example example_platform document_of is_utf8 chars toml_on_literals platform_of_table platform_keys rows_from initiator_keys router_keys window_keys memory_row memory_traits names_of with_names bound_initiator bound_router bound_window checked_windows
+unfolding example example_platform document_of is_utf8 chars toml_on_literals platform_of_table platform_keys rows_from initiator_keys router_keys window_keys memory_row memory_traits names_of with_names bound_initiator bound_router bound_window
 example_read = refl
 
 pub unknown_keys_refused : platform_of unknown_keys ≡ Err least_unknown_key

@@ -8,5 +8,6 @@ pub mod Tables
 pub mod Names
 pub mod NamesView
 pub mod Platform
+pub mod Bounded
 pub mod Document
 pub mod Worked

@@ -1,6 +1,10 @@
 -- The platform of some bytes, or its first fault.
-use Rattle.std.specs.Prelude.{ℕ, ◌+◌, ◌-◌, ◌^◌, Bool, ◌&&◌, List, take, sum_by, Option, Some, None, Result, Ok, Err, if◌then◌else◌, nat_le, nat_lt, codes, position}
+use Rattle.std.specs.Prelude.{ℕ, List, map, sum_by, Option, Some, None, Result, Ok, Err, if◌then◌else◌, nat_lt, codes}
 use Rattle.std.specs.Str.{is_utf8}
+use Rattle.addr_router.specs.declared.window.Window.{Window}
+use Rattle.addr_router.specs.declared.window.WindowFault.{WindowFault}
+use Rattle.addr_router.specs.declared.window.WindowFault.TheVariants as window
+use Rattle.addr_router.specs.Windows.{window_fault}
 use Rattle.toml.specs.Data.{Members}
 use Rattle.toml.specs.Parse.{parse_document}
 use Rattle.platform_file.specs.declared.fault.PlatformCode.TheVariants.{Syntax, EmptyWindow, PastEnd, Overlap, TooMuchMemory, TooManyGates}
@@ -36,32 +40,25 @@ bound_router names i r = do
   windows ← rows_from (bound_window names i) 0 r.windows
   Ok (record { name = r.name; latency = r.latency; accept = r.accept; lanes = r.lanes; windows = windows })
 
--- that a window isn't empty, and that what its last address is seen as is below 2^63
-abbrev pub checked_range : ℕ → ℕ → WindowRow → Result (Unit {0}) Refusal
-checked_range router i w =
-    if nat_lt w.last w.first then Err (refusal EmptyWindow (place.Window router i) (codes "first"))
-    else if nat_lt (2 ^ 63 - 1) (w.base + (w.last - w.first)) then Err (refusal PastEnd (place.Window router i) (codes "base"))
-    else Ok tt
+-- the window of a row, with this port
+abbrev pub window_at : ℕ → WindowRow → Window
+window_at port w = record { first = w.first; last = w.last; port = port; base = w.base }
 
--- two windows have a common address
-abbrev pub overlaps : WindowRow → WindowRow → Bool
-overlaps a b = nat_le a.first b.last && nat_le b.first a.last
+-- the windows of a router for their faults, for which ports don't matter
+abbrev pub windows_of : RouterRow → List Window
+windows_of r = map (window_at 0) r.windows
 
--- the refusal of an overlap with an earlier window of this number, if there is one
-abbrev pub refused_overlap : ℕ → ℕ → Option ℕ → Result (Unit {0}) Refusal
-refused_overlap router i None = Ok tt
-refused_overlap router i (Some a) = Err (refusal Overlap (place.Window router i) (indexed (codes "window[") a (codes "]")))
+-- that the windows of a router have no fault: want of memory is none
+abbrev pub refused_windows : ℕ → Option WindowFault → Result (Unit {0}) Refusal
+refused_windows router None = Ok tt
+refused_windows router (Some (window.Empty row)) = Err (refusal EmptyWindow (place.Window router row) (codes "first"))
+refused_windows router (Some (window.PastEnd row)) = Err (refusal PastEnd (place.Window router row) (codes "base"))
+refused_windows router (Some (window.Overlap a b)) = Err (refusal Overlap (place.Window router b) (indexed (codes "window[") a (codes "]")))
+refused_windows router (Some window.Memory) = Ok tt
 
--- that a window overlaps no earlier one: the refusal names the least earlier one
-abbrev pub checked_overlap : List WindowRow → ℕ → ℕ → WindowRow → Result (Unit {0}) Refusal
-checked_overlap all router i w = refused_overlap router i (position (overlaps w) (take i all))
-
--- the tests of a router's windows: all ranges come before the overlaps
-unfoldable pub checked_windows : ℕ → RouterRow → Result (Unit {0}) Refusal
-checked_windows i r = do
-  _ ← rows_from (checked_range i) 0 r.windows
-  _ ← rows_from (checked_overlap r.windows i) 0 r.windows
-  Ok tt
+-- the test of a router's windows
+abbrev pub checked_windows : ℕ → RouterRow → Result (Unit {0}) Refusal
+checked_windows i r = refused_windows i (window_fault (windows_of r))
 
 -- that the sizes of the memories, and then their gates, are within their limits
 abbrev pub checked_sums : List MemoryRow → Result (Unit {0}) Refusal

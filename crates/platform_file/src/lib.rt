@@ -34,4 +34,6 @@ pub mod worked;
 pub use fault::{PlatformCode, PlatformFault};
 pub use place::Place;
 pub use read::read_platform;
+pub use reading::{RowKind, rows};
 pub use tlm_model::{InitiatorRow, MemoryRow, Platform, RouterRow, Rows, Style, Target, WindowRow};
+pub use windows::window;

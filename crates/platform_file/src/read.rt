@@ -1,5 +1,7 @@
 // The platform of some bytes.
+ghost use Rattle.std.specs.Prelude.{IfOk};
 ghost use Rattle.toml.specs.View.{table_view};
+ghost use Rattle.platform_file.specs.Bounded.{IsBounded};
 ghost use Rattle.platform_file.specs.Reading.{Gives};
 ghost use Rattle.platform_file.specs.Platform.{platform_of, platform_of_table, document_of};
 ghost use Rattle.platform_file.specs.Document.{GivesDocument};
@@ -53,8 +55,12 @@ fn document(alloc: Global, bytes: &[u8]) -> Result<Option<Table>, AllocError>
 /// fault of the bytes: `Syntax` where they are no TOML document, and then, in this order, the faults
 /// of tables and keys, of names, of targets, of windows, and of the sums over the memories. The only
 /// other error is want of memory.
+///
+/// Each platform that is read keeps the limits of the format, its targets are there, and its windows
+/// are those of routers.
 pub fn read_platform(alloc: Global, bytes: &[u8]) -> Result<Platform, PlatformFault>
-    ensures { Gives result (platform_of bytes.now) }
+    ensures read { Gives result (platform_of bytes.now) }
+    ensures bounded { IfOk result IsBounded }
 {
     match document(alloc, bytes)? {
         Some(table) => platform(alloc, &table),

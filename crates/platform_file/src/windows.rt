@@ -1,83 +1,68 @@
 // The faults of windows.
-ghost use Rattle.std.specs.Prelude.{◌≡◌, take, position};
-ghost use Rattle.platform_file.specs.Platform.{checked_range, overlaps, checked_overlap, checked_windows};
+ghost use Rattle.std.specs.Prelude.{◌≡◌, Some, IfOk, map};
+ghost use Rattle.platform_file.specs.Platform.{checked_windows, refused_windows, window_at};
+ghost use Rattle.platform_file.specs.Reading.{Fails};
 
 use crate::fault::{PlatformCode, PlatformFault};
 use crate::place::Place;
-use crate::reading::{RowKind, rows};
-use std::alloc::Global;
+use crate::reading::RowKind;
+use addr_router::{Window, WindowFault, Windows};
+use std::alloc::{AllocError, Global};
 use tlm_model::{RouterRow, WindowRow};
 
-/// The greatest address, and the greatest address that a window may lead to.
-const GREATEST_ADDRESS: u64 = 0x7fff_ffff_ffff_ffff;
-
-/// The test that each window of the router with this number isn't empty and leads to addresses in
-/// range.
-#[derive(Drop)]
-struct WindowRanges {
-    router: usize,
-}
-
-impl RowKind<WindowRow> for WindowRanges {
-    type Row = ();
-
-    ghost reads = { λ s. checked_range s.router };
-
-    fn read(&self, alloc: Global, index: usize, item: &WindowRow) -> Result<(), PlatformFault> {
-        let router = self.router;
-        let place = Place::Window { router, index };
-        if item.last < item.first {
-            return Err(place.refuse(alloc, PlatformCode::EmptyWindow, "first"));
-        }
-        if item.last - item.first > GREATEST_ADDRESS
-            || item.base > GREATEST_ADDRESS - (item.last - item.first)
-        {
-            return Err(place.refuse(alloc, PlatformCode::PastEnd, "base"));
-        }
-        Ok(())
+/// The window of a row, with this port.
+pub fn window(row: &WindowRow, port: u32) -> Window
+    ensures { result ≡ window_at port row.now }
+{
+    Window {
+        first: row.first,
+        last: row.last,
+        port,
+        base: row.base,
     }
 }
 
-fn overlaps(a: &WindowRow, b: &WindowRow) -> bool
-    ensures { result ≡ overlaps a.now b.now }
+/// The windows of rows for their faults, for which ports don't matter.
+fn windows(alloc: Global, rows: &[WindowRow]) -> Result<Vec<Window>, AllocError>
+    ensures { IfOk result (λ v. v.items ≡ map (window_at 0) rows.now) }
 {
-    a.first <= b.last && b.first <= a.last
+    rows.iter().map(|row| window(row, 0)).collect(alloc)
 }
 
-/// The number of the first of the windows before this one that has an address of it.
-fn first_overlap(windows: &[WindowRow], index: usize, window: &WindowRow) -> Option<usize>
-    ensures { result ≡ position (overlaps window.now) (take index windows.now) }
-{
-    windows
-        .iter()
-        .take(index)
-        .position(|earlier| overlaps(window, earlier))
-}
-
-/// The test that no window of the router with this number overlaps an earlier one.
-#[derive(Drop)]
-struct WindowOverlaps<'w> {
+/// The refusal of the overlap of two windows of the router with this number.
+fn refused_overlap(
+    alloc: Global,
     router: usize,
-    windows: &'w [WindowRow],
+    earlier: usize,
+    index: usize,
+) -> Result<PlatformFault, AllocError>
+    ensures { IfOk result (λ f. Fails f (refused_windows router (Some (WindowFault.Overlap earlier index)))) }
+{
+    let key = format!(in alloc; "window[{earlier}]")?;
+    let place = Place::Window { router, index };
+    Ok(place.refuse(alloc, PlatformCode::Overlap, key.as_str()))
 }
 
-impl<'w> RowKind<WindowRow> for WindowOverlaps<'w> {
-    type Row = ();
-
-    ghost reads = { λ s. checked_overlap s.windows.now s.router };
-
-    fn read(&self, alloc: Global, index: usize, item: &WindowRow) -> Result<(), PlatformFault> {
-        let router = self.router;
-        let place = Place::Window { router, index };
-        let Some(earlier) = first_overlap(self.windows, index, item) else {
-            return Ok(());
-        };
-        let key = format!(in alloc; "window[{earlier}]")?;
-        Err(place.refuse(alloc, PlatformCode::Overlap, key.as_str()))
+/// The refusal of a fault of the windows of the router with this number.
+fn refused(alloc: Global, router: usize, fault: WindowFault) -> PlatformFault
+    ensures { Fails result (refused_windows router (Some fault)) }
+{
+    match fault {
+        WindowFault::Empty { row: index } => {
+            Place::Window { router, index }.refuse(alloc, PlatformCode::EmptyWindow, "first")
+        }
+        WindowFault::PastEnd { row: index } => {
+            Place::Window { router, index }.refuse(alloc, PlatformCode::PastEnd, "base")
+        }
+        WindowFault::Overlap { a, b } => match refused_overlap(alloc, router, a, b) {
+            Ok(fault) => fault,
+            Err(_) => PlatformFault::Memory,
+        },
+        WindowFault::Memory => PlatformFault::Memory,
     }
 }
 
-/// The tests of each router's windows: the ranges of all of them, and then their overlaps.
+/// The test of each router's windows: the ranges of all of them, and then their overlaps.
 #[derive(Drop)]
 pub struct RouterWindows;
 
@@ -86,12 +71,11 @@ impl RowKind<RouterRow> for RouterWindows {
 
     ghost reads = { λ _. checked_windows };
 
-    #[tactic(auto, unfolding(crate::specs::Platform::checked_windows))]
     fn read(&self, alloc: Global, index: usize, item: &RouterRow) -> Result<(), PlatformFault> {
-        let router = index;
-        let windows = item.windows.as_slice();
-        rows(alloc, &WindowRanges { router }, windows)?;
-        rows(alloc, &WindowOverlaps { router, windows }, windows)?;
-        Ok(())
+        let windows = windows(alloc, item.windows.as_slice())?;
+        match Windows::new(windows) {
+            Ok(_) => Ok(()),
+            Err(fault) => return Err(refused(alloc, index, fault)),
+        }
     }
 }

@@ -1,3 +1,5 @@
-mod Places
 mod Consistent
+mod Told
+mod Cost
+mod Written
 mod Rows

@@ -1,54 +1,76 @@
 -- Worked answers: the definitions compute what was worked out by hand.
-use Rattle.std.proofs.Common.{◌≡◌, ℕ, List, [], ◌∷◌, true, false, refl}
+use Rattle.std.proofs.Common.{◌≡◌, ℕ, List, [], ◌∷◌, length, true, false, refl}
+use Rattle.tlm_types.specs.declared.words.Command.TheVariants.{Read, Write}
 use Rattle.tlm_types.specs.declared.words.MemoryTraits.{MemoryTraits}
-use Rattle.tlm_types.specs.declared.words.ObjectNo.TheVariants.{Memory}
-use Rattle.tlm_types.specs.declared.words.Response.TheVariants.{Ok, AddressError, CommandError}
-use Rattle.tlm_types.specs.declared.words.Way.TheVariants.{Blocking}
+use Rattle.tlm_types.specs.declared.words.Response.TheVariants.{Ok, AddressError, CommandError, ByteEnableError}
+use Rattle.tlm_types.specs.declared.words.TxnId.{TxnId}
+use Rattle.tlm_types.specs.declared.words.Way.TheVariants.{Blocking, Debug as by_debug}
 use Rattle.tlm_types.specs.declared.entry.Entry.{Entry}
-use Rattle.tlm_types.specs.declared.entry.Head.{Head}
 use Rattle.tlm_types.specs.declared.entry.What.TheVariants.{Access as Accessed}
-use Rattle.region_object.specs.Region.{answered, entry_at, plain_read, plain_write}
+use Rattle.tlm_model.specs.Store.{zeros}
+use Rattle.generic_payload.specs.Payload.{PayloadView, new_payload, access_of}
+use Rattle.region_object.specs.declared.call.RegionCall.{RegionCall}
+use Rattle.region_object.specs.declared.call.RegionCall.TheVariants.{Access, Debug}
+use Rattle.region_object.specs.declared.call.RegionReply.TheVariants.{Accessed as AccessedReply, Moved}
+use Rattle.region_object.specs.Call.{debug_access}
+use Rattle.region_object.specs.Region.{LoggedMemory, entry_of, reply_of}
 
--- a memory of 16 bytes that can be read and written
+-- a memory of 16 bytes that can be read and written, and has no byte enables
 ram : MemoryTraits
-ram = record { size = 16; latency = 10; readable = true; writable = true; enables = true; streaming = true; dmi = true; gates = 16 }
+ram = record { size = 16; latency = 10; readable = true; writable = true; enables = false; streaming = true; dmi = true; gates = 16 }
 
--- the same, which can't be written
-rom : MemoryTraits
-unfolding ram
-rom = record ram { writable = false }
+with_log : MemoryTraits → List Entry → LoggedMemory
+with_log m log = record { number = 3; traits = m; first_gate = 0; log = record { entries = log; room = 8; room_bytes = 64 } }
 
-head : Head
-head = record { position = 0; object = Memory 0; txn = record { initiator = 0; seq = 0 }; time = 0 }
+txn : TxnId
+txn = record { initiator = 0; seq = 0 }
 
 aabb : List ℕ
 aabb = 0xaa ∷ 0xbb ∷ []
 
+write_of : ℕ → List ℕ → PayloadView
+write_of address bytes = record (new_payload 8) { command = Write; address = address; bytes = bytes; width = length bytes }
+
+read_of : ℕ → ℕ → PayloadView
+read_of address n = record (new_payload 8) { command = Read; address = address; bytes = zeros n; width = n }
+
+call : PayloadView → RegionCall
+unfolding txn
+call p = Access txn 10 Blocking p
+
+debug : ℕ → ℕ → RegionCall
+unfolding txn read_of
+debug address n = Debug txn 10 (read_of address n)
+
 -- aa bb was written at 0xe
 log : List Entry
-unfolding ram head aabb
-log = entry_at head (answered ram [] (plain_write 0xe aabb)) ∷ []
+unfolding ram with_log txn aabb write_of call
+log = entry_of (with_log ram []) 0 (call (write_of 0xe aabb)) ∷ []
 
-write_at_the_end : answered ram [] (plain_write 0xe aabb) ≡ Accessed Blocking (plain_write 0xe aabb) Ok []
-unfolding ram aabb
+write_at_the_end : (entry_of (with_log ram []) 0 (call (write_of 0xe aabb))).what ≡ Accessed Blocking (access_of (write_of 0xe aabb)) Ok []
+unfolding ram with_log txn aabb write_of call
 write_at_the_end = refl
 
-write_past_the_end : answered ram log (plain_write 0xf aabb) ≡ Accessed Blocking (plain_write 0xf aabb) AddressError []
-unfolding ram aabb
+write_past_the_end : reply_of (with_log ram log) (call (write_of 0xf aabb)) ≡ AccessedReply (record (write_of 0xf aabb) { status = AddressError })
+unfolding ram with_log txn aabb write_of call
 write_past_the_end = refl
 
-read_back : answered ram log (plain_read 0xd 3) ≡ Accessed Blocking (plain_read 0xd 3) Ok (0 ∷ 0xaa ∷ 0xbb ∷ [])
-unfolding ram head aabb log
+read_back : reply_of (with_log ram log) (call (read_of 0xd 3)) ≡ AccessedReply (record (read_of 0xd 3) { bytes = 0 ∷ 0xaa ∷ 0xbb ∷ []; status = Ok; hint = true })
+unfolding ram with_log txn aabb write_of read_of call log
 read_back = refl
 
-read_past_the_end : answered ram log (plain_read 0xf 2) ≡ Accessed Blocking (plain_read 0xf 2) AddressError (0 ∷ 0 ∷ [])
-unfolding ram head aabb log
-read_past_the_end = refl
+enables_are_refused : reply_of (with_log ram log) (call (record (write_of 0xe aabb) { enables = 0xff ∷ [] })) ≡ AccessedReply (record (write_of 0xe aabb) { enables = 0xff ∷ []; status = ByteEnableError })
+unfolding ram with_log txn aabb write_of call
+enables_are_refused = refl
 
-address_before_command : answered rom [] (plain_write 0xf aabb) ≡ Accessed Blocking (plain_write 0xf aabb) AddressError []
-unfolding rom ram aabb
-address_before_command = refl
+no_command_before_enables : reply_of (with_log (record ram { writable = false }) []) (call (record (write_of 0xe aabb) { enables = 0xff ∷ [] })) ≡ AccessedReply (record (write_of 0xe aabb) { enables = 0xff ∷ []; status = CommandError })
+unfolding ram with_log txn aabb write_of call
+no_command_before_enables = refl
 
-refused_command : answered rom [] (plain_write 0xe aabb) ≡ Accessed Blocking (plain_write 0xe aabb) CommandError []
-unfolding rom ram aabb
-refused_command = refl
+debug_across_the_end : reply_of (with_log ram log) (debug 0xf 3) ≡ Moved (record (read_of 0xf 3) { bytes = 0xbb ∷ 0 ∷ 0 ∷ []; status = Ok }) 1
+unfolding ram with_log txn aabb write_of read_of call debug log
+debug_across_the_end = refl
+
+debug_entry : (entry_of (with_log ram log) 1 (debug 0xf 3)).what ≡ Accessed by_debug (debug_access 0xf 3) Ok (0xbb ∷ [])
+unfolding ram with_log txn aabb write_of read_of call debug log
+debug_entry = refl

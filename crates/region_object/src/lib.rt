@@ -1,16 +1,22 @@
 //! A memory of the platform.
 //!
 //! - `Region` is a memory with its log: the entries of all that happened there, in order.
+//! - `RegionCall` is what can be asked of it, with the payload that carries it, and `RegionReply` what
+//!   it answers, with the payload.
 //!
-//! Promises: the bytes of a region are those that the definitions give for its log, as many as its
-//! size, and the status and the bytes that each entry of the log tells are those of the memory as it
-//! was then. A plain write or read adds exactly one entry, whatever its status, and answers what that
-//! entry tells. After want of memory, which is the only error, a region is as it was before.
+//! Promises: a call adds exactly one entry, whatever its status, and entry and reply are those that
+//! the definitions give for the log so far. The bytes of a region are those of its log, as many as its
+//! size, and each status and each byte that the log tells are those of the memory as it was then. A call
+//! for which room was made takes no memory. Where `make_room` is refused memory, a region is as before.
 #![tactic(auto)]
 
-mod copies;
+mod call;
+mod object;
 mod region;
+#[cfg(test)]
+mod shared_tests;
 #[cfg(test)]
 mod tests;
 
+pub use call::{RegionCall, RegionReply};
 pub use region::Region;

@@ -1,24 +1,31 @@
-// A memory with its log, and its plain accesses.
-ghost use Rattle.std.specs.Prelude.{◌≡◌, ◌+◌, ◌<◌, ◌≤◌, ℕ, [], length, IfOk, OnOk, OnErr};
-ghost use Rattle.region_object.specs.Region.{answered, entry_at, plain, plain_read, plain_write, with_entry};
-ghost use Rattle.tlm_model.specs.Log.{IsLog, log_bytes};
-ghost use Rattle.tlm_model.specs.Store.{checked, got_of, is_allowed, status_of, store_after, zeros};
+// A memory with its log, and its accesses.
+ghost use Rattle.std.specs.Prelude.{◌≡◌, ◌≢◌, ◌+◌, ◌<◌, ◌≤◌, max, [], length, take, All, IsOk, IfOk, OnOk, OnErr};
+ghost use Rattle.tlm_types.specs.declared.words.Command.TheVariants.{Read};
 ghost use Rattle.tlm_types.specs.declared.entry.What.TheVariants.{Access as Accessed};
-ghost use Rattle.tlm_types.specs.declared.words.Way.TheVariants.{Blocking};
+ghost use Rattle.tlm_types.specs.Log.{entry_at, kept_sent, with_entry};
+ghost use Rattle.tlm_model.specs.Log.{IsLog, log_bytes};
+ghost use Rattle.tlm_model.specs.Store.{zeros, got_by, stored_by};
+ghost use Rattle.generic_payload.specs.Payload.{access_of, HasPlaces};
+ghost use Rattle.region_object.specs.Call.{IsFit, IsTransport, cost_of, debug_access};
+ghost use Rattle.region_object.specs.Region.{accessed, after_call, answered, buffer_after, debugged, got_told, head_at, reply_of, told_by, with_logged};
 
-use crate::copies::{copy_of, put};
+use crate::call::{RegionCall, RegionReply};
+use generic_payload::Payload;
 use std::alloc::Global;
 use std::marker::Model;
-use tlm_types::{Access, Bytes, Command, Entry, Head, Memory, MemoryTraits, Response, Way, What};
+use tlm_types::{
+    Bytes, Command, Facts, Head, Log, Memory, MemoryTraits, ObjectNo, Ps, Response, TxnId, Way,
+};
 
-/// A memory with its log. Contracts see its number, its traits and its log.
+/// A memory with its log. Contracts see its number, its traits, the number of its first gate, and its
+/// log with the room that it has left.
 #[derive(Drop)]
 pub struct Region {
     number: u32,
     traits: MemoryTraits,
-    alloc: Global,
+    first_gate: u32,
     store: Vec<u8>,
-    entries: Vec<Entry>,
+    log: Log,
 }
 
 impl Model for Region {
@@ -26,24 +33,43 @@ impl Model for Region {
 
     ghost Value = { LoggedMemory };
 
-    ghost view = { λ r. record { number = r.number; traits = r.traits; log = r.entries.items } };
+    ghost view = { λ r. record {
+      number = r.number;
+      traits = r.traits;
+      first_gate = r.first_gate;
+      log = r.log;
+    } };
 
-    ghost invariant = { λ r. IsConsistent r.traits r.store.items r.entries.items };
+    ghost invariant = { λ r. IsConsistent r.number r.traits r.store.items r.log.entries };
 }
 
 impl Region {
-    /// Memory number `number`, counted from 0, with `traits.size` bytes, each zero, and an empty log.
-    /// Its only error is want of memory.
-    pub fn new(alloc: Global, number: u32, traits: MemoryTraits) -> Result<Region, Memory>
-        ensures { IfOk result (λ r. r ≡ record { number = number; traits = traits; log = [] }) }
+    /// Memory number `number`, counted from 0, with `traits.size` bytes, each zero, and an empty log
+    /// with room for so many entries and so many bytes of data and byte enables. Its gates are numbered
+    /// from `first_gate`. Its only error is want of memory.
+    pub fn new(
+        alloc: Global,
+        number: u32,
+        traits: MemoryTraits,
+        entries: u64,
+        bytes: u64,
+        first_gate: u32,
+    ) -> Result<Region, Memory>
+        ensures { IfOk result (λ r. r ≡ record {
+          number = number;
+          traits = traits;
+          first_gate = first_gate;
+          log = record { entries = []; room = entries; room_bytes = bytes };
+        }) }
     {
         let store = vec![in alloc; 0u8; traits.size as usize]?;
+        let log = Log::with_room(alloc, entries, bytes)?;
         Ok(Region {
             number,
             traits,
-            alloc,
+            first_gate,
             store,
-            entries: Vec::new(alloc),
+            log,
         })
     }
 
@@ -61,170 +87,202 @@ impl Region {
         &self.traits
     }
 
-    /// The log: an entry for each access so far, in the order in which they were made.
-    pub fn entries(&self) -> &[Entry]
-        ensures log { result.now ≡ self.now.log }
-        ensures lawful { IsLog self.now.traits self.now.log }
+    /// The number of the memory's first gate.
+    pub fn first_gate(&self) -> u32
+        ensures { result ≡ self.now.first_gate }
     {
-        &self.entries
+        self.first_gate
+    }
+
+    /// The log: an entry for each call so far, in the order in which they were made.
+    pub fn log(&self) -> &Log
+        ensures log { result.now ≡ self.now.log }
+        ensures lawful { IsLog self.now.traits self.now.log.entries }
+        ensures own { All (λ e. e.object ≡ ObjectNo.Memory self.now.number) self.now.log.entries }
+    {
+        &self.log
     }
 
     /// The bytes as the log leaves them, as many as the memory's size.
     pub fn bytes(&self) -> &[u8]
-        ensures bytes { result.now ≡ log_bytes self.now.traits self.now.log }
+        ensures bytes { result.now ≡ log_bytes self.now.traits self.now.log.entries }
         ensures size { length result.now ≡ self.now.traits.size }
     {
         &self.store
     }
 
-    /// Writes these bytes, at least one, from `offset` on, as a blocking access without byte enables
-    /// whose streaming width is its length (IEEE 1666-2011, clause 14). The entry has this head.
-    ///
-    /// Answers ADDRESS_ERROR where the bytes don't lie within the size, else COMMAND_ERROR where the
-    /// memory allows no write, else OK; only then are bytes stored. The only error is want of memory,
-    /// after which the memory and its log are as before.
-    pub fn write(&mut self, head: Head, offset: u64, bytes: &[u8]) -> Result<Response, Memory>
-        requires { 0 < length bytes.now }
-        ensures entry { OnOk result (self.new ≡ with_entry self.old
-            (entry_at head (answered self.old.traits self.old.log (plain_write offset bytes.now)))) }
-        ensures status { IfOk result (λ r. r ≡ status_of self.old.traits Blocking (plain_write offset bytes.now)) }
-        ensures err { OnErr result (self.new ≡ self.old) }
+    /// The log and the bytes, when the memory is done with.
+    pub fn into_parts(self) -> (Log, Bytes)
+        ensures log { result.0 ≡ self.log }
+        ensures lawful { IsLog self.traits self.log.entries }
+        ensures bytes { result.1 ≡ log_bytes self.traits self.log.entries }
+        ensures size { length result.1 ≡ self.traits.size }
     {
-        let status = plain_status(&self.traits, Command::Write, offset, bytes.len() as u64);
-        let sent = Bytes::from_slice(self.alloc, bytes)?;
-        let access = plain_access(self.alloc, Command::Write, offset, sent);
-        let entry = blocking_entry(head, access, status, no_bytes(self.alloc));
-        self.entries.push(entry)?;
-        store_bytes(&mut self.store, status, offset, bytes);
-        Ok(status)
+        (self.log, Bytes::from_vec(self.store))
     }
 
-    /// Reads `length` bytes, at least one, from `offset` on, as a blocking access without byte enables
-    /// whose streaming width is its length (IEEE 1666-2011, clause 14). The entry has this head.
-    ///
-    /// Answers ADDRESS_ERROR where the bytes don't lie within the size, else COMMAND_ERROR where the
-    /// memory allows no read, else OK; beside it the bytes read, or as many zeros where the status
-    /// isn't OK. The only error is want of memory, after which the memory and its log are as before.
-    pub fn read(
-        &mut self,
-        head: Head,
-        offset: u64,
-        length: u32,
-    ) -> Result<(Response, Bytes), Memory>
-        requires { 0 < length }
-        ensures entry { OnOk result (self.new ≡ with_entry self.old
-            (entry_at head (answered self.old.traits self.old.log (plain_read offset length)))) }
-        ensures status { IfOk result (λ r. r.0 ≡ status_of self.old.traits Blocking (plain_read offset length)) }
-        ensures got { IfOk result (λ r. r.1 ≡ got_of Blocking r.0 (plain_read offset length)
-            (log_bytes self.old.traits self.old.log)) }
+    /// Makes room in the log for the bytes of this call. Entries and bytes stay. Its only error is want
+    /// of memory, after which the memory is as before.
+    pub fn make_room(&mut self, call: &RegionCall) -> Result<(), Memory>
+        ensures ok { OnOk result (self.new ≡ record self.old {
+          log = record self.old.log { room_bytes = max self.old.log.room_bytes (cost_of call.now) };
+        }) }
         ensures err { OnErr result (self.new ≡ self.old) }
+        ensures roomy { cost_of call.now ≤ self.old.log.room_bytes → IsOk result }
     {
-        let status = plain_status(&self.traits, Command::Read, offset, length as u64);
-        let sent = zero_bytes(self.alloc, length)?;
-        let access = plain_access(self.alloc, Command::Read, offset, sent);
-        let got = read_bytes(self.alloc, &self.store, status, offset, length)?;
-        let answer = Bytes::from_slice(self.alloc, got.as_slice())?;
-        let entry = blocking_entry(head, access, status, got);
-        self.entries.push(entry)?;
-        Ok((status, answer))
+        self.log.make_room(call.cost())
+    }
+
+    /// Makes this call, and takes no memory: there has to be room for its entry, and for its bytes. The
+    /// entry has this position.
+    ///
+    /// An access comes by blocking transport or with four phases, and a read into a buffer of zeros. The
+    /// payload comes back with the status of `Payload::check`; where that is OK a write has put its
+    /// bytes, and a read has its data. The DMI hint is set exactly where the memory grants direct
+    /// access and the status is OK.
+    ///
+    /// A debug read moves the bytes from its address on, to the memory's end at most, to the front of
+    /// the payload's data, whatever the memory allows (IEEE 1666-2011, clause 11.3). Its status is OK,
+    /// and the hint stays as it was.
+    pub fn apply(&mut self, position: u64, call: RegionCall) -> RegionReply
+        requires fit { IsFit call }
+        requires room { length self.old.log.entries < self.old.log.room }
+        requires room_bytes { cost_of call ≤ self.old.log.room_bytes }
+        ensures memory { self.new ≡ after_call self.old position call }
+        ensures reply { result ≡ reply_of self.old call }
+        ensures left { self.old.log.room_bytes ≤ self.new.log.room_bytes + cost_of call }
+    {
+        match call {
+            RegionCall::Access {
+                txn,
+                time,
+                way,
+                payload,
+            } => {
+                let head = self.head(position, txn, time);
+                let payload = self.access(head, way, payload);
+                RegionReply::Accessed { payload }
+            }
+            RegionCall::Debug { txn, time, payload } => {
+                let head = self.head(position, txn, time);
+                self.debug_read(head, payload)
+            }
+        }
+    }
+
+    fn head(&self, position: u64, txn: TxnId, time: Ps) -> Head
+        ensures { result ≡ head_at self.now position txn time }
+    {
+        Head {
+            position,
+            object: ObjectNo::Memory(self.number),
+            txn,
+            time,
+        }
+    }
+
+    fn access(&mut self, head: Head, way: Way, mut payload: Payload) -> Payload
+        requires head { head.object ≡ ObjectNo.Memory self.old.number }
+        requires way { IsTransport way }
+        requires zeros { payload.command ≡ Read → payload.bytes ≡ zeros (length payload.bytes) }
+        requires room { length self.old.log.entries < self.old.log.room }
+        requires room_bytes { length payload.bytes + length payload.enables ≤ self.old.log.room_bytes }
+        ensures memory { self.new ≡ with_logged self.old
+            (entry_at head (answered self.old.traits self.old.log.entries way (access_of payload))) }
+        ensures payload { result ≡ accessed self.old way payload }
+    {
+        let status = payload.check(&self.traits);
+        move_bytes(&mut payload, &mut self.store, status);
+        payload.set_status(status);
+        payload.set_hint(self.traits.dmi && status == Response::Ok);
+        log_access(&mut self.log, head, way, &payload);
+        payload
+    }
+
+    fn debug_read(&mut self, head: Head, mut payload: Payload) -> RegionReply
+        requires head { head.object ≡ ObjectNo.Memory self.old.number }
+        requires read { payload.command ≡ Read }
+        requires room { length self.old.log.entries < self.old.log.room }
+        requires room_bytes { length payload.bytes ≤ self.old.log.room_bytes }
+        ensures memory { self.new ≡ with_logged self.old (entry_at head
+            (answered self.old.traits self.old.log.entries Way.Debug (debug_access payload.address (length payload.bytes)))) }
+        ensures reply { result ≡ debugged self.old payload }
+    {
+        let moved = payload.debug_from(&self.store);
+        payload.set_status(Response::Ok);
+        log_debug(&mut self.log, head, &payload, moved);
+        RegionReply::Moved { payload, moved }
     }
 }
 
-// The first check of a plain access that fails. Which bytes are sent makes no difference to it.
-fn plain_status(traits: &MemoryTraits, command: Command, offset: u64, length: u64) -> Response
-    requires { 0 < length }
-    ensures status { result ≡ checked traits.now (plain command offset length []) }
-    ensures inside { result ≡ Response.Ok → offset + length ≤ traits.now.size }
+// Does what an access with this status does: a write puts its bytes, and a read takes them.
+fn move_bytes(payload: &mut Payload, store: &mut [u8], status: Response)
+    requires { status ≡ Response.Ok → payload.old.command ≢ Command.Ignore →
+        HasPlaces (access_of payload.old) (length store.old) }
+    ensures store { store.new ≡ stored_by payload.old.command status (access_of payload.old) store.old }
+    ensures payload { let got = got_by payload.old.command status (access_of payload.old) store.old in
+        payload.new ≡ record payload.old { bytes = buffer_after payload.old.command got payload.old.bytes } }
 {
-    if offset > traits.size || length > traits.size - offset {
-        return Response::AddressError;
+    if status != Response::Ok {
+        return;
     }
-    if !allows(traits, command) {
-        return Response::CommandError;
-    }
-    Response::Ok
-}
-
-// The memory allows the command.
-fn allows(traits: &MemoryTraits, command: Command) -> bool
-    ensures { result ≡ is_allowed traits.now command }
-{
-    match command {
-        Command::Read => traits.readable,
-        Command::Write => traits.writable,
-        Command::Ignore => true,
+    match payload.command() {
+        Command::Write => payload.write_into(store),
+        Command::Read => payload.read_from(store),
+        Command::Ignore => {}
     }
 }
 
-fn plain_access(alloc: Global, command: Command, offset: u64, sent: Bytes) -> Access
-    ensures { result ≡ plain command offset (length sent) sent }
+// Adds the entry of an access, which the payload tells afterwards.
+fn log_access(log: &mut Log, head: Head, way: Way, payload: &Payload)
+    requires room { length log.old.entries < log.old.room }
+    requires room_bytes { length payload.now.bytes + length payload.now.enables ≤ log.old.room_bytes }
+    requires way { IsTransport way }
+    ensures { log.new ≡ with_entry log.old (entry_at head (told_by way payload.now)) }
 {
-    let length = sent.as_slice().len() as u64;
-    Access {
-        command,
-        offset,
-        length,
-        sent,
-        enables: no_bytes(alloc),
-        width: length,
+    let facts = Facts {
+        way,
+        command: payload.command(),
+        offset: payload.address(),
+        length: payload.bytes().len() as u64,
+        width: payload.width(),
+        status: payload.status(),
+    };
+    let (sent, got) = sent_and_got(payload);
+    let Ok(()) = log.push_access(head, facts, sent, payload.enables(), got) else {
+        unreachable!()
+    };
+}
+
+// What the log keeps of the data: for a read what it got, else what was sent.
+fn sent_and_got(payload: &Payload) -> (&[u8], &[u8])
+    ensures sent { result.0.now ≡ kept_sent payload.now.command payload.now.bytes }
+    ensures got { result.1.now ≡ got_told payload.now.command payload.now.bytes }
+{
+    match payload.command() {
+        Command::Read => (&[], payload.bytes()),
+        Command::Write | Command::Ignore => (payload.bytes(), &[]),
     }
 }
 
-fn no_bytes(alloc: Global) -> Bytes
-    ensures { result ≡ [] }
+// Adds the entry of a debug read, whose payload begins with the bytes moved.
+fn log_debug(log: &mut Log, head: Head, payload: &Payload, moved: u64)
+    requires moved { moved ≤ length payload.now.bytes }
+    requires room { length log.old.entries < log.old.room }
+    requires room_bytes { moved ≤ log.old.room_bytes }
+    ensures { log.new ≡ with_entry log.old (entry_at head (Accessed Way.Debug
+        (debug_access payload.now.address (length payload.now.bytes)) Response.Ok (take moved payload.now.bytes))) }
 {
-    Bytes::from_vec(Vec::new(alloc))
-}
-
-fn zero_bytes(alloc: Global, count: u32) -> Result<Bytes, Memory>
-    ensures { IfOk result (λ b. b ≡ zeros count) }
-{
-    let bytes = vec![in alloc; 0u8; count as usize]?;
-    Ok(Bytes::from_vec(bytes))
-}
-
-// What a plain write with this status does to the bytes.
-fn store_bytes(store: &mut [u8], status: Response, offset: u64, bytes: &[u8])
-    requires { status ≡ Response.Ok → offset + length bytes.now ≤ length store.old }
-    ensures { store.new ≡ store_after Blocking status (plain_write offset bytes.now) store.old }
-{
-    if status == Response::Ok {
-        put(store, offset as usize, bytes);
-    }
-}
-
-// What a plain read with this status answers.
-fn read_bytes(
-    alloc: Global,
-    store: &[u8],
-    status: Response,
-    offset: u64,
-    count: u32,
-) -> Result<Bytes, Memory>
-    requires { status ≡ Response.Ok → offset + count ≤ length store.now }
-    ensures { IfOk result (λ b. b ≡ got_of Blocking status (plain_read offset count) store.now) }
-{
-    if status == Response::Ok {
-        let bytes = copy_of(alloc, store, offset as usize, count as usize)?;
-        Ok(Bytes::from_vec(bytes))
-    } else {
-        zero_bytes(alloc, count)
-    }
-}
-
-fn blocking_entry(head: Head, access: Access, status: Response, got: Bytes) -> Entry
-    ensures { result ≡ entry_at head (Accessed Blocking access status got) }
-{
-    Entry {
-        position: head.position,
-        object: head.object,
-        txn: head.txn,
-        time: head.time,
-        what: What::Access {
-            way: Way::Blocking,
-            access,
-            status,
-            got,
-        },
-    }
+    let bytes = payload.bytes();
+    let facts = Facts {
+        way: Way::Debug,
+        command: Command::Read,
+        offset: payload.address(),
+        length: bytes.len() as u64,
+        width: bytes.len() as u64,
+        status: Response::Ok,
+    };
+    let Ok(()) = log.push_access(head, facts, &[], &[], &bytes[..moved as usize]) else {
+        unreachable!()
+    };
 }

@@ -1,11 +1,18 @@
-use crate::Region;
+ghost use Rattle.std.specs.Prelude.{◌≡◌, ◌+◌, ◌<◌, length, IfOk, OnOk};
+ghost use Rattle.std.specs.List.{list_all};
+ghost use Rattle.tlm_model.specs.Store.{zeros};
+ghost use Rattle.generic_payload.specs.Payload.{is_enable};
+ghost use Rattle.region_object.specs.Call.{IsFit};
+
+use crate::{Region, RegionCall, RegionReply};
+use generic_payload::Payload;
 use std::alloc::Global;
 use std::process::Abort;
 use std::test::Fail;
-use tlm_types::{Command, Entry, Head, MemoryTraits, ObjectNo, Response, TxnId, Way, What};
+use tlm_types::{Command, Facts, Head, Log, MemoryTraits, ObjectNo, Response, TxnId, Way};
 
 const RAM: MemoryTraits = MemoryTraits {
-    size: 256,
+    size: 8,
     latency: 10,
     readable: true,
     writable: true,
@@ -15,147 +22,367 @@ const RAM: MemoryTraits = MemoryTraits {
     gates: 16,
 };
 
-fn head(position: u64, time: u64) -> Head {
-    Head {
-        position,
-        object: ObjectNo::Memory(3),
-        txn: TxnId {
-            initiator: 2,
-            seq: position,
-        },
-        time,
+const PLAIN: MemoryTraits = MemoryTraits {
+    enables: false,
+    streaming: false,
+    dmi: false,
+    ..RAM
+};
+
+const ROM: MemoryTraits = MemoryTraits {
+    writable: false,
+    enables: false,
+    ..RAM
+};
+
+const PORT: MemoryTraits = MemoryTraits {
+    readable: false,
+    ..RAM
+};
+
+const TXN: TxnId = TxnId {
+    initiator: 2,
+    seq: 5,
+};
+
+// What is asked for: the bytes of a write, or the length of a read.
+#[derive(Clone, Copy)]
+enum Asked<'a> {
+    Write(&'a [u8]),
+    Read(u32),
+    Ignore,
+    Debug(u32),
+}
+
+// A call on a memory into which 1 to 8 were written, as far as it can be written: what is asked for,
+// and the status, the data and the memory's bytes afterwards. Of a debug read `moved` bytes are data.
+#[derive(Drop)]
+struct Row<'a> {
+    traits: MemoryTraits,
+    asked: Asked<'a>,
+    address: u64,
+    enables: &'a [u8],
+    width: u64,
+    status: Response,
+    moved: usize,
+    data: &'a [u8],
+    store: [u8; 8],
+}
+
+const FILLED: [u8; 8] = [1, 2, 3, 4, 5, 6, 7, 8];
+
+const WRITE: Row<'static> = Row {
+    traits: RAM,
+    asked: Asked::Write(&[0xaa, 0xbb, 0xcc]),
+    address: 2,
+    enables: &[],
+    width: 3,
+    status: Response::Ok,
+    moved: 0,
+    data: &[0xaa, 0xbb, 0xcc],
+    store: [1, 2, 0xaa, 0xbb, 0xcc, 6, 7, 8],
+};
+
+const READ: Row<'static> = Row {
+    traits: RAM,
+    asked: Asked::Read(4),
+    address: 4,
+    enables: &[],
+    width: 4,
+    status: Response::Ok,
+    moved: 0,
+    data: &[5, 6, 7, 8],
+    store: FILLED,
+};
+
+const DEBUG: Row<'static> = Row {
+    traits: RAM,
+    asked: Asked::Debug(4),
+    address: 6,
+    enables: &[],
+    width: 4,
+    status: Response::Ok,
+    moved: 2,
+    data: &[7, 8, 0, 0],
+    store: FILLED,
+};
+
+const ROWS: [Row<'static>; 17] = [
+    WRITE,
+    // Enables repeat, and a disabled byte isn't written.
+    Row {
+        enables: &[0xff, 0x00],
+        store: [1, 2, 0xaa, 4, 0xcc, 6, 7, 8],
+        ..WRITE
+    },
+    // A streaming write: of the bytes at one place the last stays.
+    Row {
+        asked: Asked::Write(&[0xa1, 0xa2, 0xa3, 0xa4, 0xa5]),
+        width: 2,
+        data: &[0xa1, 0xa2, 0xa3, 0xa4, 0xa5],
+        store: [1, 2, 0xa5, 0xa4, 5, 6, 7, 8],
+        ..WRITE
+    },
+    READ,
+    // A disabled byte of a read stays zero.
+    Row {
+        enables: &[0x00, 0xff],
+        data: &[0, 6, 0, 8],
+        ..READ
+    },
+    Row {
+        address: 5,
+        status: Response::AddressError,
+        data: &[0, 0, 0, 0],
+        ..READ
+    },
+    Row {
+        traits: PORT,
+        status: Response::CommandError,
+        data: &[0, 0, 0, 0],
+        ..READ
+    },
+    // The checks in their order.
+    Row {
+        traits: ROM,
+        address: 6,
+        enables: &[0xff],
+        width: 0,
+        status: Response::AddressError,
+        store: [0; 8],
+        ..WRITE
+    },
+    Row {
+        traits: ROM,
+        enables: &[0xff],
+        width: 0,
+        status: Response::CommandError,
+        store: [0; 8],
+        ..WRITE
+    },
+    Row {
+        traits: PLAIN,
+        enables: &[0xff],
+        width: 0,
+        status: Response::ByteEnableError,
+        store: FILLED,
+        ..WRITE
+    },
+    Row {
+        width: 0,
+        status: Response::BurstError,
+        store: FILLED,
+        ..WRITE
+    },
+    Row {
+        traits: PLAIN,
+        width: 2,
+        status: Response::BurstError,
+        store: FILLED,
+        ..WRITE
+    },
+    Row {
+        traits: PLAIN,
+        ..READ
+    },
+    Row {
+        asked: Asked::Ignore,
+        address: 100,
+        width: 0,
+        data: &[],
+        store: FILLED,
+        ..WRITE
+    },
+    DEBUG,
+    Row {
+        address: 8,
+        moved: 0,
+        data: &[0, 0, 0, 0],
+        ..DEBUG
+    },
+    Row {
+        traits: PORT,
+        address: 1,
+        moved: 4,
+        data: &[2, 3, 4, 5],
+        ..DEBUG
+    },
+];
+
+// The payload of the row, with the hint set where it is a debug read.
+fn payload_of(rt: &impl Abort, alloc: Global, row: &Row) -> Result<Payload, Fail>
+    ensures { IfOk result (λ p. p.command ≡ Command.Read → p.bytes ≡ zeros (length p.bytes)) }
+{
+    let mut payload = Payload::with_room(alloc, 8)?;
+    match row.asked {
+        Asked::Write(bytes) => {
+            assert!(rt; 0 < bytes.len() && bytes.len() <= 8);
+            payload.set_write(row.address, bytes, row.width);
+        }
+        Asked::Read(length) => {
+            assert!(rt; 0 < length && length <= 8);
+            payload.set_read(row.address, length, row.width);
+        }
+        Asked::Ignore => payload.set_ignore(row.address),
+        Asked::Debug(length) => {
+            assert!(rt; 0 < length && length <= 8);
+            payload.set_read(row.address, length, row.width);
+            payload.set_hint(true);
+        }
+    }
+    assert!(rt; row.enables.len() <= 8 && are_enables(row.enables));
+    payload.set_enables(row.enables);
+    Ok(payload)
+}
+
+fn are_enables(elements: &[u8]) -> bool
+    ensures { result ≡ list_all is_enable elements.now }
+{
+    elements
+        .iter()
+        .all(|element| *element == 0x00 || *element == 0xff)
+}
+
+fn call_of(rt: &impl Abort, payload: Payload, row: &Row) -> RegionCall
+    requires { payload.command ≡ Command.Read → payload.bytes ≡ zeros (length payload.bytes) }
+    ensures { IsFit result }
+{
+    if !matches!(row.asked, Asked::Debug(_)) {
+        return RegionCall::Access {
+            txn: TXN,
+            time: 15,
+            way: Way::FourPhase,
+            payload,
+        };
+    }
+    assert!(rt; payload.command() == Command::Read);
+    RegionCall::Debug {
+        txn: TXN,
+        time: 15,
+        payload,
     }
 }
 
-fn sixteen_bytes(alloc: Global, readable: bool, writable: bool) -> Result<Region, Fail> {
-    let traits = MemoryTraits {
-        size: 16,
-        readable,
-        writable,
-        ..RAM
+// Makes room for the call, and makes it.
+fn apply(region: &mut Region, position: u64, call: RegionCall) -> Result<RegionReply, Fail>
+    requires fit { IsFit call }
+    requires room { length region.old.log.entries < region.old.log.room }
+    ensures entries { OnOk result (length region.new.log.entries ≡ length region.old.log.entries + 1) }
+    ensures room { OnOk result (region.new.log.room ≡ region.old.log.room) }
+{
+    region.make_room(&call)?;
+    Ok(region.apply(position, call))
+}
+
+// A memory with these traits and room for two entries, into which 1 to 8 were written.
+fn filled(alloc: Global, traits: MemoryTraits) -> Result<Region, Fail>
+    ensures entries { IfOk result (λ r. length r.log.entries ≡ 1) }
+    ensures room { IfOk result (λ r. r.log.room ≡ 2) }
+{
+    let mut region = Region::new(alloc, 3, traits, 2, 0, 40)?;
+    let mut payload = Payload::with_room(alloc, 8)?;
+    payload.set_write(0, &FILLED, 8);
+    let call = RegionCall::Access {
+        txn: TXN,
+        time: 0,
+        way: Way::Blocking,
+        payload,
     };
-    Ok(Region::new(alloc, 3, traits)?)
+    apply(&mut region, 0, call)?;
+    Ok(region)
 }
 
-fn check_write(
-    rt: &impl Abort,
-    ram: &mut Region,
-    offset: u64,
-    bytes: &[u8],
-    status: Response,
-) -> Result<(), Fail> {
-    assert!(rt; !bytes.is_empty());
+fn check_reply(rt: &impl Abort, reply: &RegionReply, row: &Row) {
+    let (payload, hint) = match reply {
+        RegionReply::Accessed { payload } => {
+            assert!(rt; !matches!(row.asked, Asked::Debug(_)));
+            (payload, row.traits.dmi && row.status == Response::Ok)
+        }
+        RegionReply::Moved { payload, moved } => {
+            assert_eq!(rt; *moved, row.moved as u64);
+            (payload, true)
+        }
+    };
+    assert_eq!(rt; payload.status(), row.status);
+    assert_eq!(rt; payload.hint(), hint);
+    assert_eq!(rt; payload.bytes(), row.data);
+    assert_eq!(rt; payload.enables(), row.enables);
+}
+
+// The last entry of the log tells the row.
+fn check_entry(rt: &impl Abort, log: &Log, row: &Row) {
+    let (way, command, sent, got) = match row.asked {
+        Asked::Write(bytes) => (Way::FourPhase, Command::Write, bytes, &row.data[..0]),
+        Asked::Read(_) => (Way::FourPhase, Command::Read, &row.data[..0], row.data),
+        Asked::Ignore => (Way::FourPhase, Command::Ignore, row.data, row.data),
+        Asked::Debug(_) => {
+            assert!(rt; row.moved <= row.data.len());
+            (
+                Way::Debug,
+                Command::Read,
+                &row.data[..0],
+                &row.data[..row.moved],
+            )
+        }
+    };
+    assert_eq!(rt; log.len(), 2);
     assert_eq!(rt;
-        ram.write(head(0, 0), offset, bytes)?,
-        status,
-        "write {offset:#x}"
+        log.head(1),
+        Head {
+            position: 7,
+            object: ObjectNo::Memory(3),
+            txn: TXN,
+            time: 15,
+        }
     );
-    Ok(())
-}
-
-fn check_read(
-    rt: &impl Abort,
-    ram: &mut Region,
-    offset: u64,
-    status: Response,
-    bytes: &[u8],
-) -> Result<(), Fail> {
-    assert!(rt; 0 < bytes.len() && bytes.len() <= 256);
-    let (answer, got) = ram.read(head(0, 0), offset, bytes.len() as u32)?;
-    assert_eq!(rt; answer, status, "read {offset:#x}");
-    assert_eq!(rt; got.as_slice(), bytes, "read {offset:#x}");
-    Ok(())
-}
-
-#[test]
-fn bytes_lie_within_the_size(rt: HostRuntime) -> Result<(), Fail> {
-    let mut ram = Region::new(rt.alloc(), 3, RAM)?;
-    check_write(&rt, &mut ram, 0x10, &[0xde, 0xad, 0xbe, 0xef], Response::Ok)?;
-    check_read(&rt, &mut ram, 0x10, Response::Ok, &[0xde, 0xad, 0xbe, 0xef])?;
-    check_write(&rt, &mut ram, 0xfe, &[0xaa, 0xbb], Response::Ok)?;
-    for offset in [0xff, 0x100, u64::MAX - 1, u64::MAX] {
-        check_write(&rt, &mut ram, offset, &[0xcc, 0xdd], Response::AddressError)?;
-        check_read(&rt, &mut ram, offset, Response::AddressError, &[0, 0])?;
-    }
-    check_read(&rt, &mut ram, 0xfe, Response::Ok, &[0xaa, 0xbb])?;
-    let bytes = ram.bytes();
-    assert_eq!(rt; bytes.len(), 256);
-    assert_eq!(rt; &bytes[0xfc..], [0, 0, 0xaa, 0xbb].as_slice());
-    Ok(())
-}
-
-#[test]
-fn the_address_is_tested_before_the_command(rt: HostRuntime) -> Result<(), Fail> {
-    let mut rom = sixteen_bytes(rt.alloc(), true, false)?;
-    check_write(&rt, &mut rom, 0x10, &[0xaa], Response::AddressError)?;
-    check_write(&rt, &mut rom, 0xf, &[0xaa], Response::CommandError)?;
-    check_read(&rt, &mut rom, 0xf, Response::Ok, &[0])?;
-    let mut port = sixteen_bytes(rt.alloc(), false, true)?;
-    check_write(&rt, &mut port, 0x0, &[0xaa, 0xbb], Response::Ok)?;
-    check_read(&rt, &mut port, 0x0, Response::CommandError, &[0, 0])?;
-    check_read(&rt, &mut port, 0xf, Response::AddressError, &[0, 0])?;
-    Ok(())
-}
-
-// The entry has this head, and tells a plain access at 0x10 whose status is OK.
-fn check_entry(
-    rt: &impl Abort,
-    entry: &Entry,
-    head: Head,
-    command: Command,
-    sent: &[u8],
-    received: &[u8],
-) {
-    assert_eq!(rt; entry.position, head.position);
-    assert_eq!(rt; entry.object, head.object);
-    assert_eq!(rt; entry.txn, head.txn);
-    assert_eq!(rt; entry.time, head.time);
-    let What::Access {
-        way,
-        access,
-        status,
-        got,
-    } = &entry.what
-    else {
+    let Some(facts) = log.facts(1) else {
         panic!(rt; "no access");
     };
-    assert_eq!(rt; *way, Way::Blocking);
-    assert_eq!(rt; *status, Response::Ok);
-    assert_eq!(rt; got.as_slice(), received);
-    assert_eq!(rt; access.command, command);
-    assert_eq!(rt; access.offset, 0x10);
-    assert_eq!(rt; access.length, 2);
-    assert_eq!(rt; access.width, 2);
-    assert_eq!(rt; access.sent.as_slice(), sent);
-    assert!(rt; access.enables.as_slice().is_empty());
+    assert_eq!(rt;
+        facts,
+        Facts {
+            way,
+            command,
+            offset: row.address,
+            length: row.data.len() as u64,
+            width: row.width,
+            status: row.status,
+        }
+    );
+    if facts.command != Command::Read {
+        assert_eq!(rt; log.sent(1), sent);
+    }
+    assert_eq!(rt; log.enables(1), row.enables);
+    assert_eq!(rt; log.got(1), got);
+}
+
+fn check_row(rt: &impl Abort, alloc: Global, row: &Row) -> Result<(), Fail> {
+    let mut region = filled(alloc, row.traits)?;
+    let payload = payload_of(rt, alloc, row)?;
+    let call = call_of(rt, payload, row);
+    let reply = apply(&mut region, 7, call)?;
+    check_reply(rt, &reply, row);
+    check_entry(rt, region.log(), row);
+    assert_eq!(rt; region.bytes(), row.store.as_slice());
+    Ok(())
 }
 
 #[test]
-fn entries_tell_what_was_handed_in(rt: HostRuntime) -> Result<(), Fail> {
-    let mut ram = Region::new(rt.alloc(), 3, RAM)?;
-    assert_eq!(rt; ram.number(), 3);
-    assert_eq!(rt; *ram.traits(), RAM);
-    assert!(rt; ram.entries().is_empty());
-    ram.write(head(7, 40), 0x10, &[0xde, 0xad])?;
-    ram.read(head(9, 50), 0x10, 2)?;
-    let [written, read] = ram.entries() else {
-        panic!(rt; "not two entries");
-    };
-    check_entry(
-        &rt,
-        written,
-        head(7, 40),
-        Command::Write,
-        &[0xde, 0xad],
-        &[],
-    );
-    check_entry(
-        &rt,
-        read,
-        head(9, 50),
-        Command::Read,
-        &[0, 0],
-        &[0xde, 0xad],
-    );
+fn a_memory_answers_and_tells_its_calls(rt: HostRuntime) -> Result<(), Fail> {
+    for row in &ROWS {
+        check_row(&rt, rt.alloc(), row)?;
+    }
+    Ok(())
+}
+
+#[test]
+fn a_memory_keeps_what_it_was_made_of(rt: HostRuntime) -> Result<(), Fail> {
+    let region = filled(rt.alloc(), RAM)?;
+    assert_eq!(rt; region.number(), 3);
+    assert_eq!(rt; *region.traits(), RAM);
+    assert_eq!(rt; region.first_gate(), 40);
+    let (log, bytes) = region.into_parts();
+    assert_eq!(rt; log.len(), 1);
+    assert_eq!(rt; bytes.as_slice(), FILLED.as_slice());
     Ok(())
 }

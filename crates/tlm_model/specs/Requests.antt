@@ -1,5 +1,5 @@
 -- What an initiator asks for, and when.
-use Rattle.std.specs.Prelude.{ℕ, ◌+◌, ◌*◌, ◌%◌, ◌/◌, ◌^◌, Bool, ◌&&◌, List, [], ◌∷◌, length, Option, Some, None, if◌then◌else◌, ◌==◌}
+use Rattle.std.specs.Prelude.{ℕ, ◌+◌, ◌*◌, ◌%◌, ◌/◌, ◌^◌, Bool, ◌&&◌, List, [], ◌∷◌, length, Option, Some, None, unwrap_or, if◌then◌else◌, ◌==◌}
 use Rattle.tlm_types.specs.declared.words.Command.TheVariants.{Read as read_command, Write as write_command, Ignore as ignore_command}
 use Rattle.tlm_types.specs.declared.words.TxnId.{TxnId}
 use Rattle.tlm_types.specs.declared.entry.Access.{Access}
@@ -124,10 +124,10 @@ using (Some got) next = next got
 abbrev pub requests_from : Platform → Initiator → List Entry → ℕ → ℕ → ℕ → List Operation → List Request
 requests_from p i h s t g [] = []
 requests_from p i h s t g (Write a bytes enables width ∷ ops) =
-    record { seq = s; address = a; asked = Transport (write_of bytes enables width); time = t; stage = g } ∷
+    record { seq = s; address = a; asked = Transport (write_of bytes enables (unwrap_or width (length bytes))); time = t; stage = g } ∷
     requests_from p i h (s + 1) (later t (latency_of p i a)) g ops
 requests_from p i h s t g (Read a n enables width ∷ ops) =
-    record { seq = s; address = a; asked = Transport (read_of n enables width); time = t; stage = g } ∷
+    record { seq = s; address = a; asked = Transport (read_of n enables (unwrap_or width n)); time = t; stage = g } ∷
     requests_from p i h (s + 1) (later t (latency_of p i a)) g ops
 requests_from p i h s t g (Ignore a ∷ ops) =
     record { seq = s; address = a; asked = Transport ignore_of; time = t; stage = g } ∷

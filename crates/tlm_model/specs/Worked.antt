@@ -1,5 +1,5 @@
 -- Worked runs: plans, histories and texts that were made by hand.
-use Rattle.std.specs.Prelude.{ℕ, ◌≡◌, List, [], ◌∷◌, ◌++◌, length, true, codes}
+use Rattle.std.specs.Prelude.{ℕ, ◌≡◌, List, [], ◌∷◌, ◌++◌, length, true, codes, Some, None}
 use Rattle.tlm_types.specs.declared.words.Command.{Command}
 use Rattle.tlm_types.specs.declared.words.Command.TheVariants.{Read as read_command, Write as write_command, Ignore as ignore_command}
 use Rattle.tlm_types.specs.declared.words.ObjectNo.TheVariants.{Memory as memory_object}
@@ -69,7 +69,7 @@ deadbeef = 0xde ∷ 0xad ∷ 0xbe ∷ 0xef ∷ []
 
 -- what was written is read back
 unfoldable pub readback_plan : Plan
-readback_plan = lone (Write 0x10 deadbeef [] 4 ∷ Read 0x10 4 [] 4 ∷ [])
+readback_plan = lone (Write 0x10 deadbeef [] None ∷ Read 0x10 4 [] None ∷ [])
 
 unfoldable pub readback : List Entry
 readback = entry 0 0 0 (wrote 0x10 deadbeef Ok) ∷ entry 1 1 10 (read 0x10 deadbeef Ok) ∷ []
@@ -86,7 +86,7 @@ empty_text = codes "tlm-report 1\ninitiator cpu blocking transactions 0 refused 
 
 -- a write that ends at the last byte, and one that goes past it
 unfoldable pub past_end_plan : Plan
-past_end_plan = lone (Write 0xfe (0xaa ∷ 0xbb ∷ []) [] 2 ∷ Write 0xff (0xcc ∷ 0xdd ∷ []) [] 2 ∷ [])
+past_end_plan = lone (Write 0xfe (0xaa ∷ 0xbb ∷ []) [] None ∷ Write 0xff (0xcc ∷ 0xdd ∷ []) [] None ∷ [])
 
 unfoldable pub past_end : List Entry
 past_end = entry 0 0 0 (wrote 0xfe (0xaa ∷ 0xbb ∷ []) Ok) ∷ entry 1 1 10 (wrote 0xff (0xcc ∷ 0xdd ∷ []) AddressError) ∷ []
@@ -96,7 +96,7 @@ past_end_text = codes "tlm-report 1\n0 0 cpu.0 ram blocking write 0xfe 2 be=- sw
 
 -- a write whose second enable is off: the enables repeat
 unfoldable pub enables_plan : Plan
-enables_plan = lone (Write 0x0 (1 ∷ 2 ∷ 3 ∷ 4 ∷ []) (0xff ∷ 0 ∷ []) 4 ∷ [])
+enables_plan = lone (Write 0x0 (1 ∷ 2 ∷ 3 ∷ 4 ∷ []) (0xff ∷ 0 ∷ []) None ∷ [])
 
 unfoldable pub enables : List Entry
 enables = entry 0 0 0 (made Blocking write_command 0 4 (1 ∷ 2 ∷ 3 ∷ 4 ∷ []) (0xff ∷ 0 ∷ []) 4 Ok []) ∷ []
@@ -106,7 +106,7 @@ enables_text = codes "tlm-report 1\n0 0 cpu.0 ram blocking write 0x0 4 be=ff00 s
 
 -- a write of five bytes that streams over two places: the last byte at a place wins
 unfoldable pub streaming_plan : Plan
-streaming_plan = lone (Write 0x0 (1 ∷ 2 ∷ 3 ∷ 4 ∷ 5 ∷ []) [] 2 ∷ [])
+streaming_plan = lone (Write 0x0 (1 ∷ 2 ∷ 3 ∷ 4 ∷ 5 ∷ []) [] (Some 2) ∷ [])
 
 unfoldable pub streaming : List Entry
 streaming = entry 0 0 0 (made Blocking write_command 0 5 (1 ∷ 2 ∷ 3 ∷ 4 ∷ 5 ∷ []) [] 2 Ok []) ∷ []
@@ -126,7 +126,7 @@ ignore_text = codes "tlm-report 1\n0 0 cpu.0 ram blocking ignore 0xfff 0 be=- sw
 
 -- a debug read takes no time, and moves the bytes up to the memory's end
 unfoldable pub debug_plan : Plan
-debug_plan = lone (Write 0xfe (0xaa ∷ 0xbb ∷ []) [] 2 ∷ Debug 0xfe 4 ∷ [])
+debug_plan = lone (Write 0xfe (0xaa ∷ 0xbb ∷ []) [] None ∷ Debug 0xfe 4 ∷ [])
 
 unfoldable pub debugged : List Entry
 debugged = entry 0 0 0 (wrote 0xfe (0xaa ∷ 0xbb ∷ []) Ok) ∷ entry 1 1 10 (made by_debug read_command 0xfe 4 [] [] 4 Ok (0xaa ∷ 0xbb ∷ [])) ∷ []
@@ -142,7 +142,7 @@ abbrev pub one : List ℕ
 one = 1 ∷ 0 ∷ 0 ∷ 0 ∷ []
 
 unfoldable pub sum_plan : Plan
-sum_plan = lone (Write 0x0 ones [] 4 ∷ Add 0x0 2 ∷ Copy 0x0 0x8 4 ∷ [])
+sum_plan = lone (Write 0x0 ones [] None ∷ Add 0x0 2 ∷ Copy 0x0 0x8 4 ∷ [])
 
 unfoldable pub summed : List Entry
 summed = entry 0 0 0 (wrote 0 ones Ok) ∷ entry 1 1 10 (read 0 ones Ok) ∷ entry 2 2 20 (wrote 0 one Ok) ∷ entry 3 3 30 (read 0 one Ok) ∷ entry 4 4 40 (wrote 8 one Ok) ∷ []
@@ -151,7 +151,7 @@ abbrev pub sum_text : List ℕ
 sum_text = codes "tlm-report 1\n0 0 cpu.0 ram blocking write 0x0 4 be=- sw=4 ffffffff ok\n1 10 cpu.1 ram blocking read 0x0 4 be=- sw=4 ffffffff ok\n2 20 cpu.2 ram blocking write 0x0 4 be=- sw=4 01000000 ok\n3 30 cpu.3 ram blocking read 0x0 4 be=- sw=4 01000000 ok\n4 40 cpu.4 ram blocking write 0x8 4 be=- sw=4 01000000 ok\ninitiator cpu blocking transactions 5 refused 0 syncs 3 end 50\nmemory ram 256\n00000000 01000000000000000100000000000000\nend 5\n"
 
 abbrev pub byte_read : ℕ → Operation
-byte_read address = Read address 1 [] 1
+byte_read address = Read address 1 [] None
 
 abbrev pub zero_read : ℕ → What
 zero_read offset = read offset (0 ∷ []) Ok

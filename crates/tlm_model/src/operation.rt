@@ -5,19 +5,19 @@ use tlm_types::{Bytes, Ps};
 /// times in picoseconds.
 #[derive(Drop)]
 pub enum Operation {
-    /// Writes 1 to 4,096 bytes.
+    /// Writes 1 to 4,096 bytes. Without a streaming width of its own the width is the data length.
     Write {
         address: u64,
         bytes: Bytes,
         enables: Bytes,
-        width: u64,
+        width: Option<u64>,
     },
-    /// Reads 1 to 4,096 bytes.
+    /// Reads 1 to 4,096 bytes. Without a streaming width of its own the width is the data length.
     Read {
         address: u64,
         length: u64,
         enables: Bytes,
-        width: u64,
+        width: Option<u64>,
     },
     /// Sends the ignore command, with no data.
     Ignore {

@@ -1,6 +1,5 @@
-mod Runs
-mod Ends
-mod Texts
-mod RowSteps
-mod ReportLemmas
-mod Writing
+mod Lines
+mod Loading
+mod LoneShape
+mod Planning
+pub mod Completeness

@@ -1,28 +1,43 @@
 -- The answers: their numbers, and the line that tells of each.
-use Rattle.std.specs.Prelude.{ℕ, List, [], ◌++◌, Bool, true, false, codes}
+use Rattle.std.specs.Prelude.{ℕ, List, [], ◌∷◌, Bool, true, false, codes}
 use Rattle.std.specs.Fmt.{decimal}
-use Rattle.traffic_script.specs.Reading.{code_word}
+use Rattle.std.specs.List.{concat}
+use Rattle.platform_file.specs.Code.{code_word as platform_word}
+use Rattle.platform_file.specs.declared.fault.PlatformFault.{PlatformFault}
+use Rattle.platform_file.specs.declared.fault.PlatformFault.TheVariants.{Refused, Memory}
+use Rattle.traffic_script.specs.Reading.{code_word as script_word}
 use Rattle.tlm_top.specs.declared.exit.Exit.{Exit}
-use Rattle.tlm_top.specs.declared.exit.Exit.TheVariants.{Done, Usage, ScriptRefused, ReadFault, WriteFault, NoMemory, TooLong}
+use Rattle.tlm_top.specs.declared.exit.Exit.TheVariants.{Done, Usage, PlatformRefused, ScriptRefused, ReadFault, WriteFault, NoMemory, TooLong}
 
 abbrev pub number_of : Exit → ℕ
 number_of Done = 0
 number_of Usage = 1
-number_of (ScriptRefused initiator line code) = 3
+number_of (PlatformRefused code table key) = 2
+number_of (ScriptRefused initiator name line code) = 3
 number_of (ReadFault name) = 4
 number_of WriteFault = 5
 number_of NoMemory = 6
 number_of (TooLong name) = 7
 
+-- what a fault of a platform is answered with
+abbrev pub exit_of : PlatformFault → Exit
+exit_of (Refused code table key) = PlatformRefused code table key
+exit_of Memory = NoMemory
+
+-- the pieces of the line that `diag` is told
+abbrev pub told_pieces : Exit → List (List ℕ)
+told_pieces Done = []
+told_pieces Usage = codes "usage: tlmrun run FILE [--workers N] [--trace all|accesses|none]; tlmrun gen SEED [--workers N]; tlmrun script FILE\n" ∷ []
+told_pieces (PlatformRefused code table key) = codes "platform refused: " ∷ platform_word code ∷ codes " " ∷ table ∷ codes " " ∷ key ∷ codes "\n" ∷ []
+told_pieces (ScriptRefused initiator name line code) = codes "script refused: " ∷ name ∷ codes " line " ∷ decimal line ∷ codes ": " ∷ script_word code ∷ codes "\n" ∷ []
+told_pieces (ReadFault name) = codes "read fault: " ∷ name ∷ codes "\n" ∷ []
+told_pieces WriteFault = codes "write fault\n" ∷ []
+told_pieces NoMemory = codes "no memory\n" ∷ []
+told_pieces (TooLong name) = codes "too long: " ∷ name ∷ codes "\n" ∷ []
+
 -- what `diag` is told: nothing of a run that is done, and a line of every other answer
 abbrev pub told_of : Exit → List ℕ
-told_of Done = []
-told_of Usage = codes "usage: tlmrun run FILE [--workers N] [--trace all|accesses|none]; tlmrun gen SEED [--workers N]; tlmrun script FILE\n"
-told_of (ScriptRefused initiator line code) = codes "script refused: cpu line " ++ (decimal line ++ (codes ": " ++ (code_word code ++ codes "\n")))
-told_of (ReadFault name) = codes "read fault: " ++ (name ++ codes "\n")
-told_of WriteFault = codes "write fault\n"
-told_of NoMemory = codes "no memory\n"
-told_of (TooLong name) = codes "too long: " ++ (name ++ codes "\n")
+told_of exit = concat (told_pieces exit)
 
 -- the answer after the sink's rest was written, or wasn't: only a report that was done is spoilt by that
 abbrev pub answer_after : Bool → Exit → Exit

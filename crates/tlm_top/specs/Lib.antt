@@ -1,6 +1,6 @@
-pub mod Words
 pub mod BuiltIn
-pub mod Run
 pub mod Exits
-pub mod Writes
+pub mod Files
+pub mod Loads
 pub mod Headline
+pub mod Complete

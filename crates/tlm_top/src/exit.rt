@@ -1,20 +1,31 @@
 // The answers of the top call.
 ghost use Rattle.std.specs.Prelude.{◌≡◌};
 
-use tlm_types::Text;
+use platform_file::{PlatformCode, PlatformFault};
+use std::alloc::{AllocError, AllocFailed};
+use tlm_types::{Memory, Text};
 use traffic_script::ScriptCode;
 
-/// What came of a call. The order of refusals is: the words, the load of the file, its reading, the
-/// run, the writing; want of memory may come at any of these places.
+/// What came of a call. The order of refusals is: the words; the load of the platform file, its
+/// reading, its shape; for each initiator in order the load of its script, then its reading; the
+/// counted limits; the run; the writing. Want of memory may come at any of these places.
 #[derive(Drop)]
 pub enum Exit {
     /// The report was written whole.
     Done,
     /// The words are no command line.
     Usage,
-    /// The script of this initiator is refused at this line, counted from 1, or as a whole at line 0.
+    /// The platform is refused: its file, its shape or its counted limits, with the code, and the
+    /// texts of the table and of the key where the fault stands.
+    PlatformRefused {
+        code: PlatformCode,
+        table: Text,
+        key: Text,
+    },
+    /// The script of the initiator of this number and name is refused at this line, counted from 1.
     ScriptRefused {
         initiator: u32,
+        name: Text,
         line: u32,
         code: ScriptCode,
     },
@@ -35,19 +46,65 @@ pub enum Exit {
 impl Exit {
     ghost use Rattle.tlm_top.specs.Exits.{number_of};
 
-    /// The number that the program ends with: 0 for Done, 1 for Usage, 3 for ScriptRefused, 4 for
-    /// ReadFault, 5 for WriteFault, 6 for NoMemory, 7 for TooLong.
+    /// The number that the program ends with: 0 for Done, 1 for Usage, 2 for PlatformRefused, 3 for
+    /// ScriptRefused, 4 for ReadFault, 5 for WriteFault, 6 for NoMemory, 7 for TooLong.
     pub fn number(&self) -> u8
         ensures { result ≡ number_of self.now }
     {
         match self {
             Exit::Done => 0,
             Exit::Usage => 1,
+            Exit::PlatformRefused { .. } => 2,
             Exit::ScriptRefused { .. } => 3,
             Exit::ReadFault { .. } => 4,
             Exit::WriteFault => 5,
             Exit::NoMemory => 6,
             Exit::TooLong { .. } => 7,
+        }
+    }
+}
+
+impl From<Memory> for Exit {
+    ghost use Rattle.tlm_top.specs.declared.exit.Exit.TheVariants.{NoMemory};
+
+    ghost from_gives = { λ _ exit. exit ≡ NoMemory };
+
+    fn from(_: Memory) -> Exit {
+        Exit::NoMemory
+    }
+}
+
+impl From<AllocError> for Exit {
+    ghost use Rattle.tlm_top.specs.declared.exit.Exit.TheVariants.{NoMemory};
+
+    ghost from_gives = { λ _ exit. exit ≡ NoMemory };
+
+    fn from(_: AllocError) -> Exit {
+        Exit::NoMemory
+    }
+}
+
+impl<T: Drop> From<AllocFailed<T>> for Exit {
+    ghost use Rattle.tlm_top.specs.declared.exit.Exit.TheVariants.{NoMemory};
+
+    ghost from_gives = { λ _ exit. exit ≡ NoMemory };
+
+    fn from(_: AllocFailed<T>) -> Exit {
+        Exit::NoMemory
+    }
+}
+
+impl From<PlatformFault> for Exit {
+    ghost use Rattle.tlm_top.specs.Exits.{exit_of};
+
+    ghost from_gives = { λ fault exit. exit ≡ exit_of fault };
+
+    fn from(fault: PlatformFault) -> Exit {
+        match fault {
+            PlatformFault::Refused { code, table, key } => {
+                Exit::PlatformRefused { code, table, key }
+            }
+            PlatformFault::Memory => Exit::NoMemory,
         }
     }
 }

@@ -1,70 +1,124 @@
 // The top call: from the words to the report.
-ghost use Rattle.std.specs.Prelude.{map, string_bytes, IfOk, IfErr};
-ghost use Rattle.tlm_top.specs.Headline.{AreLinesOf, IsFaultOf, IsLoadAnswer, IsScriptAnswer, IsExplained};
+ghost use Rattle.std.specs.Prelude.{◌≡◌, ◌≤◌, ℕ, List, IfOk, IfErr};
+ghost use Rattle.command_words.specs.Commands.{line_of, texts};
+ghost use Rattle.trace_print.specs.Writes.{Tells};
+ghost use Rattle.tlm_top.specs.Files.{IsPlan, IsPlatform};
+ghost use Rattle.route_plan.specs.Valid.{IsValid};
+ghost use Rattle.tlm_top.specs.Headline.{IsAnswer, IsExplained, IsRefusal, IsSunk, trace_of};
 ghost use Rattle.tlm_top.specs.Exits.{told_of};
-ghost use Rattle.tlm_top.specs.Writes.{Tells};
 
+use crate::built_in::built_in;
 use crate::exit::Exit;
-use crate::report::lines_of_report;
-use crate::scripted::run_script;
-use crate::words::file_of;
-use crate::writes::{tell, write_lines};
-use outside::{Library, LoadFault, Pace, Sink};
+use crate::loads::{load_platform, load_scripts};
+use crate::tells::tell;
+use command_words::{Command, read_words};
+use outside::{Library, Pace, Sink};
+use plat_core::run_in_order;
+use route_plan::{Plan, Shape, plan};
 use std::alloc::Global;
 use std::sync::Wait;
 use std::thread::Threads;
-use tlm_types::{Bytes, Text};
-use traffic_script::{ScriptFault, read_script};
+use tlm_model::Trace;
+use tlm_types::Memory;
+use trace_print::{PrintFault, print};
 
-const FILE_LIMIT: u64 = 4_194_304;
-
-// What a load that failed is answered with.
-fn load_failed(alloc: Global, name: &str, fault: LoadFault) -> Exit
-    ensures { IsLoadAnswer name.now fault result }
+// The platform that a command line asks for.
+fn shape_of<L: Library>(alloc: Global, lib: &mut L, command: Command) -> Result<Shape, Exit>
+    ensures same { (n : List ℕ) → L.holds lib.new n ≡ L.holds lib.old n }
+    ensures later { (n : List ℕ) → L.faults lib.old n ≤ L.faults lib.new n }
+    ensures platform { IfOk result (λ s. IsPlatform (L.holds lib.old) (line_of command.entry) s) }
+    ensures refused { IfErr result (λ exit. IsRefusal exit (record {
+      holds = L.holds lib.old;
+      faults_before = L.faults lib.old;
+      faults_after = L.faults lib.new;
+    }) (line_of command.entry)) }
 {
-    if let LoadFault::Memory = fault {
-        return Exit::NoMemory;
-    }
-    let Ok(name) = Text::from_text(alloc, name) else {
-        return Exit::NoMemory;
-    };
-    match fault {
-        LoadFault::Failed => Exit::ReadFault { name },
-        _ => Exit::TooLong { name },
-    }
-}
-
-// What a fault of the one script is answered with.
-fn script_failed(fault: ScriptFault) -> Exit
-    ensures { IsScriptAnswer fault result }
-{
-    match fault {
-        ScriptFault::Refused { line, code } => Exit::ScriptRefused {
-            initiator: 0,
-            line,
-            code,
-        },
-        ScriptFault::Memory => Exit::NoMemory,
+    match command {
+        Command::Run { file, .. } => load_platform(alloc, lib, file),
+        Command::Script { file } => built_in(alloc, file),
     }
 }
 
-// The lines of the report of a text's script.
-fn lines_of<P: Pace>(alloc: Global, text: &[u8], pace: &P) -> Result<Vec<Bytes>, ScriptFault>
-    ensures lines { IfOk result (λ v. AreLinesOf text.now v.items) }
-    ensures fault { IfErr result (IsFaultOf text.now) }
+// The plan that a command line asks for.
+fn plan_of<L: Library>(alloc: Global, lib: &mut L, command: Command) -> Result<Plan, Exit>
+    ensures plan { IfOk result (λ p. IsPlan (L.holds lib.old) (line_of command.entry) p) }
+    ensures valid { IfOk result IsValid }
+    ensures refused { IfErr result (λ exit. IsRefusal exit (record {
+      holds = L.holds lib.old;
+      faults_before = L.faults lib.old;
+      faults_after = L.faults lib.new;
+    }) (line_of command.entry)) }
 {
-    let script = read_script(alloc, text)?;
-    let Ok(outcome) = run_script(alloc, script.operations(), pace) else {
-        return Err(ScriptFault::Memory);
+    let shape = shape_of(alloc, lib, command)?;
+    let scripts = load_scripts(alloc, lib, shape.platform().initiators.as_slice())?;
+    Ok(plan(alloc, shape, scripts.as_slice())?)
+}
+
+fn trace_of(command: Command) -> Trace
+    ensures { result ≡ trace_of (line_of command.entry) }
+{
+    match command {
+        Command::Run { trace, .. } => trace,
+        Command::Script { .. } => Trace::All,
+    }
+}
+
+// Runs a plan, and writes the report of the run.
+fn run_plan<K: Sink, P: Pace>(
+    alloc: Global,
+    plan: &Plan,
+    trace: Trace,
+    out: &mut K,
+    pace: &P,
+) -> Result<(), PrintFault>
+    ensures { IsSunk result (record {
+      taken_before = K.taken out.old;
+      taken_after = K.taken out.new;
+      faults_before = K.faults out.old;
+      faults_after = K.faults out.new;
+    }) trace plan.now }
+{
+    let Ok(outcome) = run_in_order(alloc, plan, pace) else {
+        return Err(PrintFault::Memory);
     };
-    let Ok(lines) = lines_of_report(alloc, script.operations(), &outcome) else {
-        return Err(ScriptFault::Memory);
+    print(alloc, out, plan, &outcome, trace)
+}
+
+// What comes of a command line.
+fn answer<L: Library, K: Sink, P: Pace>(
+    alloc: Global,
+    command: Command,
+    lib: &mut L,
+    out: &mut K,
+    pace: &P,
+) -> Exit
+    ensures { IsAnswer result (record {
+      files = record {
+        holds = L.holds lib.old;
+        faults_before = L.faults lib.old;
+        faults_after = L.faults lib.new;
+      };
+      out = record {
+        taken_before = K.taken out.old;
+        taken_after = K.taken out.new;
+        faults_before = K.faults out.old;
+        faults_after = K.faults out.new;
+      };
+    }) (line_of command.entry) }
+{
+    let plan = match plan_of(alloc, lib, command) {
+        Ok(plan) => plan,
+        Err(exit) => return exit,
     };
-    Ok(lines)
+    match run_plan(alloc, &plan, trace_of(command), out, pace) {
+        Ok(()) => Exit::Done,
+        Err(PrintFault::Failed) => Exit::WriteFault,
+        Err(PrintFault::Memory) => Exit::NoMemory,
+    }
 }
 
 // The answer, before `diag` is told of it.
-fn answer<L: Library, K: Sink, P: Pace>(
+fn explain<L: Library, K: Sink, P: Pace>(
     alloc: Global,
     words: &[String],
     lib: &mut L,
@@ -72,37 +126,30 @@ fn answer<L: Library, K: Sink, P: Pace>(
     pace: &P,
 ) -> Exit
     ensures { IsExplained result (record {
-      holds = L.holds lib.old;
-      loads_before = L.faults lib.old;
-      loads_after = L.faults lib.new;
+      files = record {
+        holds = L.holds lib.old;
+        faults_before = L.faults lib.old;
+        faults_after = L.faults lib.new;
+      };
       out = record {
         taken_before = K.taken out.old;
         taken_after = K.taken out.new;
         faults_before = K.faults out.old;
         faults_after = K.faults out.new;
       };
-    }) (map (λ w. string_bytes w) words.now) }
+    }) (texts words.now) }
 {
-    let Some(name) = file_of(words) else {
-        return Exit::Usage;
-    };
-    let text = match lib.load(alloc, name, FILE_LIMIT) {
-        Ok(text) => text,
-        Err(fault) => return load_failed(alloc, name, fault),
-    };
-    let lines = match lines_of(alloc, &text, pace) {
-        Ok(lines) => lines,
-        Err(fault) => return script_failed(fault),
-    };
-    match write_lines(out, &lines) {
-        Ok(()) => Exit::Done,
-        Err(_) => Exit::WriteFault,
+    match read_words(alloc, words) {
+        Ok(Some(command)) => answer(alloc, command, lib, out, pace),
+        Ok(None) => Exit::Usage,
+        Err(Memory) => Exit::NoMemory,
     }
 }
 
-/// Does what the words ask for: `script FILE` loads a script, runs it on the built-in platform, and
-/// writes the report of the run to `out`. `diag` is told of every answer but Done by one line; a fault
-/// of `diag` changes no answer. Nothing is kept between calls.
+/// Does what the words ask for: `run FILE` loads a platform and the scripts of its initiators, `script
+/// FILE` a script for the built-in platform; it runs them, initiator by initiator, and writes the
+/// report of the run to `out`. `diag` is told of every answer but Done by one line; a fault of `diag`
+/// changes no answer. Nothing is kept between calls.
 pub fn run<R: Threads + Wait + Sync, L: Library, K: Sink, D: Sink, P: Pace + Sync>(
     _rt: &R,
     alloc: Global,
@@ -113,16 +160,18 @@ pub fn run<R: Threads + Wait + Sync, L: Library, K: Sink, D: Sink, P: Pace + Syn
     pace: &P,
 ) -> Exit
     ensures answer { IsExplained result (record {
-      holds = L.holds lib.old;
-      loads_before = L.faults lib.old;
-      loads_after = L.faults lib.new;
+      files = record {
+        holds = L.holds lib.old;
+        faults_before = L.faults lib.old;
+        faults_after = L.faults lib.new;
+      };
       out = record {
         taken_before = K.taken out.old;
         taken_after = K.taken out.new;
         faults_before = K.faults out.old;
         faults_after = K.faults out.new;
       };
-    }) (map (λ w. string_bytes w) words.now) }
+    }) (texts words.now) }
     ensures told { Tells (record {
       taken_before = D.taken diag.old;
       taken_after = D.taken diag.new;
@@ -130,7 +179,7 @@ pub fn run<R: Threads + Wait + Sync, L: Library, K: Sink, D: Sink, P: Pace + Syn
       faults_after = D.faults diag.new;
     }) (told_of result) }
 {
-    let exit = answer(alloc, words, lib, out, pace);
+    let exit = explain(alloc, words, lib, out, pace);
     tell(diag, &exit);
     exit
 }

@@ -5,17 +5,20 @@
 //!   base protocol (IEEE 1666-2011, clauses 14 and 15).
 //! - `MemoryTraits` says what a memory is and allows.
 //! - `Entry` is one event of a history: its `Head` says where and when, its `What` what happened.
+//! - `Log` is the log of an object: a list of entries. The bytes of all its accesses stand in one list.
 //! - `EndOf` says how an initiator ended, with the list of what was refused to it.
 //! - `Memory` is the error of every call that takes memory and was refused it.
 //!
 //! Promises: a list made of a slice, a text or a vector is that list, `Response::value` is the
-//! standard's number, `kind_of` is what a memory allows, and a `RefusedList` takes no memory after it
-//! was made.
+//! standard's number, `kind_of` is what a memory allows, a `RefusedList` takes no memory after it was
+//! made, and a `Log` takes none while it has room, and answers the entries that were pushed, in order.
+//! After want of memory a log is as before.
 #![tactic(auto)]
 
 mod bytes;
 mod ends;
 mod entry;
+mod log;
 #[cfg(test)]
 mod tests;
 mod words;
@@ -23,6 +26,7 @@ mod words;
 pub use bytes::{Bytes, Text};
 pub use ends::{EndOf, RefusedItem, RefusedList};
 pub use entry::{Access, Content, Entry, Facts, Head, What};
+pub use log::Log;
 pub use words::{
     Command, Kind, Memory, MemoryTraits, ObjectNo, Phase, Ps, ReqMode, RespMode, Response, TlmSync,
     TxnId, Way, kind_of,

@@ -1,6 +1,13 @@
+pub mod BuildLemmas
+pub mod DraftLemmas
 pub mod Fronts
-pub mod LineSteps
-pub mod Numbers
+pub mod LineLemmas
+pub mod NumberLemmas
 pub mod Pairs
 pub mod Parts
-pub mod PlainScripts
+pub mod PiecesLemmas
+pub mod PlaceLemmas
+pub mod ProperLemmas
+pub mod ReadLemmas
+pub mod WordLemmas
+pub mod WithLines

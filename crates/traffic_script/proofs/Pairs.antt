@@ -1,7 +1,7 @@
 -- Bytes, a pair of digits at a time.
 use Rattle.std.proofs.Common.{◌≡◌, ℕ, ◌≤◌, List, [], ◌∷◌, ◌++◌, length, get_or, drop, Ok, ap, ◌∙◌, arith}
 use Rattle.traffic_script.specs.Reading.{◌>>=◌}
-use Rattle.traffic_script.specs.Words.{byte_of, bytes_of}
+use Rattle.traffic_script.specs.Numbers.{byte_of, bytes_of}
 use Rattle.traffic_script.proofs.Fronts.{behind, behind_more}
 
 -- one more pair of digits

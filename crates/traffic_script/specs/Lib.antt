@@ -1,4 +1,12 @@
 pub mod Reading
 pub mod Words
+pub mod Numbers
+pub mod Options
+pub mod Statements
+pub mod Proper
+pub mod Drafts
 pub mod Lines
-pub mod Plain
+pub mod Pieces
+pub mod Progress
+pub mod Builds
+pub mod Worked

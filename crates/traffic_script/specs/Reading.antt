@@ -1,7 +1,7 @@
 -- What is read, or the first refusal.
 use Rattle.std.specs.Prelude.{◌≡◌, ℕ, List, Result, Ok, Err, codes}
 use Rattle.traffic_script.specs.declared.fault.ScriptCode.{ScriptCode}
-use Rattle.traffic_script.specs.declared.fault.ScriptCode.TheVariants.{NotBuilt}
+use Rattle.traffic_script.specs.declared.fault.ScriptCode.TheVariants.{TooManyLines, BadByte, UnknownOperation, Arity, BadNumber, BadHex, BadLength, BadOption, NestedRepeat, EndWithoutRepeat, EmptyRepeat, TooManyOperations, RepeatWithoutEnd, NotBuilt}
 use Rattle.traffic_script.specs.declared.fault.ScriptFault.{ScriptFault}
 use Rattle.traffic_script.specs.declared.fault.ScriptFault.TheVariants as script
 use Rattle.traffic_script.specs.declared.fault.LineFault.{LineFault}
@@ -9,40 +9,57 @@ use Rattle.traffic_script.specs.declared.fault.LineFault.TheVariants as line
 
 -- a code as it is printed
 abbrev pub code_word : ScriptCode → List ℕ
+code_word TooManyLines = codes "too_many_lines"
+code_word BadByte = codes "bad_byte"
+code_word UnknownOperation = codes "unknown_operation"
+code_word Arity = codes "arity"
+code_word BadNumber = codes "bad_number"
+code_word BadHex = codes "bad_hex"
+code_word BadLength = codes "bad_length"
+code_word BadOption = codes "bad_option"
+code_word NestedRepeat = codes "nested_repeat"
+code_word EndWithoutRepeat = codes "end_without_repeat"
+code_word EmptyRepeat = codes "empty_repeat"
+code_word TooManyOperations = codes "too_many_operations"
+code_word RepeatWithoutEnd = codes "repeat_without_end"
 code_word NotBuilt = codes "not_built"
 
--- why a script is refused: the number of a line, or 0 for the text as a whole, and the code
+-- why a script is refused: the number of a line, from 1, and the code
 pub record Refusal : Type 0 where
   pub line : ℕ
   pub code : ScriptCode
 
+-- what is read next, where something was read before
 infixl 10 ◌>>=◌
-abbrev pub ◌>>=◌ : {A B : Type 0} → Result A ScriptCode → (A → Result B ScriptCode) → Result B ScriptCode
+abbrev pub ◌>>=◌ : {A B E : Type 0} → Result A E → (A → Result B E) → Result B E
 (Ok x) >>= f = f x
-(Err code) >>= f = Err code
+(Err e) >>= f = Err e
 
 -- a code at a line
 abbrev pub placed : {A : Type 0} → ℕ → Result A ScriptCode → Result A Refusal
 placed n (Ok x) = Ok x
 placed n (Err code) = Err (record { line = n; code = code })
 
+-- the fault is the refusal that reading gives, unless memory ran out
+abbrev pub Fails : {A : Type 0} → ScriptFault → Result A Refusal → Type 0
+Fails (script.Refused n code) read = read ≡ Err (record { line = n; code = code })
+Fails script.Memory read = Unit {0}
+
 -- what a function returned is what reading gives, unless memory ran out
 abbrev pub Gives : {A : Type 0} → Result A ScriptFault → Result A Refusal → Type 0
 Gives (Ok x) read = read ≡ Ok x
-Gives (Err (script.Refused n code)) read = read ≡ Err (record { line = n; code = code })
-Gives (Err script.Memory) read = Unit {0}
+Gives (Err fault) read = Fails fault read
 
 -- the same where the line isn't known yet
+abbrev pub FailsCode : {A : Type 0} → LineFault → Result A ScriptCode → Type 0
+FailsCode (line.Refused code) read = read ≡ Err code
+FailsCode line.Memory read = Unit {0}
+
 abbrev pub GivesCode : {A : Type 0} → Result A LineFault → Result A ScriptCode → Type 0
 GivesCode (Ok x) read = read ≡ Ok x
-GivesCode (Err (line.Refused code)) read = read ≡ Err code
-GivesCode (Err line.Memory) read = Unit {0}
+GivesCode (Err fault) read = FailsCode fault read
 
 -- a fault at a line
 abbrev pub fault_at : ℕ → LineFault → ScriptFault
 fault_at n (line.Refused code) = script.Refused n code
 fault_at n line.Memory = script.Memory
-
--- the refusal of a text of another form
-abbrev pub not_built : {A : Type 0} → Result A Refusal
-not_built = Err (record { line = 0; code = NotBuilt })

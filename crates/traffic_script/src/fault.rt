@@ -7,11 +7,33 @@ ghost use Rattle.traffic_script.specs.Reading.{code_word, fault_at};
 
 use std::alloc::{AllocError, AllocFailed};
 use thiserror::Error;
+use tlm_types::Memory;
 
 /// The codes of a refused script.
 #[derive(Clone, Copy, Debug, PartialEq, Eq)]
 pub enum ScriptCode {
-    /// The text has a form that isn't built yet.
+    /// There are more than 10,000 lines.
+    TooManyLines,
+    /// A byte is neither a tab nor from a space to a tilde.
+    BadByte,
+    UnknownOperation,
+    /// There are too few words, or too many on a line without options.
+    Arity,
+    /// A word isn't a number below 2^64, or the number of `add` or `repeat` is out of its range.
+    BadNumber,
+    /// A word isn't an even number of hexadecimal digits, or a byte enable is neither 00 nor ff.
+    BadHex,
+    /// A number of bytes is out of its range.
+    BadLength,
+    /// An option is neither `be=` nor `sw=`, or stands there a second time.
+    BadOption,
+    NestedRepeat,
+    EndWithoutRepeat,
+    EmptyRepeat,
+    /// There are more than 100,000 operations, with each round of a repeat counted.
+    TooManyOperations,
+    RepeatWithoutEnd,
+    /// The operation isn't built yet.
     NotBuilt,
 }
 
@@ -21,19 +43,41 @@ impl ScriptCode {
         ensures { result.now ≡ code_word self }
     {
         match self {
+            ScriptCode::TooManyLines => "too_many_lines",
+            ScriptCode::BadByte => "bad_byte",
+            ScriptCode::UnknownOperation => "unknown_operation",
+            ScriptCode::Arity => "arity",
+            ScriptCode::BadNumber => "bad_number",
+            ScriptCode::BadHex => "bad_hex",
+            ScriptCode::BadLength => "bad_length",
+            ScriptCode::BadOption => "bad_option",
+            ScriptCode::NestedRepeat => "nested_repeat",
+            ScriptCode::EndWithoutRepeat => "end_without_repeat",
+            ScriptCode::EmptyRepeat => "empty_repeat",
+            ScriptCode::TooManyOperations => "too_many_operations",
+            ScriptCode::RepeatWithoutEnd => "repeat_without_end",
             ScriptCode::NotBuilt => "not_built",
         }
     }
 }
 
-/// Why no script was read: the first fault, at a line counted from 1 or at line 0 for the text as a
-/// whole, or memory was refused.
+/// Why no script was read: the first fault, at a line counted from 1, or memory was refused.
 #[derive(Debug, Drop, Error)]
 pub enum ScriptFault {
     #[error("line {line}: {}", .code.name())]
     Refused { line: u32, code: ScriptCode },
     #[error("out of memory")]
     Memory,
+}
+
+impl From<Memory> for ScriptFault {
+    ghost use Rattle.traffic_script.specs.declared.fault.ScriptFault.TheVariants as script;
+
+    ghost from_gives = { λ _ fault. fault ≡ script.Memory };
+
+    fn from(_: Memory) -> ScriptFault {
+        ScriptFault::Memory
+    }
 }
 
 /// The same before the line is known.
@@ -59,6 +103,14 @@ impl From<ScriptCode> for LineFault {
 
     fn from(code: ScriptCode) -> LineFault {
         LineFault::Refused(code)
+    }
+}
+
+impl From<Memory> for LineFault {
+    ghost from_gives = { λ _ fault. fault ≡ Memory };
+
+    fn from(_: Memory) -> LineFault {
+        LineFault::Memory
     }
 }
 

@@ -1,25 +1,42 @@
 //! The script reader: a text as the operations that an initiator is asked for.
 //!
-//! - `read_script` reads the first form of scripts: at most 1,000 lines, each ended by a line feed,
-//!   each `write A X` or `read A N` with single spaces. A is `0x` and one to four lower-case
-//!   hexadecimal digits, X is 2 to 512 such digits, two a byte, and N is decimal, 1 to 256, without
-//!   leading zeros.
-//! - `Script` is what was read, which contracts see as a list of operations.
-//! - `ScriptFault` says why nothing was read: a line with a `ScriptCode`, or want of memory.
+//! - `read_script` reads a text of at most 10,000 lines, by the grammar of `docs/FORMATS.md`. Only
+//!   `invalidate` isn't built yet.
+//! - `Script` is what was read, which contracts see as a list of operations, repeats written out. It
+//!   keeps a `Piece` for operations that are repeated, with their number of times, so its memory goes
+//!   by the text's lines.
+//! - `Cursor` walks through a script in constant time a step.
+//! - `ScriptFault` says why nothing was read: a line from 1 with a `ScriptCode`, or want of memory.
 //! - `worked` has worked scripts, proved by computing the definition.
 //!
-//! Promises: what is read is `script_of` of the text, in `specs/Lines`, and so is each refusal. Each
-//! operation is a plain write or read of 1 to 256 bytes at an address below 65,536. Reading takes
-//! time in proportion to the text.
+//! Promises: what is read is `script_of` of the text, in `specs/Lines`, and so is each refusal, the
+//! first in the text. The operations of a script are proper, in `specs/Proper`: at most 100,000, with
+//! lengths of 1 to 4,096 bytes and numbers below 2^64, and none is an `invalidate`. Reading takes time
+//! in proportion to the text.
 #![tactic(auto)]
 
+mod builder;
+mod copies;
+mod cursor;
 mod fault;
+mod keyword;
 mod lines;
+mod numbers;
+mod operations;
+mod options;
+mod piece;
+mod place;
+mod reader;
+mod repeat;
 mod script;
+mod statement;
 #[cfg(test)]
 mod tests;
 mod words;
 pub mod worked;
 
+pub use cursor::Cursor;
 pub use fault::{ScriptCode, ScriptFault};
-pub use script::{Script, read_script};
+pub use piece::Piece;
+pub use reader::read_script;
+pub use script::Script;

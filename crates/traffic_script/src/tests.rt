@@ -1,124 +1,125 @@
-use crate::{ScriptCode, ScriptFault, read_script};
+mod scripts;
+
+use crate::tests::scripts::SCRIPTS;
+use crate::{Cursor, Script, ScriptCode, ScriptFault, read_script};
 use std::alloc::{AllocError, Global};
+use std::process::Abort;
 use std::test::Fail;
 use tlm_model::Operation;
 
-#[test]
-fn operations_are_those_of_the_lines(rt: HostRuntime) -> Result<(), Fail> {
-    let script = read_script(rt.alloc(), b"write 0x10 deadbeef\nread 0xffff 256\n")?;
-    let [
+/// A text with N times the text T in the place of each `<N*T>`.
+fn expanded(alloc: Global, text: &str) -> Result<String, AllocError> {
+    let mut out = String::new(alloc);
+    for (index, piece) in text.split('<').enumerate() {
+        if index == 0 {
+            out.push_str(piece)?;
+            continue;
+        }
+        let (repeated, rest) = piece.split_once('>').unwrap_or((piece, ""));
+        let (count, unit) = repeated.split_once('*').unwrap_or(("0", repeated));
+        for _ in 0..count.parse::<u32>().unwrap_or(0) {
+            out.push_str(unit)?;
+        }
+        out.push_str(rest)?;
+    }
+    Ok(out)
+}
+
+/// An operation in words, with its bytes in decimal.
+fn shown(alloc: Global, operation: &Operation) -> Result<String, AllocError> {
+    match operation {
         Operation::Write {
             address,
             bytes,
             enables,
             width,
-        },
+        } => {
+            let bytes = bytes.as_slice();
+            let enables = enables.as_slice();
+            format!(in alloc; "write {address} {bytes:?} {enables:?} {width:?}")
+        }
         Operation::Read {
-            address: from,
+            address,
             length,
-            enables: masks,
-            width: whole,
-        },
-    ] = script.operations()
-    else {
-        assert!(rt; false, "a write and a read");
-        return Ok(());
-    };
-    assert_eq!(rt; (*address, *width), (16, 4));
-    assert_eq!(rt; bytes.as_slice(), [0xde, 0xad, 0xbe, 0xef].as_slice());
-    assert_eq!(rt; (*from, *length, *whole), (65_535, 256, 256));
-    assert!(rt; enables.as_slice().is_empty());
-    assert!(rt; masks.as_slice().is_empty());
-    Ok(())
-}
-
-// A text of so many equal pieces, between a beginning and an end.
-fn repeated(
-    alloc: Global,
-    start: &str,
-    piece: &str,
-    count: u32,
-    end: &str,
-) -> Result<String, AllocError> {
-    let mut text = String::from_str(alloc, start)?;
-    for _ in 0..count {
-        text.push_str(piece)?;
-    }
-    text.push_str(end)?;
-    Ok(text)
-}
-
-// The number of operations, where the text is read.
-fn count(alloc: Global, text: &str) -> Result<usize, ScriptFault> {
-    let script = read_script(alloc, text.as_bytes())?;
-    Ok(script.operations().len())
-}
-
-#[test]
-fn scripts_of_the_first_form_are_read(rt: HostRuntime) -> Result<(), Fail> {
-    let alloc = rt.alloc();
-    let most_lines = repeated(alloc, "", "read 0x0 1\n", 1_000, "")?;
-    let most_digits = repeated(alloc, "write 0x0 ", "0f", 256, "\n")?;
-    let texts = [
-        ("", 0),
-        ("read 0x0 1\n", 1),
-        ("read 0x00ff 256\n", 1),
-        (
-            "write 0xabcd 00\nread 0x9 9\nwrite 0x0 0123456789abcdef\n",
-            3,
-        ),
-        (most_lines.as_str(), 1_000),
-        (most_digits.as_str(), 1),
-    ];
-    for (text, operations) in texts {
-        assert_eq!(rt; count(alloc, text)?, operations, "{text}");
-    }
-    Ok(())
-}
-
-#[test]
-fn other_texts_are_refused_as_a_whole(rt: HostRuntime) -> Result<(), Fail> {
-    let alloc = rt.alloc();
-    let more_lines = repeated(alloc, "", "read 0x0 1\n", 1_001, "")?;
-    let more_digits = repeated(alloc, "write 0x0 ", "0f", 257, "\n")?;
-    let texts = [
-        more_lines.as_str(),
-        more_digits.as_str(),
-        "read 0x0 1",
-        "read 0x0 1\n\n",
-        "\n",
-        "read 0x0 1\r\n",
-        "read\t0x0 1\n",
-        "read  0x0 1\n",
-        "read 0x0 1 \n",
-        " read 0x0 1\n",
-        "read 0x0\n",
-        "debug 0x0 4\n",
-        "Read 0x0 1\n",
-        "read 0x0 0\n",
-        "read 0x0 01\n",
-        "read 0x0 257\n",
-        "read 0x0 0x1\n",
-        "read 0x0 18446744073709551617\n",
-        "read 0 1\n",
-        "read 0x 1\n",
-        "read 0X0 1\n",
-        "read 0x12345 1\n",
-        "read 0xA 1\n",
-        "read 0xg 1\n",
-        "write 0x0 AA\n",
-        "write 0x0 abc\n",
-        "write 0x0 \n",
-        "write 0x0 aa bb\n",
-    ];
-    for text in texts {
-        match count(alloc, text) {
-            Err(ScriptFault::Refused { line, code }) => {
-                assert_eq!(rt; (line, code), (0, ScriptCode::NotBuilt), "{text}");
-            }
-            _ => assert!(rt; false, "{text}"),
+            enables,
+            width,
+        } => {
+            let enables = enables.as_slice();
+            format!(in alloc; "read {address} {length} {enables:?} {width:?}")
+        }
+        Operation::Ignore { address } => format!(in alloc; "ignore {address}"),
+        Operation::Debug { address, length } => format!(in alloc; "debug {address} {length}"),
+        Operation::Copy { from, to, length } => format!(in alloc; "copy {from} {to} {length}"),
+        Operation::Add { address, number } => format!(in alloc; "add {address} {number}"),
+        Operation::Wait { time } => format!(in alloc; "wait {time}"),
+        Operation::Sync => String::from_str(alloc, "sync"),
+        Operation::Fence => String::from_str(alloc, "fence"),
+        Operation::Invalidate { address, length } => {
+            format!(in alloc; "invalidate {address} {length}")
         }
     }
+}
+
+/// The operations of a short script, or their number.
+fn listed(alloc: Global, script: Script) -> Result<String, AllocError> {
+    if script.len() > 8 {
+        return format!(in alloc; "{} operations", script.len());
+    }
+    let count = script.len();
+    let mut out = String::new(alloc);
+    let mut cursor = Cursor::new(script);
+    for index in 0..count {
+        if let Some(operation) = cursor.current() {
+            let text = shown(alloc, operation)?;
+            out.push_str(if index == 0 { "" } else { "; " })?;
+            out.push_str(text.as_str())?;
+        }
+        cursor.advance();
+    }
+    Ok(out)
+}
+
+fn answer(alloc: Global, text: &str) -> Result<String, AllocError> {
+    match read_script(alloc, text.as_bytes()) {
+        Ok(script) => listed(alloc, script),
+        Err(fault) => format!(in alloc; "{fault}"),
+    }
+}
+
+#[test]
+fn scripts_are_read_or_refused(rt: HostRuntime) -> Result<(), Fail> {
+    let alloc = rt.alloc();
+    for (short, wanted) in SCRIPTS {
+        let text = expanded(alloc, short)?;
+        let found = answer(alloc, text.as_str())?;
+        assert_eq!(rt; found.as_str(), *wanted, "{short:?}");
+    }
+    Ok(())
+}
+
+/// Whether a cursor is at a wait of so many picoseconds, or at the end.
+fn expect_wait(rt: &impl Abort, cursor: &Cursor, wanted: Option<u64>) {
+    let found = match cursor.current() {
+        Some(Operation::Wait { time }) => Some(*time),
+        _ => None,
+    };
+    assert_eq!(rt; found, wanted);
+}
+
+#[test]
+fn a_script_is_copied_and_walked_through(rt: HostRuntime) -> Result<(), Fail> {
+    let text = b"wait 1\nwait 2\nrepeat 2\nwait 3\nwait 4\nend\nwait 5\n";
+    let script = read_script(rt.alloc(), text)?;
+    assert!(rt; !script.is_empty());
+    assert_eq!(rt; (script.len(), script.pieces().len()), (7, 3));
+    let mut cursor = Cursor::new(script.copy(rt.alloc())?);
+    for time in [1, 2, 3, 4, 3, 4, 5] {
+        expect_wait(&rt, &cursor, Some(time));
+        cursor.advance();
+    }
+    expect_wait(&rt, &cursor, None);
+    cursor.advance();
+    expect_wait(&rt, &cursor, None);
     Ok(())
 }
 
@@ -127,8 +128,8 @@ fn faults_have_texts(rt: HostRuntime) -> Result<(), Fail> {
     let alloc = rt.alloc();
     let code = ScriptCode::NotBuilt;
     assert_eq!(rt; code.name(), "not_built");
-    let refused = format!(in alloc; "{}", ScriptFault::Refused { line: 0, code })?;
-    assert_eq!(rt; refused.as_str(), "line 0: not_built");
+    let refused = format!(in alloc; "{}", ScriptFault::Refused { line: 7, code })?;
+    assert_eq!(rt; refused.as_str(), "line 7: not_built");
     let memory = format!(in alloc; "{}", ScriptFault::Memory)?;
     assert_eq!(rt; memory.as_str(), "out of memory");
     Ok(())

@@ -1,108 +1,112 @@
-// The numbers and bytes that words write.
-ghost use Rattle.std.specs.Prelude.{◌≡◌, ◌+◌, ◌*◌, ◌^◌, ◌<◌, ◌≤◌};
-ghost use Rattle.std.specs.Option.{SomeIff};
-ghost use Rattle.traffic_script.specs.Reading.{GivesCode};
-ghost use Rattle.traffic_script.specs.Words.{digit, number, within, address_of, count_of, byte_of, bytes_of, data_of};
+// The words of a line.
+ghost use Rattle.std.specs.Prelude.{◌≡◌, ◌≢◌, ◌<◌, false, [], ◌∷◌, length, position, slice_index, ◌==◌, IfSome, MatchOption, MatchResult, Ok, Err, ◌≤◌};
+ghost use Rattle.std.specs.List.{list_all, before_first};
+ghost use Rattle.traffic_script.specs.Words.{is_plain, is_blank, words_of, text_of};
 
-use crate::fault::{LineFault, ScriptCode};
-use std::alloc::Global;
-use tlm_types::Bytes;
+use crate::fault::ScriptCode;
+use crate::lines::find;
 
-// The value of a digit in a base; letters are lower case.
-fn digit(base: u32, byte: u8) -> Result<u8, ScriptCode>
-    requires least { 2 ≤ base }
-    requires most { base ≤ 36 }
-    ensures { result ≡ digit base byte }
+fn is_blank(byte: u8) -> bool
+    ensures { result ≡ is_blank byte }
 {
-    match (byte as char).to_digit(base) {
-        Some(value) if !byte.is_ascii_uppercase() => Ok(value as u8),
-        _ => Err(ScriptCode::NotBuilt),
+    byte == b' ' || byte == b'\t'
+}
+
+fn all_plain(line: &[u8]) -> bool
+    ensures { result ≡ list_all is_plain line.now }
+{
+    line.iter().all(|b| *b == 9 || (32 <= *b && *b <= 126))
+}
+
+fn without_comment(line: &[u8]) -> &[u8]
+    ensures { result.now ≡ before_first (λ b. b == 35) line.now }
+{
+    match find(line, b'#') {
+        Some(place) => &line[..place],
+        None => line,
     }
 }
 
-fn next_total(base: u32, total: u64, digit: u8) -> Option<u64>
-    ensures { SomeIff result (total * base + digit < 2 ^ 64) (total * base + digit) }
+/// What stands in a line before its comment.
+pub fn text_of(line: &[u8]) -> Result<&[u8], ScriptCode>
+    ensures { MatchResult result (λ text. text_of line.now ≡ Ok text.now) (λ code. text_of line.now ≡ Err code) }
 {
-    total.checked_mul(base as u64)?.checked_add(digit as u64)
-}
-
-// The number below 2^64 that some digits write.
-fn number(base: u32, digits: &[u8]) -> Result<u64, ScriptCode>
-    requires least { 2 ≤ base }
-    requires most { base ≤ 36 }
-    ensures { result ≡ number base digits.now }
-{
-    if digits.is_empty() {
-        return Err(ScriptCode::NotBuilt);
+    if !all_plain(line) {
+        return Err(ScriptCode::BadByte);
     }
-    let mut total = 0;
-    for byte in digits {
-        let value = digit(base, *byte)?;
-        let Some(next) = next_total(base, total, value) else {
-            return Err(ScriptCode::NotBuilt);
-        };
-        total = next;
-    }
-    Ok(total)
+    Ok(without_comment(line))
 }
 
-fn within(least: u64, most: u64, number: u64) -> Result<u64, ScriptCode>
-    ensures { result ≡ within least most number }
+fn find_blank(text: &[u8]) -> Option<usize>
+    ensures { result ≡ position is_blank text.now }
 {
-    if number < least || most < number {
-        return Err(ScriptCode::NotBuilt);
-    }
-    Ok(number)
+    text.iter().position(|b| *b == b' ' || *b == b'\t')
 }
 
-pub fn address(word: &[u8]) -> Result<u64, ScriptCode>
-    ensures { result ≡ address_of word.now }
+fn without_blanks(text: &[u8]) -> &[u8]
+    ensures same { words_of result.now ≡ words_of text.now }
+    ensures first { 0 < length result.now → is_blank (slice_index result.now 0) ≡ false }
+    ensures shorter { length result.now ≤ length text.now }
 {
-    if !word.starts_with(b"0x") || word.len() > 6 {
-        return Err(ScriptCode::NotBuilt);
-    }
-    number(16, &word[2..])
-}
-
-pub fn count(word: &[u8]) -> Result<u64, ScriptCode>
-    ensures { result ≡ count_of word.now }
-{
-    if word.starts_with(b"0") {
-        return Err(ScriptCode::NotBuilt);
-    }
-    let count = number(10, word)?;
-    within(1, 256, count)
-}
-
-fn byte(high: u8, low: u8) -> Result<u8, ScriptCode>
-    ensures { result ≡ byte_of high low }
-{
-    let high = digit(16, high)?;
-    let low = digit(16, low)?;
-    Ok(16 * high + low)
-}
-
-// The digits are read straight into a vector that has room for all of them.
-fn bytes(alloc: Global, digits: &[u8]) -> Result<Bytes, LineFault>
-    ensures { GivesCode result (bytes_of digits.now) }
-{
-    let mut bytes = Vec::with_capacity(alloc, digits.len() / 2)?;
-    let mut rest = digits;
-    while let [high, low, more @ ..] = rest {
-        bytes.push(byte(*high, *low)?)?;
+    let mut rest = text;
+    while let [first, more @ ..] = rest {
+        if !is_blank(*first) {
+            return rest;
+        }
         rest = more;
     }
-    if !rest.is_empty() {
-        return Err(LineFault::Refused(ScriptCode::NotBuilt));
-    }
-    Ok(Bytes::from_vec(bytes))
+    rest
 }
 
-pub fn data(alloc: Global, word: &[u8]) -> Result<Bytes, LineFault>
-    ensures { GivesCode result (data_of word.now) }
+/// The first word, and what stands behind it.
+pub fn first_word(text: &[u8]) -> Option<(&[u8], &[u8])>
+    ensures words { MatchOption result (words_of text.now ≡ []) (λ cut. words_of text.now ≡ cut.0.now ∷ words_of cut.1.now) }
+    ensures shorter { IfSome result (λ cut. length cut.1.now < length text.now) }
 {
-    if word.len() < 2 || word.len() > 512 {
-        return Err(LineFault::Refused(ScriptCode::NotBuilt));
+    let text = without_blanks(text);
+    if text.is_empty() {
+        return None;
     }
-    bytes(alloc, word)
+    match find_blank(text) {
+        Some(end) => Some((&text[..end], &text[end + 1..])),
+        None => Some((text, &[])),
+    }
+}
+
+/// The word of a text that has just one.
+pub fn one_word(text: &[u8]) -> Option<&[u8]>
+    ensures { MatchOption result (length (words_of text.now) ≢ 1) (λ word. words_of text.now ≡ word.now ∷ []) }
+{
+    let (first, rest) = first_word(text)?;
+    match first_word(rest) {
+        None => Some(first),
+        Some(_) => None,
+    }
+}
+
+/// The words of a text that has just two.
+pub fn two_words(text: &[u8]) -> Option<(&[u8], &[u8])>
+    ensures { MatchOption result (length (words_of text.now) ≢ 2) (λ words. words_of text.now ≡ words.0.now ∷ words.1.now ∷ []) }
+{
+    let (first, rest) = first_word(text)?;
+    let second = one_word(rest)?;
+    Some((first, second))
+}
+
+/// The words of a text that has just three.
+pub fn three_words(text: &[u8]) -> Option<(&[u8], &[u8], &[u8])>
+    ensures { MatchOption result (length (words_of text.now) ≢ 3) (λ words. words_of text.now ≡ words.0.now ∷ words.1.now ∷ words.2.now ∷ []) }
+{
+    let (first, rest) = first_word(text)?;
+    let (second, third) = two_words(rest)?;
+    Some((first, second, third))
+}
+
+/// The first two words, and what stands behind them.
+pub fn two_first_words(text: &[u8]) -> Option<(&[u8], &[u8], &[u8])>
+    ensures { MatchOption result (length (words_of text.now) < 2) (λ words. words_of text.now ≡ words.0.now ∷ words.1.now ∷ words_of words.2.now) }
+{
+    let (first, rest) = first_word(text)?;
+    let (second, more) = first_word(rest)?;
+    Some((first, second, more))
 }

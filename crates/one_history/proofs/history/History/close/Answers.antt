@@ -1,4 +1,4 @@
-use Rattle.std.proofs.Common.{◌≡◌, ◌+◌, ◌≤◌, ◌<◌, ℕ, List, length, Some, sym, ap, ◌∙◌, subst, arith}
+use Rattle.std.proofs.Common.{List, length, sym, ap, ◌∙◌, subst, arith}
 use Rattle.view_lists.specs.Lists.{Has}
 use Rattle.one_history.specs.declared.view.Owned.{Owned}
 use Rattle.one_history.specs.Moves.{own_of}

@@ -1,8 +1,8 @@
-use Rattle.std.proofs.Common.{◌≡◌, ◌<◌, ◌≤◌, ◌+◌, ℕ, List, length, sum, sym, ap, ◌∙◌, subst, arith}
+use Rattle.std.proofs.Common.{◌≡◌, ◌<◌, ◌≤◌, ℕ, length, sym, ap, ◌∙◌, subst, arith}
 use Rattle.std.specs.Prelude.{slice_index_or}
 use Rattle.one_history.specs.Rule.{plain}
 use Rattle.one_history.specs.declared.view.Frame.{Frame}
-use Rattle.one_history.specs.Moves.{own_of, number_of, entry}
+use Rattle.one_history.specs.Moves.{own_of, number_of, KnowsOwn, entry}
 use Rattle.one_history.proofs.Keeps.{draws}
 use Rattle.one_history.proofs.history.History.draw_as.Goals as goal
 
@@ -16,5 +16,5 @@ fetch_add-requires g c =
       omega (arith, c.self.invariant.0),
       draws g.W.Law.backs (plain c.self.inside.table.shared.key) g.W.Law.grows _ _ s.me _ _ r.seat.1
           (subst (λ (f : Frame g.row.G.Denot). length (own_of s.me.0) < slice_index_or f.planned (number_of s.me.0) 0) frame r.planned) c.self.invariant.1
-          (subst (λ (f : Frame g.row.G.Denot). (p : ℕ) → s.me.0.seen ≤ p → g.W.Law.backs f.world s.me.0.known (entry p (number_of s.me.0) g.B.Signed.sign g.D.Drawn.content)) frame r.backed),
+          (subst (λ (f : Frame g.row.G.Denot). (p : ℕ) → s.me.0.seen ≤ p → KnowsOwn s.me.0 → g.W.Law.backs f.world s.me.0.known (entry p (number_of s.me.0) g.B.Signed.sign g.D.Drawn.content)) frame r.backed),
     )

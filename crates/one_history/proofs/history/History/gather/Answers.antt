@@ -1,5 +1,4 @@
-use Rattle.std.proofs.Common.{◌≡◌, ℕ, ◌+◌, ◌≤◌, List, [], ◌∷◌, ◌++◌, length, take, vec_len, Some, refl, sym, ap, ◌∙◌, subst, arith, length-append}
-use mathlib.Core.Option.{some}
+use Rattle.std.proofs.Common.{◌≡◌, List, [], ◌++◌, length, vec_len, refl, sym, ap, ◌∙◌, subst, arith, length-append}
 use lib.ListN.{get_elem?}
 use Rattle.std.proofs.lemmas.List.{take_all}
 use Rattle.view_lists.specs.Lists.{Has}

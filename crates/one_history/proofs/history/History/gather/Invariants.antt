@@ -1,4 +1,4 @@
-use Rattle.std.proofs.Common.{◌≡◌, ◌≤◌, [], length, take, vec_len, Some}
+use Rattle.std.proofs.Common.{◌≡◌, ◌≤◌, length, take, vec_len, Some}
 use Rattle.one_history.specs.Seats.{Gathers}
 use Rattle.one_history.proofs.history.History.gather.Given as goal
 

@@ -1,4 +1,4 @@
-use Rattle.std.proofs.Common.{◌≡◌, ◌≤◌, ◌+◌, ℕ, List, length, sym, ap, ◌∙◌, subst, arith}
+use Rattle.std.proofs.Common.{sym, ap, ◌∙◌, arith}
 use Rattle.one_history.specs.Rule.{plain}
 use Rattle.one_history.proofs.Keeps.{joins}
 use Rattle.one_history.proofs.history.History.join.Goals as goal

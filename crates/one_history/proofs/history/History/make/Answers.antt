@@ -1,4 +1,4 @@
-use Rattle.std.proofs.Common.{◌≡◌, ◌≤◌, ℕ, sym, ap, ◌∙◌, arith}
+use Rattle.std.proofs.Common.{sym, ap, ◌∙◌, arith}
 use Rattle.one_history.specs.Rule.{plain}
 use Rattle.one_history.proofs.Keeps.{makes}
 use Rattle.one_history.proofs.history.History.make.Goals as goal

@@ -1,4 +1,4 @@
-use Rattle.std.proofs.Common.{◌≡◌, length, take, vec_len}
+use Rattle.std.proofs.Common.{◌≡◌, take, vec_len}
 use Rattle.one_history.specs.Seats.{Tell}
 use Rattle.one_history.proofs.history.History.take_notes.Given as goal
 

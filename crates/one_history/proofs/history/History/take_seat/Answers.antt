@@ -1,4 +1,4 @@
-use Rattle.std.proofs.Common.{◌≡◌, ◌≤◌, ◌+◌, ℕ, length, sym, ap, ◌∙◌, arith}
+use Rattle.std.proofs.Common.{sym, ap, ◌∙◌, arith}
 use Rattle.one_history.specs.Rule.{plain}
 use Rattle.one_history.proofs.Keeps.{joins}
 use Rattle.one_history.proofs.history.History.take_seat.Goals as goal

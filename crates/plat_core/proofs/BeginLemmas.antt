@@ -1,0 +1,191 @@
+-- A core before its first step.
+use Rattle.std.proofs.Common.{◌≡◌, ℕ, zero, suc, ◌+◌, ◌*◌, ◌<◌, ◌≤◌, inl, inr, List, [], ◌∷◌, ◌++◌, length, map, Some, Bool, true, false, cond, refl, ap, sym, subst, ◌∙◌, arith, length-append}
+use Rattle.std.specs.List.{AllByRecursion, flat_map}
+use Rattle.std.specs.Prelude.{slice_get, sum_by}
+use Rattle.std.proofs.Math.Nat.{zero-add}
+use Rattle.std.proofs.lemmas.List.{length-map}
+use Rattle.std.proofs.lemmas.List.Sums.{sum_by-cons}
+use Rattle.tlm_types.specs.declared.entry.Entry.{Entry}
+use Rattle.tlm_types.specs.declared.words.ObjectNo.TheVariants.{Memory as memory_object}
+use Rattle.tlm_model.specs.declared.operation.Operation.{Operation}
+use Rattle.tlm_model.specs.declared.operation.Operation.TheVariants.{Write, Read, Ignore, Debug, Copy, Add, Wait, Sync, Fence, Invalidate}
+use Rattle.tlm_model.specs.declared.platform.InitiatorRow.{InitiatorRow}
+use Rattle.tlm_model.specs.declared.platform.Platform.{Platform}
+use Rattle.tlm_model.specs.Good.{IsSound}
+use Rattle.tlm_model.specs.Plan.{Plan, Initiator, initiators_from, initiators_of}
+use Rattle.tlm_model.specs.Requests.{numbers_of, numbers_in, time_after}
+use Rattle.tlm_model.specs.Rounds.{syncs_after, syncs_from}
+use Rattle.region_object.specs.Region.{LoggedMemory}
+use Rattle.route_plan.specs.Planned.{AnAccess, ADebugRead, AnInvalidation, asks_of, at_memory, planned_at, share_of}
+use Rattle.script_engine.proofs.Steps.{begins}
+use Rattle.plat_core.specs.Come.{IsServed}
+use Rattle.plat_core.specs.Core.{IsCore, IsMemoryAt, IsRunOf, IsServable, are_finished, begun_run, history_of, logs_of, no_runs}
+use Rattle.plat_core.specs.Fresh.{AreFresh, IsFresh}
+use Rattle.plat_core.specs.Left.{asked_in, leads, total_left}
+use Rattle.plat_core.specs.Merge.{by_position, entries_in}
+use Rattle.plat_core.specs.Run.{Run, begun}
+use Rattle.plat_core.proofs.EndLemmas.{HasCome-begun}
+use Rattle.plat_core.proofs.ListLemmas.{at_push}
+
+few_numbers : (op : Operation) → numbers_of op ≤ 2
+few_numbers (Write a bytes enables width) = omega arith
+few_numbers (Read a n enables width) = omega arith
+few_numbers (Ignore a) = omega arith
+few_numbers (Debug a n) = omega arith
+few_numbers (Copy from to n) = omega arith
+few_numbers (Add a n) = omega arith
+few_numbers (Wait n) = omega arith
+few_numbers Sync = omega arith
+few_numbers Fence = omega arith
+few_numbers (Invalidate a n) = omega arith
+
+-- a script takes at most two numbers an operation
+pub numbers_bound : (ops : List Operation) → numbers_in ops ≤ 2 * length ops
+numbers_bound [] = omega arith
+numbers_bound (op ∷ ops) = omega (arith, few_numbers op, numbers_bound ops)
+
+-- at most one sync stands after an operation
+pub syncs_bound : (p : Platform) (i : Initiator) (now t : ℕ) (ops : List Operation) → syncs_from p i now t ops ≤ length ops
+syncs_bound p i now t [] = omega arith
+syncs_bound p i now t (op ∷ ops) = by_cases (syncs_after p.quantum now (time_after p i t op) op) (syncs_bound p i (time_after p i t op) (time_after p i t op) ops) (syncs_bound p i now (time_after p i t op) ops)
+  where
+    by_cases : (b : Bool) → syncs_from p i (time_after p i t op) (time_after p i t op) ops ≤ length ops → syncs_from p i now (time_after p i t op) ops ≤ length ops → cond b (syncs_from p i (time_after p i t op) (time_after p i t op) ops + 1) (syncs_from p i now (time_after p i t op) ops) ≤ suc (length ops)
+    by_cases true x y = omega arith
+    by_cases false x y = omega arith
+
+together : (a b n k : ℕ) → n ≡ k → a + b + n ≡ a + (b + k)
+together a b n k same = omega arith
+
+asked_planned : (p : Plan) (i : Initiator) (m : ℕ) (ops : List Operation) → asked_in p i m ops ≡ sum_by (at_memory p i m) (flat_map asks_of ops)
+asked_planned p i m [] = refl
+asked_planned p i m (Write a bytes enables width ∷ ops) = ap (λ (n : ℕ). leads p i m a + n) (asked_planned p i m ops) ∙ sym (sum_by-cons (at_memory p i m) (AnAccess a (length bytes + length enables)) (flat_map asks_of ops))
+asked_planned p i m (Read a n enables width ∷ ops) = ap (λ (n : ℕ). leads p i m a + n) (asked_planned p i m ops) ∙ sym (sum_by-cons (at_memory p i m) (AnAccess a (n + length enables)) (flat_map asks_of ops))
+asked_planned p i m (Ignore a ∷ ops) = ap (λ (n : ℕ). leads p i m a + n) (asked_planned p i m ops) ∙ sym (sum_by-cons (at_memory p i m) (AnAccess a 0) (flat_map asks_of ops))
+asked_planned p i m (Debug a n ∷ ops) = ap (λ (n : ℕ). leads p i m a + n) (asked_planned p i m ops) ∙ sym (sum_by-cons (at_memory p i m) (ADebugRead a n) (flat_map asks_of ops))
+asked_planned p i m (Copy from to n ∷ ops) =
+    together (leads p i m from) (leads p i m to) (asked_in p i m ops) (sum_by (at_memory p i m) (flat_map asks_of ops)) (asked_planned p i m ops)
+    ∙ (ap (λ (n : ℕ). leads p i m from + n) (sym (sum_by-cons (at_memory p i m) (AnAccess to n) (flat_map asks_of ops)))
+    ∙ sym (sum_by-cons (at_memory p i m) (AnAccess from n) ((AnAccess to n) ∷ flat_map asks_of ops)))
+asked_planned p i m (Add a n ∷ ops) =
+    together (leads p i m a) (leads p i m a) (asked_in p i m ops) (sum_by (at_memory p i m) (flat_map asks_of ops)) (asked_planned p i m ops)
+    ∙ (ap (λ (n : ℕ). leads p i m a + n) (sym (sum_by-cons (at_memory p i m) (AnAccess a 4) (flat_map asks_of ops)))
+    ∙ sym (sum_by-cons (at_memory p i m) (AnAccess a 4) ((AnAccess a 4) ∷ flat_map asks_of ops)))
+asked_planned p i m (Wait n ∷ ops) = zero-add (asked_in p i m ops) ∙ asked_planned p i m ops
+asked_planned p i m (Sync ∷ ops) = zero-add (asked_in p i m ops) ∙ asked_planned p i m ops
+asked_planned p i m (Fence ∷ ops) = zero-add (asked_in p i m ops) ∙ asked_planned p i m ops
+asked_planned p i m (Invalidate a n ∷ ops) = ap (λ (n : ℕ). leads p i m a + n) (asked_planned p i m ops) ∙ sym (sum_by-cons (at_memory p i m) (AnInvalidation a) (flat_map asks_of ops))
+
+share_bound : (p : Plan) (i : Initiator) (m : ℕ) → asked_in p i m i.script ≤ share_of p i (memory_object m)
+unfolding share_of
+share_bound p i m = omega (arith, asked_planned p i m i.script)
+
+total_bound : (p : Plan) (m : ℕ) (is : List Initiator) → total_left p m is (map (begun_run p) is) ≤ sum_by (λ i. share_of p i (memory_object m)) is
+total_bound p m [] = omega arith
+total_bound p m (i ∷ is) = omega (arith, share_bound p i m, total_bound p m is, sum_by-cons (λ (x : Initiator). share_of p x (memory_object m)) i is)
+
+-- what is planned at a memory is enough for all that is left
+planned_bound : (p : Plan) (m : ℕ) → total_left p m (initiators_of p) (no_runs p) ≤ planned_at p (memory_object m)
+unfolding planned_at
+planned_bound p m = total_bound p m (initiators_of p)
+
+-- the script of an initiator
+record HasScript (p : Plan) (i : Initiator) : Type 0 where
+  pub served : AllByRecursion IsServed i.script
+  pub few : length i.script ≤ 100000
+
+script_from : (p : Plan) (k n : ℕ) (rows : List InitiatorRow) (scripts : List (List Operation)) (i : Initiator) → AllByRecursion (AllByRecursion IsServed) scripts → AllByRecursion (λ (s : List Operation). length s ≤ 100000) scripts → slice_get (initiators_from k rows scripts) n ≡ Some i → HasScript p i
+script_from p k n [] scripts i served few is = cc
+script_from p k n (row ∷ rows) [] i served few is = cc
+script_from p k zero (row ∷ rows) (script ∷ scripts) i served few is =
+    let same : record { number = k; row = row; script = script } ≡ i = cc in
+    subst (HasScript p) same (record { served = served.0; few = few.0 })
+script_from p k (suc n) (row ∷ rows) (script ∷ scripts) i served few is = script_from p (k + 1) n rows scripts i served.1 few.1 is
+
+begun_at : (p : Plan) (is : List Initiator) (k : ℕ) (i : Initiator) (r : Run) → slice_get is k ≡ Some i → slice_get (map (begun_run p) is) k ≡ Some r → begun_run p i ≡ r
+begun_at p [] k i r mine run = cc
+begun_at p (j ∷ is) zero i r mine run =
+    let same : j ≡ i = cc in
+    let that : begun_run p j ≡ r = cc in
+    ap (begun_run p) (sym same) ∙ that
+begun_at p (j ∷ is) (suc k) i r mine run = begun_at p is k i r mine run
+
+-- logs without entries make no history
+empty_logs : (regions : List LoggedMemory) → ((k : ℕ) (m : LoggedMemory) → slice_get regions k ≡ Some m → m.log.entries ≡ []) → entries_in (logs_of regions) ≡ []
+empty_logs [] each = refl
+empty_logs (m ∷ regions) each = ap (λ (l : List Entry). l ++ entries_in (logs_of regions)) (each 0 m refl) ∙ empty_logs regions (λ k x is. each (suc k) x is)
+
+pub no_history : (p : Plan) (regions : List LoggedMemory) (n : ℕ) → AreFresh p regions n → history_of regions ≡ []
+no_history p regions n fresh = ap by_position (empty_logs regions (λ k m is. (fresh.each k m is).empty))
+
+sound_empty : (p : Plan) → IsSound p []
+sound_empty p = record {
+  numbered = tt;
+  legal = tt;
+  scripts = record { replies = tt; ways = tt; order = tt; places = tt };
+  times = tt;
+}
+
+-- a core before its first step
+pub core_begun : (p : Plan) (runs : List Run) (regions : List LoggedMemory) → IsServable p → runs ≡ no_runs p → AreFresh p regions (length p.platform.memories) → length (initiators_of p) ≡ length p.platform.initiators → IsCore p runs regions 0
+core_begun p runs regions servable same fresh count =
+    let none : history_of regions ≡ [] = no_history p regions (length p.platform.memories) fresh in
+    subst (λ (r : List Run). IsCore p r regions 0) (sym same) (record {
+      servable = servable;
+      sound = subst (IsSound p) (sym none) (sound_empty p);
+      count = sym (ap length none);
+      run_count = length-map (initiators_of p) (begun_run p) ∙ count;
+      region_count = fresh.count;
+      each_run = λ k i r mine run. subst (λ (h : List Entry). IsRunOf p h i r) (sym none) (subst (IsRunOf p [] i) (begun_at p (initiators_of p) k i r mine run) (run_begun i (script_from p 0 k p.platform.initiators p.scripts i servable.served servable.few mine)));
+      each_region = λ k m is. subst (λ (h : List Entry). IsMemoryAt p (no_runs p) h k m) (sym none) (memory_begun k m (fresh.each k m is));
+    })
+  where
+    run_begun : (i : Initiator) → HasScript p i → IsRunOf p [] i (begun_run p i)
+    run_begun i has = record {
+      come = HasCome-begun begins p.platform i (2 * length i.script) (omega (arith, syncs_bound p.platform i 0 0 i.script, has.few)) (numbers_bound i.script) has.served;
+      finished = λ f. cc;
+    }
+
+    memory_begun : (k : ℕ) (m : LoggedMemory) → IsFresh p k m → IsMemoryAt p (no_runs p) [] k m
+    memory_begun k m is = record {
+      number = is.number;
+      row = is.row;
+      log = is.empty;
+      few = is.few;
+      roomy = omega (arith, ap length is.empty, planned_bound p k, is.room);
+    }
+
+-- the flags of runs that have not begun
+pub no_flags : (p : Plan) (is : List Initiator) → are_finished (map (begun_run p) is) ≡ map (λ (i : Initiator). false) is
+no_flags p [] = refl
+no_flags p (i ∷ is) = ap (λ (l : List Bool). false ∷ l) (no_flags p is)
+
+no_run_from : (p : Plan) (k n : ℕ) (rows : List InitiatorRow) (scripts : List (List Operation)) (script : List Operation) → slice_get scripts n ≡ Some script → n < length rows → slice_get (map (begun_run p) (initiators_from k rows scripts)) n ≡ Some (begun (k + n) script p.platform.quantum (2 * length script))
+no_run_from p k n [] scripts script is below = absurd (omega arith)
+no_run_from p k n (row ∷ rows) [] script is below = cc
+no_run_from p k zero (row ∷ rows) (s ∷ scripts) script is below =
+    let same : s ≡ script = cc in
+    ap (λ (x : List Operation). Some (begun k x p.platform.quantum (2 * length x))) same ∙ ap (λ (x : ℕ). Some (begun x script p.platform.quantum (2 * length script))) (plus k)
+  where
+    plus : (a : ℕ) → a ≡ a + 0
+    plus a = omega arith
+no_run_from p k (suc n) (row ∷ rows) (s ∷ scripts) script is below =
+    no_run_from p (k + 1) n rows scripts script is (omega arith) ∙ ap (λ (x : ℕ). Some (begun x script p.platform.quantum (2 * length script))) (plus k n)
+  where
+    plus : (a b : ℕ) → a + 1 + b ≡ a + suc b
+    plus a b = omega arith
+
+-- the run of an initiator before its first step
+pub no_run_at : (p : Plan) (n : ℕ) (script : List Operation) → slice_get p.scripts n ≡ Some script → n < length p.platform.initiators → slice_get (no_runs p) n ≡ Some (begun n script p.platform.quantum (2 * length script))
+no_run_at p n script is below = no_run_from p 0 n p.platform.initiators p.scripts script is below ∙ ap (λ (x : ℕ). Some (begun x script p.platform.quantum (2 * length script))) (plus n)
+  where
+    plus : (a : ℕ) → 0 + a ≡ a
+    plus a = omega arith
+
+pub fresh_more : (p : Plan) (regions after : List LoggedMemory) (n : ℕ) (m : LoggedMemory) → AreFresh p regions n → after ≡ regions ++ m ∷ [] → IsFresh p n m → AreFresh p after (n + 1)
+fresh_more p regions after n m fresh pushed is = subst (λ (x : List LoggedMemory). AreFresh p x (n + 1)) (sym pushed) (record {
+  count = length-append regions (m ∷ []) ∙ ap (λ (k : ℕ). k + 1) fresh.count;
+  each = λ k x at. elim (at_push regions m k x at) [
+    | inl before ↦ fresh.each k x before
+    | inr last ↦ subst (IsFresh p k) last.1 (subst (λ (j : ℕ). IsFresh p j m) (sym (last.0 ∙ fresh.count)) is)
+  ];
+})

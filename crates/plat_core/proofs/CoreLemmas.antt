@@ -1,0 +1,507 @@
+-- A core after a turn of an initiator.
+use Rattle.std.proofs.Common.{◌≡◌, ℕ, zero, suc, ◌+◌, ◌-◌, ◌*◌, ◌<◌, ◌≤◌, inl, inr, List, [], ◌∷◌, ◌++◌, length, take, drop, get_or, Option, Some, None, Bool, true, false, cond, nat_eq, nat_lt, is_none, refl, ap, sym, subst, ◌∙◌, arith, length-append}
+use Rattle.std.proofs.Math.Seq.{take-append_seam}
+use Rattle.std.specs.List.{AllByRecursion}
+use Rattle.std.specs.Prelude.{slice_get, MatchOption, IsSomeAnd}
+use Rattle.std.proofs.Math.ListN.{set}
+use Rattle.std.proofs.lemmas.Bool.Decides.{nat_tests}
+use Rattle.std.proofs.lemmas.List.Elements.{filter-append}
+use Rattle.std.proofs.lemmas.Option.{MatchOption-at_some, slice_get_read, slice_get_past}
+use Rattle.std.proofs.lemmas.List.{length-map}
+use Rattle.tlm_types.specs.declared.entry.Entry.{Entry}
+use Rattle.tlm_types.specs.declared.words.ObjectNo.{ObjectNo}
+use Rattle.tlm_types.specs.declared.words.ObjectNo.TheVariants.{Memory as memory_object}
+use Rattle.tlm_model.specs.declared.operation.Operation.{Operation}
+use Rattle.tlm_model.specs.declared.platform.InitiatorRow.{InitiatorRow}
+use Rattle.tlm_model.specs.declared.platform.MemoryRow.{MemoryRow}
+use Rattle.tlm_model.specs.declared.platform.Style.TheVariants.{Blocking as blocking_style}
+use Rattle.tlm_model.specs.Good.{IsSound}
+use Rattle.tlm_model.specs.History.{IsNumbered, entries_at, is_object}
+use Rattle.tlm_model.specs.Plan.{Plan, Initiator, initiators_from, initiators_of}
+use Rattle.tlm_model.specs.Route.{Route as RouteOfModel, Walk, Found, into_memory, into_router, into_window, later, route_of, walk, window_of}
+use Rattle.tlm_model.specs.declared.platform.RouterRow.{RouterRow}
+use Rattle.tlm_model.specs.declared.platform.Target.{Target}
+use Rattle.tlm_model.specs.declared.platform.Target.TheVariants.{Router as RouterTarget, Memory as MemoryTarget}
+use Rattle.tlm_model.proofs.EachLemmas.{append_nil}
+use Rattle.region_object.specs.Region.{LoggedMemory}
+use Rattle.route_plan.specs.declared.step.Route.{Route}
+use Rattle.script_engine.specs.State.{State, op_of}
+use Rattle.script_engine.proofs.Steps.{ends}
+use Rattle.plat_core.specs.Access.{HasLog, IsRouteOf, entry_made, place_of}
+use Rattle.plat_core.specs.Come.{HasCome, has_ended}
+use Rattle.plat_core.specs.Core.{CoreView, IsCore, IsInitiatorStep, IsMemoryAt, IsNodeStep, IsRunOf, IsOwnStep, IsStep, are_finished, history_of, logs_of}
+use Rattle.plat_core.specs.declared.steps.CoreStep.{CoreStep}
+use Rattle.plat_core.specs.declared.steps.CoreStep.TheVariants.{Made, Finished}
+use Rattle.plat_core.specs.Left.{asks_left, leads, total_left}
+use Rattle.plat_core.specs.Merge.{put_in, by_position, entries_in, merged}
+use Rattle.plat_core.specs.Moves.{HasReached, IsUnderWay, Keeps}
+use Rattle.plat_core.specs.Run.{Run, address_of, arrived, engine_after}
+use Rattle.plat_core.specs.declared.turn.Turn.{Turn}
+use Rattle.plat_core.specs.declared.turn.Turn.TheVariants.{Made as turn_made, Ended as turn_ended, NoMemory as no_memory}
+use Rattle.plat_core.specs.Turns.{IsTurn, HasLogAt, HasMadeAccess, HasMoved, HasMovedToEnd, HasRoomAt}
+use Rattle.plat_core.proofs.CountLemmas.{with_sync_finished}
+use Rattle.plat_core.proofs.EndLemmas.{HasCome-other, HasCome-ended, HasCome-open}
+use Rattle.plat_core.proofs.EntryLemmas.{IsAtMemory, IsSound-turn, HasCome-turn}
+use Rattle.plat_core.proofs.LeftLemmas.{left_after, leads_there, total_left-set, total_left-at}
+use Rattle.plat_core.proofs.ListLemmas.{HasElement, at_map, at_set, has_element, length-set', map-set, set-same, within}
+use Rattle.plat_core.proofs.MergeLemmas.{merged-push}
+use Rattle.plat_core.proofs.RunLemmas.{accessed_step, initiator_number}
+
+-- the rows and scripts of an initiator
+pub blocking_from : (k n : ℕ) (rows : List InitiatorRow) (scripts : List (List Operation)) (i : Initiator) → AllByRecursion (λ (row : InitiatorRow). row.style ≡ blocking_style) rows → slice_get (initiators_from k rows scripts) n ≡ Some i → i.row.style ≡ blocking_style
+blocking_from k n [] scripts i all is = cc
+blocking_from k n (row ∷ rows) [] i all is = cc
+blocking_from k zero (row ∷ rows) (script ∷ scripts) i all is =
+    let same : record { number = k; row = row; script = script } ≡ i = cc in
+    subst (λ (x : Initiator). x.row.style ≡ blocking_style) same all.0
+blocking_from k (suc n) (row ∷ rows) (script ∷ scripts) i all is = blocking_from (k + 1) n rows scripts i all.1 is
+
+pub initiators_count : (k : ℕ) (rows : List InitiatorRow) (scripts : List (List Operation)) → length scripts ≡ length rows → length (initiators_from k rows scripts) ≡ length rows
+initiators_count k [] scripts same = refl
+initiators_count k (row ∷ rows) [] same = absurd (omega arith)
+initiators_count k (row ∷ rows) (script ∷ scripts) same = ap suc (initiators_count (k + 1) rows scripts (omega arith))
+
+-- there is an initiator of each number below the number of the runs
+pub initiator_at : (p : Plan) (runs : List Run) (regions : List LoggedMemory) (made k : ℕ) → IsCore p runs regions made → k < length runs → HasElement (initiators_of p) k
+initiator_at p runs regions made k core below = has_element (initiators_of p) k (omega (arith, initiators_count 0 p.platform.initiators p.scripts core.servable.scripts, core.run_count))
+
+-- the run of a core is under way
+pub run_under_way : (p : Plan) (runs : List Run) (regions : List LoggedMemory) (made k : ℕ) (r : Run) → IsCore p runs regions made → slice_get runs k ≡ Some r → IsUnderWay p r
+run_under_way p runs regions made k r core at =
+    let i = initiator_at p runs regions made k core (within runs k r at) in
+    let own = core.each_run k i.element r i.at at in
+    record {
+      initiator = i.element;
+      history = history_of regions;
+      mine = ap (slice_get (initiators_of p)) (own.come.counted.number ∙ initiator_number p k i.element i.at) ∙ i.at;
+      come = own.come;
+    }
+
+-- what is known of an initiator that takes a turn
+pub record HasTurn (p : Plan) (runs : List Run) (regions : List LoggedMemory) (made k : ℕ) (r : Run) : Type 0 where
+  pub initiator : Initiator
+  pub at : slice_get (initiators_of p) k ≡ Some initiator
+  pub number : initiator.number ≡ k
+  pub mine : slice_get (initiators_of p) r.engine.initiator ≡ Some initiator
+  pub own : IsRunOf p (history_of regions) initiator r
+  pub run : slice_get runs k ≡ Some r
+  pub blocking : initiator.row.style ≡ blocking_style
+
+pub has_turn : (p : Plan) (runs : List Run) (regions : List LoggedMemory) (made k : ℕ) (r : Run) → IsCore p runs regions made → slice_get runs k ≡ Some r → HasTurn p runs regions made k r
+has_turn p runs regions made k r core at =
+    let i = initiator_at p runs regions made k core (within runs k r at) in
+    let own = core.each_run k i.element r i.at at in
+    let number = initiator_number p k i.element i.at in
+    record {
+      initiator = i.element;
+      at = i.at;
+      number = number;
+      mine = ap (slice_get (initiators_of p)) (own.come.counted.number ∙ number) ∙ i.at;
+      own = own;
+      run = at;
+      blocking = blocking_from 0 k p.platform.initiators p.scripts i.element core.servable.blocking i.at;
+    }
+
+-- a run that stands at an access with a route has not finished
+not_finished : (p : Plan) (i : Initiator) (h : List Entry) (old new : Run) (route : Route) → slice_get (initiators_of p) old.engine.initiator ≡ Some i → IsRunOf p h i old → Keeps p old new → HasReached p new route → old.finished ≡ true → ⊥
+not_finished p i h old new route mine own keeps reached finished =
+    let come = keeps.come i h mine own.come in
+    let leads = MatchOption-at_some ⊥ (λ (x : Initiator). IsRouteOf p x (address_of (op_of new.engine)) route) i (ap (slice_get (initiators_of p)) keeps.initiator ∙ mine) reached.leads in
+    let ended : has_ended p.platform i h ≡ true = (HasCome-ended ends p.platform i h old own.come (own.finished finished)).ended in
+    let unended : has_ended p.platform i h ≡ false = HasCome-open p.platform i h new (place_of route) reached.access leads.leads come in
+    cc
+
+same_total : (p : Plan) (runs : List Run) (k j : ℕ) (i : Initiator) (old new : Run) → slice_get (initiators_of p) k ≡ Some i → slice_get runs k ≡ Some old → Keeps p old new → total_left p j (initiators_of p) (set runs k new) ≤ total_left p j (initiators_of p) runs
+same_total p runs k j i old new mine run keeps = omega (arith, total_left-set p j 0 (initiators_of p) runs k i old new mine run (omega (arith, keeps.left i j)))
+
+memory_moved : (p : Plan) (runs next : List Run) (h : List Entry) (j : ℕ) (m : LoggedMemory) → total_left p j (initiators_of p) next ≤ total_left p j (initiators_of p) runs → IsMemoryAt p runs h j m → IsMemoryAt p next h j m
+memory_moved p runs next h j m less is = record { number = is.number; row = is.row; log = is.log; few = is.few; roomy = omega (arith, is.roomy) }
+
+-- the others stay where they are
+runs_moved : (p : Plan) (runs : List Run) (h : List Entry) (k : ℕ) (i : Initiator) (new : Run) → slice_get (initiators_of p) k ≡ Some i → IsRunOf p h i new
+    → ((j : ℕ) (x : Initiator) (r : Run) → slice_get (initiators_of p) j ≡ Some x → slice_get runs j ≡ Some r → IsRunOf p h x r)
+    → (j : ℕ) (x : Initiator) (r : Run) → slice_get (initiators_of p) j ≡ Some x → slice_get (set runs k new) j ≡ Some r → IsRunOf p h x r
+runs_moved p runs h k i new mine own each j x r at run =
+    elim (at_set runs k j new r run) [
+      | inl same ↦
+          let same_i : i ≡ x = same_some i x (sym mine ∙ (ap (slice_get (initiators_of p)) (sym same.0) ∙ at)) in
+          subst (λ (y : Initiator). IsRunOf p h y r) same_i (subst (IsRunOf p h i) same.1 own)
+      | inr other ↦ each j x r at other.1
+    ]
+  where
+    same_some : (a b : Initiator) → Some a ≡ Some b → a ≡ b
+    same_some a b q = cc
+
+-- a core whose run has moved to the end of its script
+pub core_ended : (p : Plan) (runs : List Run) (regions after : List LoggedMemory) (made k : ℕ) (old new : Run) → IsCore p runs regions made → slice_get runs k ≡ Some old → HasMovedToEnd p old new regions after → IsCore p (set runs k new) after made
+core_ended p runs regions after made k old new core at moved =
+    let turn = has_turn p runs regions made k old core at in
+    subst (λ (x : List LoggedMemory). IsCore p (set runs k new) x made) (sym moved.same) (record {
+      servable = core.servable;
+      sound = core.sound;
+      count = core.count;
+      run_count = length-set' runs k new ∙ core.run_count;
+      region_count = core.region_count;
+      each_run = runs_moved p runs (history_of regions) k turn.initiator new turn.at (record { come = moved.keeps.come turn.initiator (history_of regions) turn.mine turn.own.come; finished = λ f. moved.ended.done }) core.each_run;
+      each_region = λ j m is. memory_moved p runs (set runs k new) (history_of regions) j m (same_total p runs k j turn.initiator old new turn.at at moved.keeps) (core.each_region j m is);
+    })
+
+same_history : (regions after : List LoggedMemory) (j : ℕ) (m next : LoggedMemory) → HasLogAt regions after j m next → HasLog m next m.log.entries → history_of after ≡ history_of regions
+same_history regions after j m next memory logged =
+    ap history_of memory.now
+    ∙ (ap merged (map-set (λ (x : LoggedMemory). x.log.entries) regions j next)
+    ∙ (ap (λ (log : List Entry). merged (set (logs_of regions) j log)) logged.all
+    ∙ ap merged (set-same (logs_of regions) j m.log.entries (at_map (λ (x : LoggedMemory). x.log.entries) regions j m memory.was))))
+
+-- a memory as before, but for its log
+memory_with : (p : Plan) (runs : List Run) (h : List Entry) (j : ℕ) (m next : LoggedMemory) (entries : List Entry) → HasLog m next entries → entries ≡ m.log.entries → IsMemoryAt p runs h j m → IsMemoryAt p runs h j next
+memory_with p runs h j m next entries logged same is = record {
+  number = logged.number ∙ is.number;
+  row = subst (λ (t : _). IsSomeAnd (slice_get p.platform.memories j) (λ (row : MemoryRow). t ≡ row.traits)) (sym logged.traits) is.row;
+  log = logged.all ∙ (same ∙ is.log);
+  few = subst (λ (n : ℕ). n ≤ 1000000) (sym logged.room) is.few;
+  roomy = omega (arith, logged.room, ap length (logged.all ∙ same), is.roomy);
+}
+
+pub history_moved : (p : Plan) (old new : Run) (regions after : List LoggedMemory) → HasMoved p old new regions after → history_of after ≡ history_of regions
+history_moved p old new regions after moved = same_history regions after moved.place moved.region moved.next moved.memory moved.logged
+
+-- a core whose run has moved to an access that wasn't made
+pub core_moved : (p : Plan) (runs : List Run) (regions after : List LoggedMemory) (made k : ℕ) (old new : Run) → IsCore p runs regions made → slice_get runs k ≡ Some old → HasMoved p old new regions after → IsCore p (set runs k new) after made
+core_moved p runs regions after made k old new core at moved =
+    let turn = has_turn p runs regions made k old core at in
+    let same : history_of after ≡ history_of regions = history_moved p old new regions after moved in
+    record {
+      servable = core.servable;
+      sound = subst (IsSound p) (sym same) core.sound;
+      count = core.count ∙ sym (ap length same);
+      run_count = length-set' runs k new ∙ core.run_count;
+      region_count = ap length moved.memory.now ∙ (length-set' regions moved.place moved.next ∙ core.region_count);
+      each_run = λ j x r mine run. subst (λ (h : List Entry). IsRunOf p h x r) (sym same)
+          (runs_moved p runs (history_of regions) k turn.initiator new turn.at (record {
+            come = moved.keeps.come turn.initiator (history_of regions) turn.mine turn.own.come;
+            finished = λ f. absurd (not_finished p turn.initiator (history_of regions) old new moved.route turn.mine turn.own moved.keeps moved.reached (sym moved.finished ∙ f));
+          }) core.each_run j x r mine run);
+      each_region = λ j m is. subst (λ (h : List Entry). IsMemoryAt p (set runs k new) h j m) (sym same)
+          (regions_moved j m (subst (λ (x : List LoggedMemory). slice_get x j ≡ Some m) moved.memory.now is)
+          (λ x y here. memory_moved p runs (set runs k new) (history_of regions) x y (same_total p runs k x turn.initiator old new turn.at at moved.keeps) (core.each_region x y here)));
+    }
+  where
+    regions_moved : (j : ℕ) (m : LoggedMemory) → slice_get (set regions moved.place moved.next) j ≡ Some m → ((x : ℕ) (y : LoggedMemory) → slice_get regions x ≡ Some y → IsMemoryAt p (set runs k new) (history_of regions) x y) → IsMemoryAt p (set runs k new) (history_of regions) j m
+    regions_moved j m is each =
+        elim (at_set regions moved.place j moved.next m is) [
+          | inl here ↦ subst (IsMemoryAt p (set runs k new) (history_of regions) j) here.1
+              (subst (λ (n : ℕ). IsMemoryAt p (set runs k new) (history_of regions) n moved.next) (sym here.0)
+              (memory_with p (set runs k new) (history_of regions) moved.place moved.region moved.next moved.region.log.entries moved.logged refl (each moved.place moved.region moved.memory.was)))
+          | inr other ↦ each j m other.1
+        ]
+
+-- the memory that a route leads to
+record HasMemory (p : Plan) (runs : List Run) (regions : List LoggedMemory) (route : Route) : Type 0 where
+  pub region : LoggedMemory
+  pub at : slice_get regions route.memory ≡ Some region
+  pub is : IsMemoryAt p runs (history_of regions) route.memory region
+
+into_some : (p : Plan) (o : Option MemoryRow) (m a b : ℕ) (route : RouteOfModel) → (into_memory o m a b).end ≡ Some route → (m ≡ route.memory) × (is_none o ≡ false)
+into_some p None m a b route is = cc
+into_some p (Some row) m a b route is =
+    let same : record { memory = m; offset = a } ≡ route = cc in
+    (ap (λ (r : RouteOfModel). r.memory) same, refl)
+
+window_memory : (p : Plan) (r : ℕ) (f : Option Found) (a b : ℕ) (next : Target → ℕ → ℕ → Walk) (route : RouteOfModel) → ((t : Target) (x y : ℕ) → (next t x y).end ≡ Some route → is_none (slice_get p.platform.memories route.memory) ≡ false) → (into_window p.platform r f a b next).end ≡ Some route → is_none (slice_get p.platform.memories route.memory) ≡ false
+window_memory p r None a b next route each is = cc
+window_memory p r (Some f) a b next route each is = each f.window.to (a - f.window.first + f.window.base) b is
+
+router_memory : (p : Plan) (r : ℕ) (o : Option RouterRow) (a b : ℕ) (next : Target → ℕ → ℕ → Walk) (route : RouteOfModel) → ((t : Target) (x y : ℕ) → (next t x y).end ≡ Some route → is_none (slice_get p.platform.memories route.memory) ≡ false) → (into_router p.platform r o a b next).end ≡ Some route → is_none (slice_get p.platform.memories route.memory) ≡ false
+router_memory p r None a b next route each is = cc
+router_memory p r (Some row) a b next route each is = window_memory p r (window_of 0 row.windows a) a (later b row.latency) next route each is
+
+walk_memory : (p : Plan) (n : ℕ) (t : Target) (a b : ℕ) (route : RouteOfModel) → (walk n p.platform t a b).end ≡ Some route → is_none (slice_get p.platform.memories route.memory) ≡ false
+walk_memory p zero t a b route is = cc
+walk_memory p (suc n) (MemoryTarget m) a b route is =
+    let both = into_some p (slice_get p.platform.memories m) m a b route is in
+    ap (λ (x : ℕ). is_none (slice_get p.platform.memories x)) (sym both.0) ∙ both.1
+walk_memory p (suc n) (RouterTarget r) a b route is =
+    router_memory p r (slice_get p.platform.routers r) a b (λ t x y. walk n p.platform t x y) route (λ t x y. walk_memory p n t x y route) is
+
+is_within : {X : Type 0} (xs : List X) (k : ℕ) → is_none (slice_get xs k) ≡ false → k < length xs
+is_within [] k is = cc
+is_within (x ∷ xs) zero is = omega arith
+is_within (x ∷ xs) (suc k) is = omega (arith, is_within xs k is)
+
+-- a route ends at a memory of the core
+memory_of : (p : Plan) (runs : List Run) (regions : List LoggedMemory) (made : ℕ) (i : Initiator) (a : ℕ) (route : Route) → IsCore p runs regions made → route_of p.platform i a ≡ Some (place_of route) → HasMemory p runs regions route
+memory_of p runs regions made i a route core leads =
+    let there : is_none (slice_get p.platform.memories route.memory) ≡ false = walk_memory p 9 i.row.bind a 0 (place_of route) leads in
+    let found = has_element regions route.memory (omega (arith, is_within p.platform.memories route.memory there, core.region_count)) in
+    record { region = found.element; at = found.at; is = core.each_region route.memory found.element found.at }
+
+route_at : (p : Plan) (i : Initiator) (old middle : Run) (route : Route) → slice_get (initiators_of p) old.engine.initiator ≡ Some i → Keeps p old middle → HasReached p middle route → IsRouteOf p i (address_of (op_of middle.engine)) route
+route_at p i old middle route mine keeps reached = MatchOption-at_some ⊥ (λ (x : Initiator). IsRouteOf p x (address_of (op_of middle.engine)) route) i (ap (slice_get (initiators_of p)) keeps.initiator ∙ mine) reached.leads
+
+one_asked : (p : Plan) (i : Initiator) (old middle : Run) (got : List ℕ) (route : Route) → Keeps p old middle → HasReached p middle route → IsRouteOf p i (address_of (op_of middle.engine)) route → asks_left p i route.memory (engine_after middle.engine got) + 1 ≤ asks_left p i route.memory old.engine
+one_asked p i old middle got route keeps reached leads =
+    omega (arith, left_after p i route.memory middle.engine got reached.access, leads_there p i (address_of (op_of middle.engine)) (place_of route) leads.leads, keeps.left i route.memory)
+
+-- a memory has room for the access that a run comes to
+pub room_for_access : (p : Plan) (runs : List Run) (regions : List LoggedMemory) (made k : ℕ) (old middle : Run) (route : Route) → IsCore p runs regions made → slice_get runs k ≡ Some old → Keeps p old middle → HasReached p middle route → HasRoomAt regions route.memory
+room_for_access p runs regions made k old middle route core at keeps reached =
+    let turn = has_turn p runs regions made k old core at in
+    let leads = route_at p turn.initiator old middle route turn.mine keeps reached in
+    let memory = memory_of p runs regions made turn.initiator (address_of (op_of middle.engine)) route core leads.leads in
+    subst (λ (o : Option LoggedMemory). IsSomeAnd o (λ m. length m.log.entries < m.log.room)) (sym memory.at)
+    (omega (arith, memory.is.roomy, total_left-at p route.memory (initiators_of p) runs k turn.initiator old turn.at at, one_asked p turn.initiator old middle [] route keeps reached leads))
+
+length-put : (e : Entry) (s : List Entry) → length (put_in e s) ≡ suc (length s)
+length-put e [] = refl
+length-put e (x ∷ s) = by_cases (nat_lt e.position x.position) (length-put e s)
+  where
+    by_cases : (b : Bool) → length (put_in e s) ≡ suc (length s) → length (cond b (e ∷ (x ∷ s)) (x ∷ put_in e s)) ≡ suc (suc (length s))
+    by_cases true rest = refl
+    by_cases false rest = ap suc rest
+
+pub length-by_position : (es : List Entry) → length (by_position es) ≡ length es
+length-by_position [] = refl
+length-by_position (e ∷ es) = length-put e (by_position es) ∙ ap suc (length-by_position es)
+
+few_entries : (regions : List LoggedMemory) → ((k : ℕ) (m : LoggedMemory) → slice_get regions k ≡ Some m → length m.log.entries ≤ 1000000) → length (entries_in (logs_of regions)) ≤ 1000000 * length regions
+few_entries [] each = omega arith
+few_entries (m ∷ regions) each = omega (arith, length-append m.log.entries (entries_in (logs_of regions)), each 0 m refl, few_entries regions (λ k x is. each (suc k) x is))
+
+-- the positions of a core are small
+pub few_made : (p : Plan) (runs : List Run) (regions : List LoggedMemory) (made : ℕ) → IsCore p runs regions made → made ≤ 16000000
+few_made p runs regions made core =
+    omega (
+      arith,
+      core.count,
+      length-by_position (entries_in (logs_of regions)),
+      core.region_count,
+      core.servable.memories,
+      few_entries regions (λ k m is. few_at k m (core.each_region k m is)),
+    )
+  where
+    few_at : (k : ℕ) (m : LoggedMemory) → IsMemoryAt p runs (history_of regions) k m → length m.log.entries ≤ 1000000
+    few_at k m is = omega (arith, is.roomy, is.few)
+
+entries_at-push : (o : ObjectNo) (h : List Entry) (e : Entry) → entries_at o (h ++ e ∷ []) ≡ entries_at o h ++ cond (is_object o e.object) (e ∷ []) []
+entries_at-push o h e = filter-append (λ (x : Entry). is_object o x.object) h (e ∷ [])
+
+history_made : (p : Plan) (old new : Run) (regions after : List LoggedMemory) (made : ℕ) → IsNumbered (history_of regions) → made ≡ length (history_of regions) → (is : HasMadeAccess p old new regions after made) → history_of after ≡ history_of regions ++ entry_made is.middle is.region is.route made ∷ []
+history_made p old new regions after made numbered count is =
+    let e = entry_made is.middle is.region is.route made in
+    ap history_of is.memory.now
+    ∙ (ap merged (map-set (λ (x : LoggedMemory). x.log.entries) regions is.route.memory is.next)
+    ∙ (ap (λ (log : List Entry). merged (set (logs_of regions) is.route.memory log)) is.logged.all
+    ∙ merged-push (logs_of regions) is.route.memory is.region.log.entries e (at_map (λ (x : LoggedMemory). x.log.entries) regions is.route.memory is.region is.memory.was) numbered count))
+
+pub record SomeRow (o : Option MemoryRow) (P : MemoryRow → Type 0) : Type 0 where
+  pub row : MemoryRow
+  pub at : o ≡ Some row
+  pub has : P row
+
+pub some_row : (o : Option MemoryRow) (P : MemoryRow → Type 0) → IsSomeAnd o P → SomeRow o P
+some_row None P is = absurd is
+some_row (Some row) P is = record { row = row; at = refl; has = is }
+
+pub at_memory : (p : Plan) (runs : List Run) (h : List Entry) (route : Route) (m : LoggedMemory) → IsMemoryAt p runs h route.memory m → IsAtMemory p h route m
+at_memory p runs h route m is =
+    let found = some_row (slice_get p.platform.memories route.memory) (λ (row : MemoryRow). m.traits ≡ row.traits) is.row in
+    record { row = found.row; memory = found.at; traits = found.has; number = is.number; log = is.log }
+
+fewer_asks : (p : Plan) (i : Initiator) (j : ℕ) (old middle new : Run) (got : List ℕ) (route : Route) → new.engine ≡ engine_after middle.engine got → Keeps p old middle → HasReached p middle route → asks_left p i j new.engine + 0 ≤ asks_left p i j old.engine
+fewer_asks p i j old middle new got route same keeps reached =
+    let engine : asks_left p i j new.engine ≡ asks_left p i j (engine_after middle.engine got) = ap (asks_left p i j) same in
+    omega (arith, engine, left_after p i j middle.engine got reached.access, keeps.left i j)
+
+apart : (a b : ℕ) → nat_eq a b ≡ false → nat_eq b a ≡ false
+apart a b is = grind (arith, nat_tests)
+
+own_memory : (a b : ℕ) → a ≡ b → nat_eq a b ≡ true
+own_memory a b is = grind (arith, nat_tests)
+
+-- the run of an initiator, with an entry of another
+other_run : (p : Plan) (h : List Entry) (e : Entry) (x : Initiator) (r : Run) (j k : ℕ) → nat_eq j k ≡ false → x.number ≡ j → e.txn.initiator ≡ k → IsRunOf p h x r → IsRunOf p (h ++ e ∷ []) x r
+other_run p h e x r j k other number mine is = record {
+  come = HasCome-other p.platform x h e r (ap (nat_eq e.txn.initiator) number ∙ (ap (λ (n : ℕ). nat_eq n j) mine ∙ apart j k other)) is.come;
+  finished = is.finished;
+}
+
+runs_made : (p : Plan) (runs : List Run) (h : List Entry) (e : Entry) (k : ℕ) (i : Initiator) (new : Run) → slice_get (initiators_of p) k ≡ Some i → e.txn.initiator ≡ k → IsRunOf p (h ++ e ∷ []) i new
+    → ((j : ℕ) (x : Initiator) (r : Run) → slice_get (initiators_of p) j ≡ Some x → slice_get runs j ≡ Some r → IsRunOf p h x r)
+    → (j : ℕ) (x : Initiator) (r : Run) → slice_get (initiators_of p) j ≡ Some x → slice_get (set runs k new) j ≡ Some r → IsRunOf p (h ++ e ∷ []) x r
+runs_made p runs h e k i new mine number own each j x r at run =
+    elim (at_set runs k j new r run) [
+      | inl same ↦
+          let same_i : i ≡ x = same_some i x (sym mine ∙ (ap (slice_get (initiators_of p)) (sym same.0) ∙ at)) in
+          subst (λ (y : Initiator). IsRunOf p (h ++ e ∷ []) y r) same_i (subst (IsRunOf p (h ++ e ∷ []) i) same.1 own)
+      | inr other ↦ other_run p h e x r j k other.0 (initiator_number p j x at) number (each j x r at other.1)
+    ]
+  where
+    same_some : (a b : Initiator) → Some a ≡ Some b → a ≡ b
+    same_some a b q = cc
+
+-- the memory at which the entry was made
+memory_made : (p : Plan) (runs next_runs : List Run) (h : List Entry) (e : Entry) (k : ℕ) (m next : LoggedMemory) → IsMemoryAt p runs h k m → HasLog m next (m.log.entries ++ e ∷ []) → e.object ≡ memory_object m.number → total_left p k (initiators_of p) next_runs + 1 ≤ total_left p k (initiators_of p) runs → IsMemoryAt p next_runs (h ++ e ∷ []) k next
+memory_made p runs next_runs h e k m next is logged object less = record {
+  number = logged.number ∙ is.number;
+  row = subst (λ (t : _). IsSomeAnd (slice_get p.platform.memories k) (λ (row : MemoryRow). t ≡ row.traits)) (sym logged.traits) is.row;
+  log =
+      logged.all
+      ∙ (ap (λ (l : List Entry). l ++ e ∷ []) is.log
+      ∙ sym (entries_at-push (memory_object k) h e
+      ∙ ap (λ (b : Bool). entries_at (memory_object k) h ++ cond b (e ∷ []) []) (ap (is_object (memory_object k)) object ∙ own_memory m.number k is.number)));
+  few = subst (λ (n : ℕ). n ≤ 1000000) (sym logged.room) is.few;
+  roomy = omega (arith, logged.room, ap length logged.all, length-append m.log.entries (e ∷ []), is.roomy);
+}
+
+-- another memory
+memory_kept : (p : Plan) (runs next_runs : List Run) (h : List Entry) (e : Entry) (j n : ℕ) (m : LoggedMemory) → IsMemoryAt p runs h j m → e.object ≡ memory_object n → nat_eq j n ≡ false → total_left p j (initiators_of p) next_runs ≤ total_left p j (initiators_of p) runs → IsMemoryAt p next_runs (h ++ e ∷ []) j m
+memory_kept p runs next_runs h e j n m is object other less = record {
+  number = is.number;
+  row = is.row;
+  log =
+      is.log
+      ∙ sym (entries_at-push (memory_object j) h e
+      ∙ (ap (λ (b : Bool). entries_at (memory_object j) h ++ cond b (e ∷ []) []) (ap (is_object (memory_object j)) object ∙ apart j n other)
+      ∙ append_nil (entries_at (memory_object j) h)));
+  few = is.few;
+  roomy = omega (arith, is.roomy);
+}
+
+-- a core whose run has made an access
+pub core_made : (p : Plan) (runs : List Run) (regions after : List LoggedMemory) (made k : ℕ) (old new : Run) → IsCore p runs regions made → slice_get runs k ≡ Some old → HasMadeAccess p old new regions after made → IsCore p (set runs k new) after (made + 1)
+core_made p runs regions after made k old new core at is =
+    let h = history_of regions in
+    let e = entry_made is.middle is.region is.route made in
+    let turn = has_turn p runs regions made k old core at in
+    let i = turn.initiator in
+    let leads = route_at p i old is.middle is.route turn.mine is.keeps is.reached in
+    let memory = core.each_region is.route.memory is.region is.memory.was in
+    let come = is.keeps.come i h turn.mine turn.own.come in
+    let same : history_of after ≡ h ++ e ∷ [] = history_made p old new regions after made core.sound.numbered core.count is in
+    let mine : slice_get (initiators_of p) i.number ≡ Some i = ap (slice_get (initiators_of p)) turn.number ∙ turn.at in
+    let engine : new.engine ≡ engine_after is.middle.engine is.got = ap (λ (r : Run). r.engine) is.run ∙ accessed_step (op_of is.middle.engine) is.route.latency is.got is.middle in
+    let own : IsRunOf p (h ++ e ∷ []) i new = record {
+      come = subst (HasCome p.platform i (h ++ e ∷ [])) (sym is.run) (HasCome-turn p i h is.middle is.region is.route made is.got come is.reached.access leads memory.number is.told);
+      finished = λ f. absurd (not_finished p i h old is.middle is.route turn.mine turn.own is.keeps is.reached (sym is.finished ∙ (sym (ap (λ (r : Run). r.finished) is.run ∙ with_sync_finished (op_of is.middle.engine) (record is.middle { engine = engine_after is.middle.engine is.got; keeper = arrived (op_of is.middle.engine) is.route.latency is.middle.keeper })) ∙ f)));
+    } in
+    record {
+      servable = core.servable;
+      sound = subst (IsSound p) (sym same) (IsSound-turn p i h is.middle is.region is.route made core.sound mine turn.blocking come is.reached.access leads (at_memory p runs h is.route is.region memory) core.count);
+      count = sym (ap length same ∙ (length-append h (e ∷ []) ∙ ap (λ (n : ℕ). n + 1) (sym core.count)));
+      run_count = length-set' runs k new ∙ core.run_count;
+      region_count = ap length is.memory.now ∙ (length-set' regions is.route.memory is.next ∙ core.region_count);
+      each_run = λ j x r at_j run. subst (λ (l : List Entry). IsRunOf p l x r) (sym same) (runs_made p runs h e k i new turn.at (come.counted.number ∙ turn.number) own core.each_run j x r at_j run);
+      each_region = λ j m here. subst (λ (l : List Entry). IsMemoryAt p (set runs k new) l j m) (sym same)
+          (regions_made j m i memory (subst (λ (x : List LoggedMemory). slice_get x j ≡ Some m) is.memory.now here)
+          (λ x. omega (arith, total_left-set p x 0 (initiators_of p) runs k i old new turn.at at (fewer_asks p i x old is.middle new is.got is.route engine is.keeps is.reached)))
+          (total_left-set p is.route.memory 1 (initiators_of p) runs k i old new turn.at at
+          (subst (λ (s : State). asks_left p i is.route.memory s + 1 ≤ asks_left p i is.route.memory old.engine) (sym engine) (one_asked p i old is.middle is.got is.route is.keeps is.reached leads))));
+    }
+  where
+    regions_made : (j : ℕ) (m : LoggedMemory) (i : Initiator) → IsMemoryAt p runs (history_of regions) is.route.memory is.region → slice_get (set regions is.route.memory is.next) j ≡ Some m
+        → ((x : ℕ) → total_left p x (initiators_of p) (set runs k new) ≤ total_left p x (initiators_of p) runs)
+        → total_left p is.route.memory (initiators_of p) (set runs k new) + 1 ≤ total_left p is.route.memory (initiators_of p) runs
+        → IsMemoryAt p (set runs k new) (history_of regions ++ entry_made is.middle is.region is.route made ∷ []) j m
+    regions_made j m i memory here less one =
+        elim (at_set regions is.route.memory j is.next m here) [
+          | inl same ↦ subst (IsMemoryAt p (set runs k new) (history_of regions ++ entry_made is.middle is.region is.route made ∷ []) j) same.1
+              (subst (λ (n : ℕ). IsMemoryAt p (set runs k new) (history_of regions ++ entry_made is.middle is.region is.route made ∷ []) n is.next) (sym same.0)
+              (memory_made p runs (set runs k new) (history_of regions) (entry_made is.middle is.region is.route made) is.route.memory is.region is.next memory is.logged refl one))
+          | inr other ↦ memory_kept p runs (set runs k new) (history_of regions) (entry_made is.middle is.region is.route made) j is.route.memory m (core.each_region j m other.1) (ap memory_object memory.number) other.0 (less j)
+        ]
+
+-- the finished flags of the runs
+finished_same : (runs : List Run) (k : ℕ) (old new : Run) → slice_get runs k ≡ Some old → new.finished ≡ old.finished → are_finished (set runs k new) ≡ are_finished runs
+finished_same runs k old new at same =
+    map-set (λ (r : Run). r.finished) runs k new
+    ∙ (ap (set (are_finished runs) k) same ∙ set-same (are_finished runs) k old.finished (at_map (λ (r : Run). r.finished) runs k old at))
+
+step_of : (old : CoreView) (k : ℕ) (i : Initiator) (new : CoreView) (step : CoreStep) → slice_get (initiators_of old.plan) k ≡ Some i → IsInitiatorStep old k i new step → IsStep old k new step
+step_of old k i new step at is = subst (λ (o : Option Initiator). MatchOption o (IsNodeStep old new step) (λ x. IsInitiatorStep old k x new step)) (sym at) is
+
+-- the step of an initiator that has made an entry
+pub step_made : (p : Plan) (runs : List Run) (regions after : List LoggedMemory) (made k : ℕ) (old new : Run) → IsCore p runs regions made → slice_get runs k ≡ Some old → HasMadeAccess p old new regions after made
+    → IsStep (record { plan = p; history = history_of regions; finished = are_finished runs }) k (record { plan = p; history = history_of after; finished = are_finished (set runs k new) }) (Made made)
+step_made p runs regions after made k old new core at is =
+    let turn = has_turn p runs regions made k old core at in
+    let same : history_of after ≡ history_of regions ++ entry_made is.middle is.region is.route made ∷ [] = history_made p old new regions after made core.sound.numbered core.count is in
+    let flag : new.finished ≡ old.finished = ap (λ (r : Run). r.finished) is.run ∙ (with_sync_finished (op_of is.middle.engine) (record is.middle { engine = engine_after is.middle.engine is.got; keeper = arrived (op_of is.middle.engine) is.route.latency is.middle.keeper }) ∙ is.finished) in
+    let come = is.keeps.come turn.initiator (history_of regions) turn.mine turn.own.come in
+    let leads = route_at p turn.initiator old is.middle is.route turn.mine is.keeps is.reached in
+    step_of (record { plan = p; history = history_of regions; finished = are_finished runs }) k turn.initiator (record { plan = p; history = history_of after; finished = are_finished (set runs k new) }) (Made made) turn.at (record {
+      unended = HasCome-open p.platform turn.initiator (history_of regions) is.middle (place_of is.route) is.reached.access leads.leads come;
+      entry = entry_made is.middle is.region is.route made;
+      after = view_is p (history_of after) (history_of regions ++ entry_made is.middle is.region is.route made ∷ []) (are_finished (set runs k new)) (are_finished runs) same (finished_same runs k old new at flag);
+      mine = come.counted.number;
+      at_end = core.count;
+      sound = (core_made p runs regions after made k old new core at is).sound;
+    })
+  where
+    view_is : (p : Plan) (h g : List Entry) (a b : List Bool) → h ≡ g → a ≡ b → ◌≡◌ {A = CoreView} (record { plan = p; history = h; finished = a }) (record { plan = p; history = g; finished = b })
+    view_is p h g a b x y = ap (λ (l : List Entry). record { plan = p; history = l; finished = a }) x ∙ ap (λ (l : List Bool). record { plan = p; history = g; finished = l }) y
+
+-- the step of an initiator that has finished
+pub step_ended : (p : Plan) (runs : List Run) (regions after : List LoggedMemory) (made k : ℕ) (old new : Run) → IsCore p runs regions made → slice_get runs k ≡ Some old → HasMovedToEnd p old new regions after
+    → IsStep (record { plan = p; history = history_of regions; finished = are_finished runs }) k (record { plan = p; history = history_of after; finished = are_finished (set runs k new) }) Finished
+step_ended p runs regions after made k old new core at is =
+    let turn = has_turn p runs regions made k old core at in
+    let come = is.keeps.come turn.initiator (history_of regions) turn.mine turn.own.come in
+    step_of (record { plan = p; history = history_of regions; finished = are_finished runs }) k turn.initiator (record { plan = p; history = history_of after; finished = are_finished (set runs k new) }) Finished turn.at (record {
+      ended = (HasCome-ended ends p.platform turn.initiator (history_of regions) new come is.ended.done).ended;
+      after = view_is p (history_of after) (history_of regions) (are_finished (set runs k new)) (set (are_finished runs) k true) (ap history_of is.same) (map-set (λ (r : Run). r.finished) runs k new ∙ ap (set (are_finished runs) k) is.ended.finished);
+    })
+  where
+    view_is : (p : Plan) (h g : List Entry) (a b : List Bool) → h ≡ g → a ≡ b → ◌≡◌ {A = CoreView} (record { plan = p; history = h; finished = a }) (record { plan = p; history = g; finished = b })
+    view_is p h g a b x y = ap (λ (l : List Entry). record { plan = p; history = l; finished = a }) x ∙ ap (λ (l : List Bool). record { plan = p; history = g; finished = l }) y
+
+-- a core that has moved to an access that wasn't made is seen as before
+pub view_moved : (p : Plan) (runs : List Run) (regions after : List LoggedMemory) (k : ℕ) (old new : Run) → slice_get runs k ≡ Some old → HasMoved p old new regions after
+    → ◌≡◌ {A = CoreView} (record { plan = p; history = history_of after; finished = are_finished (set runs k new) }) (record { plan = p; history = history_of regions; finished = are_finished runs })
+view_moved p runs regions after k old new at is =
+    ap (λ (l : List Entry). record { plan = p; history = l; finished = are_finished (set runs k new) }) (history_moved p old new regions after is)
+    ∙ ap (λ (l : List Bool). record { plan = p; history = history_of regions; finished = l }) (finished_same runs k old new at is.finished)
+
+-- all that a slice's write leaves of a vector
+pub whole_write : {X : Type 0} (n : ℕ) (xs ys : List X) → length xs ≡ n → take n (xs ++ drop (length xs) ys) ≡ xs
+whole_write n xs ys same = ap (λ (k : ℕ). take k (xs ++ drop (length xs) ys)) (sym same) ∙ take-append_seam xs (drop (length xs) ys)
+
+-- the memories after a turn's writes
+abbrev pub written : ℕ → List LoggedMemory → List LoggedMemory → List LoggedMemory
+written len after regions = take len (after ++ drop (length after) regions)
+
+-- a run of the core, by its index
+pub run_at : (runs : List Run) (k : ℕ) (old : Run) (finished : List Bool) → are_finished runs ≡ finished → k < length finished → old ≡ get_or runs k old → slice_get runs k ≡ Some old
+run_at runs k old finished same below is = slice_get_read runs (length runs) k old refl (omega (arith, ap length same, length-map runs (λ (r : Run). r.finished))) is
+
+pub made_access : (p : Plan) (old new : Run) (before regions after : List LoggedMemory) (made : ℕ) (turn : Turn) → before ≡ regions → IsTurn p old new before after made turn → turn ≡ turn_made → HasMadeAccess p old new regions after made
+made_access p old new before regions after made turn same is how = subst (λ (x : List LoggedMemory). HasMadeAccess p old new x after made) same (subst (IsTurn p old new before after made) how is)
+
+pub moved_to_end : (p : Plan) (old new : Run) (before regions after : List LoggedMemory) (made : ℕ) (turn : Turn) → before ≡ regions → IsTurn p old new before after made turn → turn ≡ turn_ended → HasMovedToEnd p old new regions after
+moved_to_end p old new before regions after made turn same is how = subst (λ (x : List LoggedMemory). HasMovedToEnd p old new x after) same (subst (IsTurn p old new before after made) how is)
+
+pub moved_on : (p : Plan) (old new : Run) (before regions after : List LoggedMemory) (made : ℕ) (turn : Turn) → before ≡ regions → IsTurn p old new before after made turn → turn ≡ no_memory → HasMoved p old new regions after
+moved_on p old new before regions after made turn same is how = subst (λ (x : List LoggedMemory). HasMoved p old new x after) same (subst (IsTurn p old new before after made) how is)
+
+-- an actor that is no initiator
+pub node_at : (p : Plan) (runs : List Run) (regions : List LoggedMemory) (made k : ℕ) → IsCore p runs regions made → length runs ≤ k → slice_get (initiators_of p) k ≡ None
+node_at p runs regions made k core past = slice_get_past (initiators_of p) k (omega (arith, core.run_count, initiators_count 0 p.platform.initiators p.scripts core.servable.scripts))
+
+pub node_steps : (v w : CoreView) (k : ℕ) (step : CoreStep) → v ≡ w → slice_get (initiators_of v.plan) k ≡ None → IsNodeStep w w step → IsStep w k w step
+node_steps v w k step same none is =
+    subst (λ (o : Option Initiator). MatchOption o (IsNodeStep w w step) (λ i. IsInitiatorStep w k i w step)) (sym (ap (λ (x : CoreView). slice_get (initiators_of x.plan) k) (sym same) ∙ none)) is
+
+pub few_history : (p : Plan) (runs : List Run) (regions : List LoggedMemory) (made : ℕ) → IsCore p runs regions made → length (history_of regions) ≤ 16000000
+few_history p runs regions made core = omega (arith, few_made p runs regions made core, core.count)
+
+pub own_made : (p : Plan) (runs : List Run) (regions after : List LoggedMemory) (made k : ℕ) (old new : Run) → IsCore p runs regions made → slice_get runs k ≡ Some old → HasMadeAccess p old new regions after made
+    → IsOwnStep (record { plan = p; history = history_of regions; finished = are_finished runs }) k (record { plan = p; history = history_of after; finished = are_finished (set runs k new) }) (Made made)
+own_made p runs regions after made k old new core at is = (
+  refl,
+  finished_same runs k old new at (ap (λ (r : Run). r.finished) is.run ∙ (with_sync_finished (op_of is.middle.engine) (record is.middle { engine = engine_after is.middle.engine is.got; keeper = arrived (op_of is.middle.engine) is.route.latency is.middle.keeper }) ∙ is.finished)),
+  ap length (history_made p old new regions after made core.sound.numbered core.count is) ∙ length-append (history_of regions) (entry_made is.middle is.region is.route made ∷ []),
+)
+
+pub own_ended : (p : Plan) (runs : List Run) (regions after : List LoggedMemory) (made k : ℕ) (old new : Run) → IsCore p runs regions made → slice_get runs k ≡ Some old → HasMovedToEnd p old new regions after
+    → IsOwnStep (record { plan = p; history = history_of regions; finished = are_finished runs }) k (record { plan = p; history = history_of after; finished = are_finished (set runs k new) }) Finished
+own_ended p runs regions after made k old new core at is = (refl, map-set (λ (r : Run). r.finished) runs k new ∙ ap (set (are_finished runs) k) is.ended.finished)

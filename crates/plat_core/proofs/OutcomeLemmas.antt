@@ -1,0 +1,172 @@
+-- The outcome of a core, and of a whole run.
+use Rattle.std.proofs.Common.{◌≡◌, ℕ, zero, suc, ◌+◌, ◌<◌, ◌≤◌, inl, inr, List, [], ◌∷◌, ◌++◌, length, map, take, get_or, Option, Some, Bool, true, false, nat_eq, refl, ap, sym, subst, ◌∙◌, arith}
+use Rattle.std.specs.List.{AllByRecursion, list_all}
+use Rattle.std.specs.Prelude.{slice_get, IsTrue, IsSomeAnd}
+use Rattle.std.proofs.Math.ListN.{set}
+use Rattle.std.proofs.lemmas.Bool.Decides.{nat_tests}
+use Rattle.std.proofs.lemmas.List.{length-map}
+use Rattle.std.proofs.lemmas.Option.{slice_get-get_or}
+use Rattle.tlm_types.specs.declared.ends.EndOf.{EndOf}
+use Rattle.tlm_types.specs.declared.words.ObjectNo.TheVariants.{Memory as memory_object}
+use Rattle.tlm_model.specs.declared.platform.MemoryRow.{MemoryRow}
+use Rattle.tlm_model.specs.declared.platform.Style.{Style}
+use Rattle.tlm_model.specs.declared.platform.Style.TheVariants.{Blocking as blocking_style}
+use Rattle.tlm_model.specs.Good.{IsGood}
+use Rattle.tlm_model.specs.History.{last_store}
+use Rattle.tlm_model.specs.Log.{log_bytes}
+use Rattle.tlm_model.specs.Plan.{Plan, Initiator, initiators_of}
+use Rattle.tlm_model.specs.Requests.{requests_of}
+use Rattle.tlm_model.specs.Rounds.{syncs_by, syncs_from}
+use Rattle.tlm_model.specs.Scripts.{is_settled}
+use Rattle.region_object.specs.Region.{LoggedMemory}
+use Rattle.route_plan.specs.Planned.{planned_at}
+use Rattle.script_engine.proofs.Steps.{ends}
+use Rattle.plat_core.specs.declared.outcome.Outcome.{Outcome}
+use Rattle.plat_core.specs.Come.{IsEndOf}
+use Rattle.plat_core.specs.Core.{CoreView, IsCore, IsMemoryAt, all_true, are_finished, begun_core, history_of}
+use Rattle.plat_core.specs.Fresh.{AreFresh, IsFresh}
+use Rattle.plat_core.proofs.ReportLemmas.{whole_of}
+use Rattle.plat_core.specs.Outcome.{HasFollowed, IsOutcome, IsScheduled, IsTurnOf, IsWhole}
+use Rattle.plat_core.specs.Run.{Run, end_at}
+use Rattle.plat_core.proofs.AnswerLemmas.{and_left, and_right, and_true}
+use Rattle.plat_core.proofs.CoreLemmas.{some_row, blocking_from, initiators_count}
+use Rattle.plat_core.proofs.EndLemmas.{HasCome-ended}
+use Rattle.plat_core.proofs.EntryLemmas.{bytes_are}
+use Rattle.plat_core.proofs.ListLemmas.{at_set, has_element, take_all, take_next, within}
+
+-- an element that was made of another
+record IsMade {X Y : Type 0} (f : X → Y) (xs : List X) (k : ℕ) (y : Y) : Type 0 where
+  pub from : X
+  pub at : slice_get xs k ≡ Some from
+  pub makes : f from ≡ y
+
+is_made : {X Y : Type 0} (f : X → Y) (xs : List X) (k : ℕ) (y : Y) → slice_get (map f xs) k ≡ Some y → IsMade f xs k y
+is_made f [] k y is = cc
+is_made f (x ∷ xs) zero y is = record { from = x; at = refl; makes = cc }
+is_made f (x ∷ xs) (suc k) y is = let rest = is_made f xs k y is in record { from = rest.from; at = rest.at; makes = rest.makes }
+
+flag_at : (runs : List Run) (k : ℕ) (r : Run) → all_true (are_finished runs) ≡ true → slice_get runs k ≡ Some r → r.finished ≡ true
+flag_at [] k r all is = cc
+flag_at (x ∷ runs) zero r all is =
+    let same : x ≡ r = cc in
+    ap (λ (y : Run). y.finished) (sym same) ∙ and_left x.finished (all_true (are_finished runs)) all
+flag_at (x ∷ runs) (suc k) r all is = flag_at runs k r (and_right x.finished (all_true (are_finished runs)) all) is
+
+all_of : (P : Initiator → Type 0) (is : List Initiator) → ((k : ℕ) (i : Initiator) → slice_get is k ≡ Some i → P i) → AllByRecursion P is
+all_of P [] each = tt
+all_of P (i ∷ is) each = (each 0 i refl, all_of P is (λ k x at. each (suc k) x at))
+
+blocking_syncs : (style : Style) (n : ℕ) → style ≡ blocking_style → syncs_by style n ≡ n
+blocking_syncs style n is = ap (λ (s : Style). syncs_by s n) is
+
+-- how an initiator ended that has finished
+end_of_run : (p : Plan) (runs : List Run) (regions : List LoggedMemory) (made k : ℕ) (i : Initiator) (r : Run) → IsCore p runs regions made → slice_get (initiators_of p) k ≡ Some i → slice_get runs k ≡ Some r → r.finished ≡ true → IsEndOf p.platform i (history_of regions) (end_at r)
+end_of_run p runs regions made k i r core mine run finished =
+    let own = core.each_run k i r mine run in
+    let reached = HasCome-ended ends p.platform i (history_of regions) r own.come (own.finished finished) in
+    record {
+      transactions = reached.transactions;
+      syncs = reached.syncs ∙ sym (blocking_syncs i.row.style (syncs_from p.platform i 0 0 i.script) (blocking_from 0 k p.platform.initiators p.scripts i core.servable.blocking mine));
+      time = reached.end;
+      refused = reached.refused;
+    }
+
+good_core : (p : Plan) (runs : List Run) (regions : List LoggedMemory) (made : ℕ) → IsCore p runs regions made → all_true (are_finished runs) ≡ true → IsGood p (history_of regions)
+good_core p runs regions made core all = record {
+  sound = core.sound;
+  ended = record {
+    answers = all_of (λ (i : Initiator). IsTrue (list_all (is_settled p.platform i (history_of regions)) (requests_of p.platform i (history_of regions)))) (initiators_of p) (λ k i mine.
+        let found = has_element runs k (omega (arith, within (initiators_of p) k i mine, initiators_count 0 p.platform.initiators p.scripts core.servable.scripts, core.run_count)) in
+        let own = core.each_run k i found.element mine found.at in
+        (HasCome-ended ends p.platform i (history_of regions) found.element own.come (own.finished (flag_at runs k found.element all found.at))).ended);
+  };
+}
+
+-- the outcome of a core
+outcome_seen : (p : Plan) (runs : List Run) (regions : List LoggedMemory) (made : ℕ) (o : Outcome) → IsCore p runs regions made → o.history.entries ≡ history_of regions → o.stores ≡ map (λ (m : LoggedMemory). log_bytes m.traits m.log.entries) regions → o.ends ≡ map end_at runs → o.complete ≡ all_true (are_finished runs) → IsOutcome (record { plan = p; history = history_of regions; finished = are_finished runs }) o
+outcome_seen p runs regions made o core history stores ended complete = record {
+  history = history;
+  sound = core.sound;
+  complete = complete;
+  scripts = core.servable.scripts;
+  flags = length-map runs (λ (r : Run). r.finished) ∙ core.run_count;
+  good = good_core p runs regions made core;
+  memories = ap length stores ∙ (length-map regions (λ (m : LoggedMemory). log_bytes m.traits m.log.entries) ∙ core.region_count);
+  stores = λ m bytes is.
+      let from = is_made (λ (x : LoggedMemory). log_bytes x.traits x.log.entries) regions m bytes (subst (λ (l : List (List ℕ)). slice_get l m ≡ Some bytes) stores is) in
+      sym from.makes ∙ store_at m from.from (core.each_region m from.from from.at);
+  initiators = ap length ended ∙ (length-map runs end_at ∙ core.run_count);
+  ends = λ n i end finished mine is.
+      let from = is_made end_at runs n end (subst (λ (l : List EndOf). slice_get l n ≡ Some end) ended is) in
+      let flag = is_made (λ (r : Run). r.finished) runs n true finished in
+      let same : flag.from ≡ from.from = same_run flag.from from.from (sym flag.at ∙ from.at) in
+      subst (IsEndOf p.platform i (history_of regions)) from.makes (end_of_run p runs regions made n i from.from core mine from.at (ap (λ (r : Run). r.finished) (sym same) ∙ flag.makes));
+}
+  where
+    same_run : (a b : Run) → Some a ≡ Some b → a ≡ b
+    same_run a b q = cc
+
+    store_at : (m : ℕ) (x : LoggedMemory) → IsMemoryAt p runs (history_of regions) m x → log_bytes x.traits x.log.entries ≡ last_store p.platform (history_of regions) m
+    store_at m x is =
+        let row = some_row (slice_get p.platform.memories m) (λ (r : MemoryRow). x.traits ≡ r.traits) is.row in
+        bytes_are p (history_of regions) x.log.entries m row.row x.traits row.at row.has is.log
+
+pub outcome_is : (p : Plan) (runs : List Run) (regions : List LoggedMemory) (made : ℕ) (v : CoreView) (o : Outcome) → IsCore p runs regions made → record { plan = p; history = history_of regions; finished = are_finished runs } ≡ v → o.history.entries ≡ history_of regions → o.stores ≡ map (λ (m : LoggedMemory). log_bytes m.traits m.log.entries) regions → o.ends ≡ map end_at runs → o.complete ≡ all_true v.finished → IsOutcome v o
+outcome_is p runs regions made v o core seen history stores ended complete =
+    subst (λ (w : CoreView). IsOutcome w o) seen (outcome_seen p runs regions made o core history stores ended (complete ∙ ap (λ (w : CoreView). all_true w.finished) (sym seen)))
+
+-- one more number of a schedule
+pub followed_more : (a b c : CoreView) (ns : List ℕ) (n : ℕ) → HasFollowed a ns b → IsTurnOf b n c → HasFollowed a (ns ++ n ∷ []) c
+followed_more a b c [] n before turn = (c, subst (λ (x : CoreView). IsTurnOf x n c) before turn, refl)
+followed_more a b c (k ∷ ns) n before turn = (before.0, before.1, followed_more before.0 b c ns n before.2 turn)
+
+pub followed_next : (a b c : CoreView) (schedule : List ℕ) (k n : ℕ) → k < length schedule → n ≡ get_or schedule k 0 → HasFollowed a (take k schedule) b → IsTurnOf b n c → HasFollowed a (take (k + 1) schedule) c
+followed_next a b c schedule k n below is before turn =
+    subst (λ (ns : List ℕ). HasFollowed a ns c) (sym (take_next schedule k n (slice_get-get_or schedule k 0 below ∙ ap (λ (x : ℕ). Some x) (sym is)))) (followed_more a b c (take k schedule) n before turn)
+
+pub scheduled : (p : Plan) (schedule : List ℕ) (k : ℕ) (core : CoreView) (o : Outcome) → length schedule ≤ k → HasFollowed (begun_core p) (take k schedule) core → IsOutcome core o → IsScheduled p schedule o
+scheduled p schedule k core o all followed is = record {
+  core = core;
+  followed = subst (λ (ns : List ℕ). HasFollowed (begun_core p) ns core) (take_all k schedule all) followed;
+  ended = is;
+}
+
+-- the first n flags are set
+pub record AreSet (flags : List Bool) (n : ℕ) : Type 0 where
+  pub each : (k : ℕ) (b : Bool) → k < n → slice_get flags k ≡ Some b → b ≡ true
+
+pub none_set : (flags : List Bool) → AreSet flags 0
+none_set flags = record { each = λ k b below is. absurd (omega (arith, below)) }
+
+pub set_more : (flags after : List Bool) (n : ℕ) → AreSet flags n → after ≡ set flags n true → AreSet after (n + 1)
+set_more flags after n are is = subst (λ (l : List Bool). AreSet l (n + 1)) (sym is) (record {
+  each = λ k b below at. elim (at_set flags n k true b at) [
+    | inl same ↦ sym same.1
+    | inr other ↦ are.each k b (fewer k n below other.0) other.1
+  ];
+})
+  where
+    fewer : (a b : ℕ) → a < b + 1 → nat_eq a b ≡ false → a < b
+    fewer a b less apart = grind (arith, nat_tests)
+
+pub all_set : (flags : List Bool) (n : ℕ) → length flags ≤ n → AreSet flags n → all_true flags ≡ true
+all_set [] n all are = refl
+all_set (b ∷ flags) n all are = and_true b (all_true flags) (are.each 0 b (omega arith) refl) (all_set flags n (omega arith) (record { each = λ k x below is. are.each (suc k) x (omega (arith, within flags k x is)) is }))
+
+pub whole_outcome : (p : Plan) (n : ℕ) (core : CoreView) (o : Outcome) → core.plan ≡ p → length core.finished ≤ n → AreSet core.finished n → IsOutcome core o → IsWhole p o
+whole_outcome p n core o plan all are is = whole_of p core o plan is (is.complete ∙ all_set core.finished n all are)
+
+pub fresh_none : (p : Plan) (regions : List LoggedMemory) → regions ≡ [] → AreFresh p regions 0
+fresh_none p regions none = subst (λ (r : List LoggedMemory). AreFresh p r 0) (sym none) (record { count = refl; each = λ k m is. absurd (nothing k m is) })
+  where
+    nothing : (k : ℕ) (m : LoggedMemory) → slice_get [] k ≡ Some m → ⊥
+    nothing k m is = cc
+
+pub fresh_region : (p : Plan) (k : ℕ) (rows : List MemoryRow) (row : MemoryRow) (m : LoggedMemory) (entries bytes gate : ℕ) → rows ≡ p.platform.memories → k < length rows → row ≡ get_or rows k row → m ≡ record { number = k; traits = row.traits; first_gate = gate; log = record { entries = []; room = entries; room_bytes = bytes } } → entries ≡ planned_at p (memory_object k) → entries ≤ 1000000 → IsFresh p k m
+fresh_region p k rows row m entries bytes gate same below is made planned few = subst (IsFresh p k) (sym made) (record {
+  number = refl;
+  row = subst (λ (o : Option MemoryRow). IsSomeAnd o (λ r. row.traits ≡ r.traits)) (sym (ap (λ (l : List MemoryRow). slice_get l k) (sym same) ∙ (slice_get-get_or rows k row below ∙ ap (λ (r : MemoryRow). Some r) (sym is)))) refl;
+  empty = refl;
+  room = planned;
+  few = few;
+})

@@ -1,0 +1,67 @@
+-- How far an initiator has come in a history.
+use Rattle.std.specs.Prelude.{ℕ, ◌≡◌, ◌+◌, ◌≤◌, ◌^◌, ◌<◌, Bool, true, false, List, ◌++◌, length, map}
+use Rattle.std.specs.List.{AllByRecursion, filter, list_all}
+use Rattle.tlm_types.specs.declared.ends.EndOf.{EndOf}
+use Rattle.tlm_types.specs.declared.entry.Entry.{Entry}
+use Rattle.tlm_model.specs.declared.operation.Operation.{Operation}
+use Rattle.tlm_model.specs.declared.operation.Operation.TheVariants.{Write, Read, Ignore, Debug, Copy, Add, Wait, Sync, Fence, Invalidate}
+use Rattle.tlm_model.specs.declared.platform.Platform.{Platform}
+use Rattle.tlm_model.specs.Plan.{Initiator}
+use Rattle.tlm_model.specs.Report.{has_no_route, refused_of}
+use Rattle.tlm_model.specs.Requests.{Request, requests_of, numbers_in, end_of}
+use Rattle.tlm_model.specs.Rounds.{syncs_from, syncs_of}
+use Rattle.tlm_model.specs.Scripts.{has_answer, is_settled}
+use Rattle.quantum_keeper.specs.Keeper.{current_time}
+use Rattle.script_engine.specs.Asking.{requests_at, end_at, syncs_at, numbers_at}
+use Rattle.plat_core.specs.Run.{Run, refused_item}
+
+-- An initiator has made these requests, and what it asks for from here on, `left`, follows whatever is
+-- answered next.
+pub record HasMade (p : Platform) (i : Initiator) (h : List Entry) (made : List Request) (left : List Entry → List Request) : Type 0 where
+  pub asked : (m : List Entry) → requests_of p i (h ++ m) ≡ made ++ left (h ++ m)
+  pub settled : list_all (is_settled p i h) made ≡ true
+  pub fresh : (s : ℕ) → length made ≤ s → has_answer i.number s h ≡ false
+
+-- what a run has counted is what its script asks for up to here
+pub record HasCounted (p : Platform) (i : Initiator) (r : Run) : Type 0 where
+  pub number : r.engine.initiator ≡ i.number
+  pub quantum : r.keeper.quantum ≡ p.quantum
+  pub end : end_at p i (current_time r.keeper) r.engine ≡ end_of p i
+  pub syncs : r.syncs + syncs_at p i r.keeper.last_sync (current_time r.keeper) r.engine ≡ syncs_from p i 0 0 i.script
+  pub numbers : numbers_at r.engine ≡ numbers_in i.script
+  pub few : syncs_from p i 0 0 i.script < 2 ^ 64
+  pub roomy : numbers_in i.script ≤ r.refused.room
+
+-- operations that the core serves
+abbrev pub IsServed : Operation → Type 0
+IsServed (Write a bytes enables width) = Unit {0}
+IsServed (Read a n enables width) = Unit {0}
+IsServed (Ignore a) = Unit {0}
+IsServed (Debug a n) = Unit {0}
+IsServed (Copy from to n) = Unit {0}
+IsServed (Add a n) = Unit {0}
+IsServed (Wait n) = Unit {0}
+IsServed Sync = Unit {0}
+IsServed Fence = Unit {0}
+IsServed (Invalidate a n) = ⊥
+
+-- a run has come to where its history leaves it
+pub record HasCome (p : Platform) (i : Initiator) (h : List Entry) (r : Run) : Type 0 where
+  pub stage : ℕ
+  pub made : List Request
+  pub asked : HasMade p i h made (λ m. requests_at p i m (current_time r.keeper) stage r.engine)
+  pub count : length made ≡ r.engine.seq
+  pub refused : r.refused.items ≡ map refused_item (filter (λ q. has_no_route p i q q.asked) made)
+  pub counted : HasCounted p i r
+  pub served : AllByRecursion IsServed r.engine.remaining
+
+-- all that an initiator asks for is settled: its script has ended, but for what needs no answer
+abbrev pub has_ended : Platform → Initiator → List Entry → Bool
+has_ended p i h = list_all (is_settled p i h) (requests_of p i h)
+
+-- how an initiator ended is what the definitions say of its script and history
+pub record IsEndOf (p : Platform) (i : Initiator) (h : List Entry) (end : EndOf) : Type 0 where
+  pub transactions : end.transactions ≡ numbers_in i.script
+  pub syncs : end.syncs ≡ syncs_of p i
+  pub time : end.end ≡ end_of p i
+  pub refused : end.refused.items ≡ map refused_item (refused_of p i h)

@@ -1,0 +1,128 @@
+-- What is seen of the core, and its steps.
+use Rattle.std.specs.Prelude.{ℕ, ◌≡◌, ◌+◌, ◌*◌, ◌≤◌, Bool, true, false, List, [], ◌∷◌, ◌++◌, length, map, Option, Some, IsSomeAnd, MatchOption, slice_get, slice_set}
+use Rattle.std.specs.List.{AllByRecursion, list_all}
+use Rattle.tlm_types.specs.declared.entry.Entry.{Entry}
+use Rattle.tlm_types.specs.declared.words.ObjectNo.TheVariants.{Memory as memory_object}
+use Rattle.tlm_model.specs.declared.operation.Operation.{Operation}
+use Rattle.tlm_model.specs.declared.platform.InitiatorRow.{InitiatorRow}
+use Rattle.tlm_model.specs.declared.platform.MemoryRow.{MemoryRow}
+use Rattle.tlm_model.specs.declared.platform.Platform.{Platform}
+use Rattle.tlm_model.specs.declared.platform.Style.TheVariants.{Blocking}
+use Rattle.tlm_model.specs.Good.{IsSound}
+use Rattle.tlm_model.specs.History.{entries_at}
+use Rattle.tlm_model.specs.Plan.{Plan, Initiator, initiators_of}
+use Rattle.generic_payload.specs.Payload.{PayloadView}
+use Rattle.region_object.specs.Region.{LoggedMemory}
+use Rattle.script_engine.specs.declared.op.Op.TheVariants as next
+use Rattle.script_engine.specs.State.{op_of}
+use Rattle.plat_core.specs.Come.{HasCome, IsServed, has_ended}
+use Rattle.plat_core.specs.Left.{total_left}
+use Rattle.plat_core.specs.Merge.{merged}
+use Rattle.plat_core.specs.Run.{Run, begun}
+use Rattle.plat_core.specs.declared.steps.CoreStep.{CoreStep}
+use Rattle.plat_core.specs.declared.steps.CoreStep.TheVariants.{Made, Waits, Finished}
+
+-- the plan, the history so far, and for each initiator whether it has finished
+pub record CoreView : Type 0 where
+  pub plan : Plan
+  pub history : List Entry
+  pub finished : List Bool
+
+-- what the core serves: blocking initiators, whose scripts don't invalidate
+pub record IsServable (p : Plan) : Type 0 where
+  pub scripts : length p.scripts ≡ length p.platform.initiators
+  pub blocking : AllByRecursion (λ (row : InitiatorRow). row.style ≡ Blocking) p.platform.initiators
+  pub served : AllByRecursion (AllByRecursion IsServed) p.scripts
+  pub few : AllByRecursion (λ (script : List Operation). length script ≤ 100000) p.scripts
+  pub initiators : length p.platform.initiators ≤ 32
+  pub routers : length p.platform.routers ≤ 16
+  pub memories : length p.platform.memories ≤ 16
+
+-- how many actors there are: the initiators, the routers and the memories, numbered in this order
+abbrev pub actors_of : Platform → ℕ
+actors_of p = length p.initiators + length p.routers + length p.memories
+
+abbrev pub logs_of : List LoggedMemory → List (List Entry)
+logs_of regions = map (λ (m : LoggedMemory). m.log.entries) regions
+
+-- the history that these memories have
+abbrev pub history_of : List LoggedMemory → List Entry
+history_of regions = merged (logs_of regions)
+
+abbrev pub are_finished : List Run → List Bool
+are_finished runs = map (λ (r : Run). r.finished) runs
+
+-- a core before its first step
+abbrev pub begun_run : Plan → Initiator → Run
+begun_run p i = begun i.number i.script p.platform.quantum (2 * length i.script)
+
+abbrev pub no_runs : Plan → List Run
+no_runs p = map (begun_run p) (initiators_of p)
+
+abbrev pub begun_core : Plan → CoreView
+begun_core p = record { plan = p; history = []; finished = map (λ (i : Initiator). false) (initiators_of p) }
+
+-- memory k of a core
+pub record IsMemoryAt (p : Plan) (runs : List Run) (h : List Entry) (k : ℕ) (m : LoggedMemory) : Type 0 where
+  pub number : m.number ≡ k
+  pub row : IsSomeAnd (slice_get p.platform.memories k) (λ (row : MemoryRow). m.traits ≡ row.traits)
+  pub log : m.log.entries ≡ entries_at (memory_object k) h
+  pub few : m.log.room ≤ 1000000
+  pub roomy : length m.log.entries + total_left p k (initiators_of p) runs ≤ m.log.room
+
+-- the run of an initiator
+pub record IsRunOf (p : Plan) (h : List Entry) (i : Initiator) (r : Run) : Type 0 where
+  pub come : HasCome p.platform i h r
+  pub finished : r.finished ≡ true → op_of r.engine ≡ next.Done
+
+-- the parts of a core
+pub record IsCore (p : Plan) (runs : List Run) (regions : List LoggedMemory) (made : ℕ) : Type 0 where
+  pub servable : IsServable p
+  pub sound : IsSound p (history_of regions)
+  pub count : made ≡ length (history_of regions)
+  pub run_count : length runs ≡ length p.platform.initiators
+  pub region_count : length regions ≡ length p.platform.memories
+  pub each_run : (k : ℕ) (i : Initiator) (r : Run) → slice_get (initiators_of p) k ≡ Some i → slice_get runs k ≡ Some r → IsRunOf p (history_of regions) i r
+  pub each_region : (k : ℕ) (m : LoggedMemory) → slice_get regions k ≡ Some m → IsMemoryAt p runs (history_of regions) k m
+
+-- the core has a payload for its accesses
+abbrev pub HasPayload : Option PayloadView → Type 0
+HasPayload payload = IsSomeAnd payload (λ (p : PayloadView). p.room ≡ 4096)
+
+abbrev pub all_true : List Bool → Bool
+all_true bs = list_all (λ b. b) bs
+
+-- a step of an initiator whose script has not ended makes its next entry, at the end of the history
+pub record HasMadeEntry (old : CoreView) (i : Initiator) (new : CoreView) (position : ℕ) : Type 0 where
+  pub unended : has_ended old.plan.platform i old.history ≡ false
+  pub entry : Entry
+  pub after : new ≡ record old { history = old.history ++ entry ∷ [] }
+  pub mine : entry.txn.initiator ≡ i.number
+  pub at_end : position ≡ length old.history
+  pub sound : IsSound old.plan new.history
+
+-- a step of an initiator whose script has ended finishes it
+pub record HasFinished (old : CoreView) (n : ℕ) (i : Initiator) (new : CoreView) : Type 0 where
+  pub ended : has_ended old.plan.platform i old.history ≡ true
+  pub after : new ≡ record old { finished = slice_set old.finished n true }
+
+abbrev pub IsInitiatorStep : CoreView → ℕ → Initiator → CoreView → CoreStep → Type 0
+IsInitiatorStep old n i new (Made position) = HasMadeEntry old i new position
+IsInitiatorStep old n i new Waits = ⊥
+IsInitiatorStep old n i new Finished = HasFinished old n i new
+
+-- a router or a memory has no work of its own: it waits until all initiators have finished
+abbrev pub IsNodeStep : CoreView → CoreView → CoreStep → Type 0
+IsNodeStep old new (Made position) = ⊥
+IsNodeStep old new Waits = (all_true old.finished ≡ false) × (new ≡ old)
+IsNodeStep old new Finished = (all_true old.finished ≡ true) × (new ≡ old)
+
+-- a step of actor n
+abbrev pub IsStep : CoreView → ℕ → CoreView → CoreStep → Type 0
+IsStep old n new step = MatchOption (slice_get (initiators_of old.plan) n) (IsNodeStep old new step) (λ i. IsInitiatorStep old n i new step)
+
+-- the plan stays, and either the history has one more entry, or the initiator has finished
+abbrev pub IsOwnStep : CoreView → ℕ → CoreView → CoreStep → Type 0
+IsOwnStep old n new (Made position) = (new.plan ≡ old.plan) × (new.finished ≡ old.finished) × (length new.history ≡ length old.history + 1)
+IsOwnStep old n new Waits = ⊥
+IsOwnStep old n new Finished = (new.plan ≡ old.plan) × (new.finished ≡ slice_set old.finished n true)

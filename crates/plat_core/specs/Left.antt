@@ -1,0 +1,43 @@
+-- How many entries at a memory a run may still make.
+use Rattle.std.specs.Prelude.{ℕ, ◌+◌, List, [], ◌∷◌, Option, Some, None}
+use Rattle.tlm_model.specs.declared.operation.Operation.{Operation}
+use Rattle.tlm_model.specs.declared.operation.Operation.TheVariants.{Write, Read, Ignore, Debug, Copy, Add, Wait, Sync, Fence, Invalidate}
+use Rattle.tlm_model.specs.Plan.{Plan, Initiator}
+use Rattle.route_plan.specs.Paths.{once}
+use Rattle.route_plan.specs.Planned.{is_routed_to}
+use Rattle.script_engine.specs.State.{Due, State}
+use Rattle.plat_core.specs.Run.{Run}
+
+-- an address of an initiator leads to memory m
+abbrev pub leads : Plan → Initiator → ℕ → ℕ → ℕ
+leads p i m a = once (is_routed_to p i m a)
+
+abbrev pub asked_by : Plan → Initiator → ℕ → Operation → ℕ
+asked_by p i m (Write a bytes enables width) = leads p i m a
+asked_by p i m (Read a n enables width) = leads p i m a
+asked_by p i m (Ignore a) = leads p i m a
+asked_by p i m (Debug a n) = leads p i m a
+asked_by p i m (Copy from to n) = leads p i m from + leads p i m to
+asked_by p i m (Add a n) = leads p i m a + leads p i m a
+asked_by p i m (Wait n) = 0
+asked_by p i m Sync = 0
+asked_by p i m Fence = 0
+asked_by p i m (Invalidate a n) = leads p i m a
+
+abbrev pub asked_in : Plan → Initiator → ℕ → List Operation → ℕ
+asked_in p i m [] = 0
+asked_in p i m (op ∷ ops) = asked_by p i m op + asked_in p i m ops
+
+abbrev pub asked_due : Plan → Initiator → ℕ → Option Due → ℕ
+asked_due p i m None = 0
+asked_due p i m (Some w) = leads p i m w.address
+
+-- what an engine is still to ask of memory m
+abbrev pub asks_left : Plan → Initiator → ℕ → State → ℕ
+asks_left p i m e = asked_due p i m e.due + asked_in p i m e.remaining
+
+-- what all runs are still to ask of memory m
+abbrev pub total_left : Plan → ℕ → List Initiator → List Run → ℕ
+total_left p m [] rs = 0
+total_left p m (i ∷ is) [] = 0
+total_left p m (i ∷ is) (r ∷ rs) = asks_left p i m r.engine + total_left p m is rs

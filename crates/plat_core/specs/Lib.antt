@@ -1,0 +1,12 @@
+pub mod Entry
+pub mod Run
+pub mod Come
+pub mod Access
+pub mod Left
+pub mod Moves
+pub mod Merge
+pub mod Turns
+pub mod Core
+pub mod Places
+pub mod Fresh
+pub mod Outcome

@@ -1,0 +1,59 @@
+-- What a run's moves without an entry lead to.
+use Rattle.std.specs.Prelude.{ℕ, ◌≡◌, ◌+◌, ◌*◌, ◌<◌, ◌≤◌, true, List, length, Option, Some, None, MatchOption, slice_get}
+use Rattle.tlm_types.specs.declared.entry.Entry.{Entry}
+use Rattle.tlm_model.specs.Plan.{Plan, Initiator, initiators_of}
+use Rattle.route_plan.specs.declared.step.Route.{Route}
+use Rattle.script_engine.specs.declared.op.Op.TheVariants as next
+use Rattle.script_engine.specs.State.{State, op_of}
+use Rattle.script_engine.specs.Asking.{numbers_due}
+use Rattle.plat_core.specs.declared.run.Move.{Move}
+use Rattle.plat_core.specs.declared.run.Move.TheVariants.{Went, Reached, Ended}
+use Rattle.plat_core.specs.Access.{IsRouteOf}
+use Rattle.plat_core.specs.Come.{HasCome}
+use Rattle.plat_core.specs.Left.{asks_left}
+use Rattle.plat_core.specs.Run.{Run, IsAccessOp, address_of}
+
+-- a run of one of the plan's initiators, whose script is served
+pub record IsUnderWay (p : Plan) (r : Run) : Type 0 where
+  pub initiator : Initiator
+  pub history : List Entry
+  pub mine : slice_get (initiators_of p) r.engine.initiator ≡ Some initiator
+  pub come : HasCome p.platform initiator history r
+
+-- how many steps a script may still take
+abbrev pub steps_left : State → ℕ
+steps_left e = 2 * length e.remaining + numbers_due e.due
+
+-- the access or debug read that is next has this route
+pub record HasReached (p : Plan) (r : Run) (route : Route) : Type 0 where
+  pub access : IsAccessOp (op_of r.engine)
+  pub leads : MatchOption (slice_get (initiators_of p) r.engine.initiator) ⊥ (λ i. IsRouteOf p i (address_of (op_of r.engine)) route)
+
+-- a run whose script has ended has finished
+pub record HasEnded (r : Run) : Type 0 where
+  pub done : op_of r.engine ≡ next.Done
+  pub finished : r.finished ≡ true
+
+-- a move goes on in the script, or stands at an access with a route, or at the end
+abbrev pub IsMove : Plan → Run → Run → Move → Type 0
+IsMove p old new Went = (steps_left new.engine < steps_left old.engine) × (new.finished ≡ old.finished)
+IsMove p old new (Reached route) = HasReached p new route × (new.finished ≡ old.finished)
+IsMove p old new Ended = HasEnded new
+
+-- all moves lead to an access with a route, or to the end
+abbrev pub Advances : Plan → Run → Run → Option Route → Type 0
+Advances p old new (Some route) = HasReached p new route × (new.finished ≡ old.finished)
+Advances p old new None = HasEnded new
+
+-- what a run has come to in a history, the run that follows it has come to as well
+pub record Keeps (p : Plan) (old new : Run) : Type 0 where
+  pub initiator : new.engine.initiator ≡ old.engine.initiator
+  pub come : (i : Initiator) (h : List Entry) → slice_get (initiators_of p) old.engine.initiator ≡ Some i → HasCome p.platform i h old → HasCome p.platform i h new
+  -- it asks for no more than was left
+  pub left : (i : Initiator) (m : ℕ) → asks_left p i m new.engine ≤ asks_left p i m old.engine
+
+-- moves without an entry and before the end
+pub record HasAdvanced (p : Plan) (old new : Run) : Type 0 where
+  pub way : IsUnderWay p new
+  pub keeps : Keeps p old new
+  pub finished : new.finished ≡ old.finished

@@ -1,0 +1,46 @@
+// Whole runs on one thread.
+ghost use Rattle.std.specs.Prelude.{◌≡◌, ◌<◌, ◌≤◌, length, slice_get, slice_set, true, Some, IfOk, OnOk};
+ghost use Rattle.plat_core.specs.Core.{CoreView, actors_of, begun_core};
+ghost use Rattle.plat_core.specs.Outcome.{IsScheduled, IsTurnOf, IsWhole};
+
+use crate::outcome::Outcome;
+use crate::steps::{Core, CoreStep};
+use outside::Pace;
+use route_plan::Plan;
+use std::alloc::Global;
+use tlm_types::Memory;
+
+/// Runs a plan by a schedule: each of its numbers that names an actor gives that actor a step, and
+/// the others are passed over. The actors are the initiators, the routers and the memories, numbered
+/// in this order.
+pub fn run_schedule(alloc: Global, plan: &Plan, schedule: &[u32]) -> Result<Outcome, Memory>
+    ensures { IfOk result (IsScheduled plan.now schedule.now) }
+{
+    let mut core = Core::new(alloc, plan)?;
+    for number in schedule {
+        take_number(&mut core, *number)?;
+    }
+    core.into_outcome()
+}
+
+// A step of the actor of this number, if there is one.
+fn take_number(core: &mut Core<'_>, number: u32) -> Result<(), Memory>
+    ensures { OnOk result (IsTurnOf core.old number core.new) }
+{
+    if number < core.actors() {
+        core.step(number)?;
+    }
+    Ok(())
+}
+
+/// Runs a plan to its end: initiator 0 until it has finished, then initiator 1, and so on. The pace is
+/// told of each access and debug read that a script asks for.
+pub fn run_in_order<P: Pace>(alloc: Global, plan: &Plan, pace: &P) -> Result<Outcome, Memory>
+    ensures { IfOk result (IsWhole plan.now) }
+{
+    let mut core = Core::new(alloc, plan)?;
+    for initiator in 0..core.initiators() {
+        core.finish(initiator, pace)?;
+    }
+    core.into_outcome()
+}

@@ -1,0 +1,115 @@
+-- What is known of a reading that gave a value.
+use Rattle.std.proofs.Common.{◌≡◌, ℕ, ◌+◌, ◌≤◌, Bool, true, false, ◌&&◌, List, [], ◌∷◌, length, Option, Some, None, Result, Ok, Err, refl, sym, ap, ◌∙◌, arith, leb}
+use Rattle.std.specs.Prelude.{pos, negsuc, All, if◌then◌else◌}
+use Rattle.std.proofs.lemmas.Bool.{and_parts, leb-true}
+use Rattle.std.proofs.lemmas.List.Elements.{All-nil, All-cons, All-same}
+use Rattle.toml.specs.Data.{Data, integer, array, Members}
+use Rattle.platform_file.specs.declared.fault.PlatformCode.{PlatformCode}
+use Rattle.platform_file.specs.declared.fault.PlatformCode.TheVariants.{OutOfRange, WrongType}
+use Rattle.platform_file.specs.declared.place.Place.{Place}
+use Rattle.platform_file.specs.Kinds.{number, tables, all_tables, limited_tables}
+use Rattle.platform_file.specs.Keys.{required_value, optional_value}
+use Rattle.platform_file.specs.Reading.{Refusal, ◌>>=◌, placed_at, rows_from}
+
+pub no_ok : {A E : Type 0} (e : E) (x : A) → ◌≡◌ {A = Result A E} (Err e) (Ok x) → ⊥
+no_ok e x h = cc
+
+pub ok_same : {A E : Type 0} (x y : A) → ◌≡◌ {A = Result A E} (Ok x) (Ok y) → x ≡ y
+ok_same x y h = cc
+
+-- what was read first, and then what was read next
+pub bind_ok : {A B C : Type 0} (r : Result A Refusal) (f : A → Result B Refusal) (x : B) → (r >>= f) ≡ Ok x → ((y : A) → r ≡ Ok y → f y ≡ Ok x → C) → C
+bind_ok (Ok y) f x h next = next y refl h
+bind_ok (Err e) f x h next = absurd (no_ok e x h)
+
+pub if_ok : {A E : Type 0} (b : Bool) (x : A) (e : E) (y : A) → ◌≡◌ {A = Result A E} (if b then Ok x else Err e) (Ok y) → (b ≡ true) × (x ≡ y)
+if_ok true x e y h = (refl, ok_same x y h)
+if_ok false x e y h = absurd (no_ok e y h)
+
+pub unless_ok : {A E : Type 0} (b : Bool) (e : E) (r : Result A E) (y : A) → (if b then Err e else r) ≡ Ok y → (b ≡ false) × (r ≡ Ok y)
+unless_ok true e r y h = absurd (no_ok e y h)
+unless_ok false e r y h = (refl, h)
+
+placed_ok : {A : Type 0} (at : Place) (key : List ℕ) (r : Result A PlatformCode) (x : A) → placed_at at key r ≡ Ok x → r ≡ Ok x
+placed_ok at key (Ok y) x h = ap Ok (ok_same y x h)
+placed_ok {A} at key (Err code) x h = absurd (no_ok {A = A} _ x h)
+
+-- the value of a required key is of its kind
+pub required_ok : {A : Type 0} (kind : Data → Result A PlatformCode) (at : Place) (key : List ℕ) (o : Option Data) (x : A) → required_value kind at key o ≡ Ok x → (d : Data) × (kind d ≡ Ok x)
+required_ok {A} kind at key None x h = absurd (no_ok {A = A} _ x h)
+required_ok kind at key (Some d) x h = (d, placed_ok at key (kind d) x h)
+
+between : (least most k n : ℕ) → (if leb least k && leb k most then Ok k else Err OutOfRange) ≡ Ok n → (least ≤ n) × (n ≤ most)
+between least most k n h =
+    let p = if_ok (leb least k && leb k most) k OutOfRange n h in
+    let q = and_parts (leb least k) (leb k most) p.0 in
+    let low : least ≤ k = leb-true least k q.0 in
+    let high : k ≤ most = leb-true k most q.1 in
+    (omega (arith, p.1), omega (arith, p.1))
+
+number_between : (least most : ℕ) (d : Data) (n : ℕ) → number least most d ≡ Ok n → (least ≤ n) × (n ≤ most)
+number_between least most (integer (pos k)) n h = between least most k n h
+number_between least most (integer (negsuc k)) n h = absurd (no_ok OutOfRange n h)
+number_between least most _ n h = absurd (no_ok WrongType n h)
+
+pub required_number : (least most : ℕ) (at : Place) (key : List ℕ) (o : Option Data) (n : ℕ) → required_value (number least most) at key o ≡ Ok n → (least ≤ n) × (n ≤ most)
+required_number least most at key o n h =
+    let p = required_ok (number least most) at key o n h in
+    number_between least most p.0 n p.1
+
+pub optional_number : (least most default : ℕ) (at : Place) (key : List ℕ) (o : Option Data) (n : ℕ) → least ≤ default → default ≤ most → optional_value (number least most) default at key o ≡ Ok n → (least ≤ n) × (n ≤ most)
+optional_number least most default at key None n low high h =
+    let same : default ≡ n = ok_same default n h in
+    (omega arith, omega arith)
+optional_number least most default at key (Some d) n low high h = number_between least most d n (placed_ok at key (number least most d) n h)
+
+limited_between : (least most : ℕ) (r : Result (List Members) PlatformCode) (ts : List Members) → limited_tables least most r ≡ Ok ts → (least ≤ length ts) × (length ts ≤ most)
+limited_between least most (Ok us) ts h =
+    let p = if_ok (leb least (length us) && leb (length us) most) us OutOfRange ts h in
+    let q = and_parts (leb least (length us)) (leb (length us) most) p.0 in
+    let low : least ≤ length us = leb-true least (length us) q.0 in
+    let high : length us ≤ most = leb-true (length us) most q.1 in
+    let same : length us ≡ length ts = ap length p.1 in
+    (omega arith, omega arith)
+limited_between least most (Err e) ts h = absurd (no_ok e ts h)
+
+tables_between : (least most : ℕ) (d : Data) (ts : List Members) → tables least most d ≡ Ok ts → (least ≤ length ts) × (length ts ≤ most)
+tables_between least most (array ds) ts h = limited_between least most (all_tables ds) ts h
+tables_between least most _ ts h = absurd (no_ok WrongType ts h)
+
+pub required_tables : (least most : ℕ) (at : Place) (key : List ℕ) (o : Option Data) (ts : List Members) → required_value (tables least most) at key o ≡ Ok ts → (least ≤ length ts) × (length ts ≤ most)
+required_tables least most at key o ts h =
+    let p = required_ok (tables least most) at key o ts h in
+    tables_between least most p.0 ts p.1
+
+pub optional_tables : (most : ℕ) (at : Place) (key : List ℕ) (o : Option Data) (ts : List Members) → optional_value (tables 0 most) [] at key o ≡ Ok ts → length ts ≤ most
+optional_tables most at key None ts h =
+    let none : List Members = [] in
+    let same : length none ≡ length ts = ap length (ok_same none ts h) in
+    omega arith
+optional_tables most at key (Some d) ts h = (tables_between 0 most d ts (placed_ok at key (tables 0 most d) ts h)).1
+
+-- what holds of each row that is read
+pub rows_all : {A X : Type 0} (P : A → Type 0) (read : ℕ → X → Result A Refusal) → ((i : ℕ) (x : X) (a : A) → read i x ≡ Ok a → P a) → (i : ℕ) (xs : List X) (rows : List A) → rows_from read i xs ≡ Ok rows → All P rows
+unfolding rows_from
+rows_all P read each i [] rows h = All-same P rows [] (sym (ok_same _ _ h)) (All-nil P)
+rows_all P read each i (x ∷ xs) rows h =
+    bind_ok _ _ _ h (λ a first h1. bind_ok _ _ _ h1 (λ more rest h2. All-same P rows (a ∷ more) (sym (ok_same _ _ h2)) (All-cons P a more (each i x a first) (rows_all P read each (i + 1) xs more rest))))
+
+pub rows_count : {A X : Type 0} (read : ℕ → X → Result A Refusal) (i : ℕ) (xs : List X) (rows : List A) → rows_from read i xs ≡ Ok rows → length rows ≡ length xs
+unfolding rows_from
+rows_count read i [] rows h = ap length (sym (ok_same _ _ h))
+rows_count {A} read i (x ∷ xs) rows h =
+    bind_ok (read i x) (λ row. rows_from read (i + 1) xs >>= λ rows. Ok (row ∷ rows)) rows h (λ a first h1.
+    bind_ok (rows_from read (i + 1) xs) (λ rows. Ok (a ∷ rows)) rows h1 (λ more rest h2.
+    let whole : List A = a ∷ more in
+    let same : length whole ≡ length rows = ap length (ok_same whole rows h2) in
+    let count : length more ≡ length xs = rows_count read (i + 1) xs more rest in
+    omega arith))
+
+-- each row has passed a test
+pub rows_passed : {X : Type 0} (P : X → Type 0) (test : ℕ → X → Result (Unit {0}) Refusal) → ((i : ℕ) (x : X) → test i x ≡ Ok tt → P x) → (i : ℕ) (xs : List X) (done : List (Unit {0})) → rows_from test i xs ≡ Ok done → All P xs
+unfolding rows_from
+rows_passed P test each i [] done h = All-nil P
+rows_passed P test each i (x ∷ xs) done h =
+    bind_ok _ _ _ h (λ a first h1. bind_ok _ _ _ h1 (λ more rest h2. All-cons P x xs (each i x first) (rows_passed P test each (i + 1) xs more rest)))

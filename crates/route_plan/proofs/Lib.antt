@@ -1,0 +1,11 @@
+pub mod WalkLemmas
+pub mod PathLemmas
+pub mod CopyLemmas
+pub mod NumberLemmas
+pub mod StepLemmas
+pub mod PlanLemmas
+pub mod CountLemmas
+pub mod ShareLemmas
+pub mod TotalLemmas
+pub mod KeptLemmas
+pub mod LatencyLemmas

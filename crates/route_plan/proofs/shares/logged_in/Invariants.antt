@@ -1,0 +1,6 @@
+use Rattle.std.proofs.Common.{◌≡◌, take}
+use Rattle.route_plan.specs.Shares.{capped, logged_in}
+use Rattle.route_plan.proofs.shares.logged_in.Given as goal
+
+abbrev pub invariant-loop-share : goal.invariant-loop-share
+invariant-loop-share l = l.sum ≡ capped (logged_in (take l.share-index l.shares))

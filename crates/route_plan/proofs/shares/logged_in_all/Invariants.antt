@@ -1,0 +1,6 @@
+use Rattle.std.proofs.Common.{◌≡◌, take, sum_by}
+use Rattle.route_plan.specs.Shares.{capped, logged_in}
+use Rattle.route_plan.proofs.shares.logged_in_all.Given as goal
+
+abbrev pub invariant-loop-of_memory : goal.invariant-loop-of_memory
+invariant-loop-of_memory l = l.sum ≡ capped (sum_by logged_in (take l.of_memory-index l.shares))

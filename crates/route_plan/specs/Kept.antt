@@ -1,0 +1,11 @@
+-- What the routes of a platform keep in tables.
+use Rattle.std.specs.Prelude.{◌≡◌, map}
+use Rattle.route_plan.specs.declared.routes.Routes.TheInside.{Inside}
+use Rattle.route_plan.specs.Routes.{ends_of, first_hops, numbered_windows}
+use Rattle.route_plan.specs.Shape.{IsShape}
+
+pub record AreKept (r : Inside) : Type 0 where
+  pub shape : IsShape r.platform
+  pub windows : r.windows.items ≡ map numbered_windows r.platform.routers
+  pub hops : r.first_hops.items ≡ first_hops r.platform
+  pub ends : r.ends.items ≡ ends_of r.platform

@@ -1,0 +1,12 @@
+pub mod Paths
+pub mod Walks
+pub mod Shape
+pub mod Planned
+pub mod Valid
+pub mod Routes
+pub mod Kept
+pub mod Plans
+pub mod Counted
+pub mod Shares
+pub mod Ready
+pub mod Latencies

@@ -1,0 +1,170 @@
+// The routes of a platform.
+ghost use Rattle.std.specs.Prelude.{◌≡◌, ◌<◌, ◌≤◌, Some, Ok, length, map, slice_get, IfOk};
+ghost use Rattle.platform_file.specs.Reading.{Gives};
+ghost use Rattle.tlm_model.specs.Route.{into_memory};
+ghost use Rattle.route_plan.specs.Routes.{ends_of, first_step, next_step, numbered_windows, route_by, bound_walk};
+ghost use Rattle.route_plan.specs.Shape.{IsShape};
+
+use crate::copies::copy_platform;
+use crate::ends::{HopEnds, hop_ends};
+use crate::numbering::{all_windows, first_hops};
+use crate::shapes::Shape;
+use crate::step::{Route, Step};
+use addr_router::Windows;
+use platform_file::PlatformFault;
+use std::alloc::{AllocError, Global};
+use std::marker::Model;
+use tlm_model::{Platform, Target};
+
+/// The components that a walk visits at most: 8 routers and a memory.
+pub(crate) const MOST_VISITED: u32 = 9;
+
+/// A platform of a good shape, with tables of its windows and hops. Contracts see the platform.
+#[derive(Drop)]
+pub struct Routes {
+    platform: Platform,
+    windows: Vec<Windows>,
+    first_hops: Vec<u32>,
+    ends: Vec<HopEnds>,
+}
+
+impl Model for Routes {
+    ghost use Rattle.tlm_model.specs.declared.platform.Platform.{Platform};
+
+    ghost Value = { Platform };
+
+    ghost use Rattle.route_plan.specs.Kept.{AreKept};
+
+    ghost view = { λ r. r.platform };
+
+    ghost invariant = { AreKept };
+}
+
+impl Routes {
+    /// The routes of a shape, which is not copied.
+    pub fn of_shape(alloc: Global, shape: Shape) -> Result<Routes, AllocError>
+        ensures { IfOk result (λ routes. routes ≡ shape) }
+    {
+        let platform = shape.into_platform();
+        let windows = all_windows(alloc, &platform)?;
+        let first_hops = first_hops(alloc, &platform)?;
+        let ends = hop_ends(alloc, &platform)?;
+        Ok(Routes {
+            platform,
+            windows,
+            first_hops,
+            ends,
+        })
+    }
+
+    /// Routes of the same platform. Its only error is want of memory.
+    pub fn copy(&self, alloc: Global) -> Result<Routes, PlatformFault>
+        ensures { Gives result (Ok self.now) }
+    {
+        let platform = copy_platform(alloc, &self.platform)?;
+        let routes = Routes::of_shape(alloc, Shape::of_checked(platform))?;
+        Ok(routes)
+    }
+
+    pub fn platform(&self) -> &Platform
+        ensures same { result.now ≡ self.now }
+        ensures shape { IsShape self.now }
+    {
+        &self.platform
+    }
+
+    /// The windows of the router with this number. The port of a window is its index.
+    pub fn windows(&self, router: u32) -> &Windows
+        requires { router < length self.now.routers }
+        ensures { slice_get (map numbered_windows self.now.routers) router ≡ Some result.now }
+    {
+        &self.windows[router as usize]
+    }
+
+    /// The ends of the hop with this number, if there is one.
+    pub fn hop_ends(&self, hop: u32) -> Option<HopEnds>
+        ensures { result ≡ slice_get (ends_of self.now) hop }
+    {
+        self.ends.as_slice().get(hop as usize).copied()
+    }
+
+    /// The step over the binding of the initiator with this number.
+    pub(crate) fn first_step(&self, initiator: u32, address: u64) -> Step
+        requires { initiator < length self.now.initiators }
+        ensures step { Some result ≡ first_step (slice_get self.now.initiators initiator) initiator address }
+        ensures few { length (bound_walk self.now initiator address).hops ≤ 9 }
+    {
+        let row = &self.platform.initiators.as_slice()[initiator as usize];
+        Step {
+            hop: initiator,
+            target: row.bind,
+            address,
+            before: 0,
+        }
+    }
+
+    /// The step through the router that a step leads to. `None` where it leads to a memory, and where
+    /// no window of the router has the address.
+    pub(crate) fn next_step(&self, step: Step) -> Option<Step>
+        ensures { result ≡ next_step self.now step }
+    {
+        let Target::Router(number) = step.target else {
+            return None;
+        };
+        let router = number as usize;
+        let row = self.platform.routers.as_slice().get(router)?;
+        let (port, address) = self.windows[router].decode(step.address)?;
+        Some(Step {
+            hop: self.first_hops[router] + port,
+            target: row.windows.as_slice()[port as usize].to,
+            address,
+            before: step.before.saturating_add(row.latency),
+        })
+    }
+
+    /// The end of a walk at the memory with this number, if it is there.
+    fn arrival(&self, memory: u32, step: Step) -> Option<Route>
+        ensures { result ≡ route_by (into_memory (slice_get self.now.memories memory) memory step.address step.before) }
+    {
+        let row = self.platform.memories.as_slice().get(memory as usize)?;
+        Some(Route {
+            memory,
+            offset: step.address,
+            before: step.before,
+            latency: step.before.saturating_add(row.traits.latency),
+        })
+    }
+
+    /// Where an address of the initiator with this number leads. `None` exactly where a router on the
+    /// way has no window for it.
+    pub fn route(&self, initiator: u32, address: u64) -> Option<Route>
+        requires { initiator < length self.now.initiators }
+        ensures { result ≡ route_by (bound_walk self.now initiator address) }
+    {
+        let mut step = self.first_step(initiator, address);
+        for _visited in 0..MOST_VISITED {
+            if let Target::Memory(memory) = step.target {
+                return self.arrival(memory, step);
+            }
+            step = self.next_step(step)?;
+        }
+        None
+    }
+
+    /// The hop with this index, from 0, of those that an address of the initiator with this number
+    /// passes, as far as windows lead.
+    pub fn hop(&self, initiator: u32, address: u64, index: u32) -> Option<u32>
+        requires { initiator < length self.now.initiators }
+        ensures hop { result ≡ slice_get (bound_walk self.now initiator address).hops index }
+        ensures few { length (bound_walk self.now initiator address).hops ≤ 9 }
+    {
+        let mut step = self.first_step(initiator, address);
+        for passed in 0..MOST_VISITED {
+            if passed == index {
+                return Some(step.hop);
+            }
+            step = self.next_step(step)?;
+        }
+        None
+    }
+}

@@ -1,0 +1,5 @@
+pub mod State
+pub mod Asking
+pub mod Ready
+pub mod Parts
+pub mod Laws

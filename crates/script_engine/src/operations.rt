@@ -1,0 +1,174 @@
+// What one operation asks for.
+ghost use Rattle.std.specs.Prelude.{◌≡◌, ◌≤◌, length, true, false};
+ghost use Rattle.tlm_types.specs.declared.words.Command.{Command};
+ghost use Rattle.tlm_model.specs.Requests.{added, numbers_of};
+ghost use Rattle.traffic_script.specs.Proper.{IsProper};
+ghost use Rattle.script_engine.specs.State.{due_after, due_at, is_plain, length_of, op_for, payload_for};
+
+use crate::buffer::Buffer;
+use crate::op::Op;
+use generic_payload::Payload;
+use tlm_model::Operation;
+use tlm_types::{Bytes, Command};
+
+fn is_plain(enables: &Bytes, width: &Option<u64>) -> bool
+    ensures { result ≡ is_plain enables.now width.now }
+{
+    enables.as_slice().is_empty() && width.is_none()
+}
+
+fn access(seq: u64, address: u64, length: u32, command: Command, plain: bool) -> Op
+    ensures { result ≡ Op.Access seq address length command plain false }
+{
+    Op::Access {
+        seq,
+        address,
+        length,
+        command,
+        plain,
+        fenced: false,
+    }
+}
+
+/// One of the two accesses of a `copy` or an `add`.
+pub fn fenced_access(seq: u64, address: u64, length: u32, command: Command) -> Op
+    ensures { result ≡ Op.Access seq address length command true true }
+{
+    Op::Access {
+        seq,
+        address,
+        length,
+        command,
+        plain: true,
+        fenced: true,
+    }
+}
+
+/// What an operation asks for first.
+pub fn op_for(seq: u64, operation: &Operation) -> Op
+    requires { IsProper operation.now }
+    ensures { result ≡ op_for seq operation.now }
+{
+    match operation {
+        Operation::Write {
+            address,
+            bytes,
+            enables,
+            width,
+        } => {
+            let length = bytes.as_slice().len() as u32;
+            let plain = is_plain(enables, width);
+            access(seq, *address, length, Command::Write, plain)
+        }
+        Operation::Read {
+            address,
+            length,
+            enables,
+            width,
+        } => {
+            let plain = is_plain(enables, width);
+            access(seq, *address, *length as u32, Command::Read, plain)
+        }
+        Operation::Ignore { address } => access(seq, *address, 0, Command::Ignore, false),
+        Operation::Debug { address, length } => Op::Debug {
+            seq,
+            address: *address,
+            length: *length as u32,
+        },
+        Operation::Copy { from, length, .. } => {
+            fenced_access(seq, *from, *length as u32, Command::Read)
+        }
+        Operation::Add { address, .. } => fenced_access(seq, *address, 4, Command::Read),
+        Operation::Wait { time } => Op::Wait(*time),
+        Operation::Sync => Op::Sync,
+        Operation::Fence => Op::Fence,
+        Operation::Invalidate { address, length } => Op::Invalidate {
+            seq,
+            address: *address,
+            length: *length,
+        },
+    }
+}
+
+/// Makes it the payload of an operation's first access, or of its debug read.
+pub fn fill_for(operation: &Operation, payload: &mut Payload)
+    requires proper { IsProper operation.now }
+    requires roomy { 4096 ≤ payload.old.room }
+    ensures { payload.new ≡ payload_for payload.old.room operation.now }
+{
+    match operation {
+        Operation::Write {
+            address,
+            bytes,
+            enables,
+            width,
+        } => {
+            let bytes = bytes.as_slice();
+            payload.set_write(*address, bytes, width.unwrap_or(bytes.len() as u64));
+            payload.set_enables(enables.as_slice());
+        }
+        Operation::Read {
+            address,
+            length,
+            enables,
+            width,
+        } => {
+            payload.set_read(*address, *length as u32, width.unwrap_or(*length));
+            payload.set_enables(enables.as_slice());
+        }
+        Operation::Ignore { address } => payload.set_ignore(*address),
+        Operation::Debug { address, length } => {
+            payload.set_read(*address, *length as u32, *length);
+        }
+        Operation::Copy { from, length, .. } => payload.set_read(*from, *length as u32, *length),
+        Operation::Add { address, .. } => payload.set_read(*address, 4, 4),
+        Operation::Wait { .. }
+        | Operation::Sync
+        | Operation::Fence
+        | Operation::Invalidate { .. } => payload.reset(),
+    }
+}
+
+/// How many sequence numbers an operation takes.
+pub fn numbers_of(operation: &Operation) -> u64
+    ensures { result ≡ numbers_of operation.now }
+{
+    match operation {
+        Operation::Write { .. }
+        | Operation::Read { .. }
+        | Operation::Ignore { .. }
+        | Operation::Debug { .. }
+        | Operation::Invalidate { .. } => 1,
+        Operation::Copy { .. } | Operation::Add { .. } => 2,
+        Operation::Wait { .. } | Operation::Sync | Operation::Fence => 0,
+    }
+}
+
+// Four bytes as a little-endian number, plus another, modulo 2^32.
+fn added(bytes: &[u8], number: u32) -> [u8; 4]
+    requires { length bytes.now ≡ 4 }
+    ensures { result ≡ added bytes.now number }
+{
+    let sum = u32::from_le_bytes([bytes[0], bytes[1], bytes[2], bytes[3]]).wrapping_add(number);
+    sum.to_le_bytes()
+}
+
+/// The address of the write that a `copy` or an `add` makes once its read was answered with these
+/// bytes; what it writes goes into the buffer.
+pub fn due_after(operation: &Operation, bytes: &[u8], buffer: &mut Buffer) -> Option<u64>
+    requires proper { IsProper operation.now }
+    requires whole { length bytes.now ≡ length_of (op_for 0 operation.now) }
+    ensures { due_at result buffer.new ≡ due_after operation.now bytes.now }
+{
+    match operation {
+        Operation::Copy { to, .. } => {
+            buffer.set(bytes);
+            Some(*to)
+        }
+        Operation::Add { address, number } => {
+            buffer.set(&added(bytes, *number));
+            Some(*address)
+        }
+        _ => None,
+    }
+}

@@ -1,0 +1,4 @@
+pub mod Counters
+pub mod Logs
+pub mod Seats
+pub mod Calls

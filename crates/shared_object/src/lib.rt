@@ -1,0 +1,26 @@
+//! Objects under a lock, whose calls are entries of one history.
+//!
+//! - An `Object` is a memory, a hop or a pool: it has a log, and a call adds one entry to it or none.
+//! - A `World` says, for a law, how the object of each number is built, and what vouches for an item.
+//! - A `Naming` names one history and its tokens, so that what stands under a lock is known by its type.
+//! - `Shared` has an object, its seat in the history and its book of tickets under a lock. `step` makes
+//!   one call: it joins a note, draws where the call is admitted, applies it and copies a note.
+//!
+//! Promises: a call that is admitted adds one entry to the history, which is that of the object's log,
+//! and spends one ticket; any other adds none. The reply is what the object gives in a state that its
+//! log so far gives. The note that comes back knows all that the object has written. Between two calls
+//! the seat's entries are the object's, and tickets are out for just the entries for which there is
+//! room. Want of memory is answered before anything is done.
+#![tactic(auto)]
+
+mod locked;
+mod naming;
+mod object;
+mod shared;
+#[cfg(test)]
+mod tests;
+
+pub use locked::{Stepped, Unstepped};
+pub use naming::Naming;
+pub use object::{Object, World};
+pub use shared::Shared;

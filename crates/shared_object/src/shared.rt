@@ -1,0 +1,139 @@
+// An object that threads share.
+ghost use Rattle.std.specs.Prelude.{◌≡◌, ℕ, ◌+◌, ◌≤◌, [], ◌∷◌, ◌++◌, length, slice_index_or, map, true, IfOk, IfErr};
+ghost use Rattle.std.specs.Option.{unwrap_or};
+ghost use Rattle.one_history.specs.Moves.{fresh};
+ghost use Rattle.shared_object.specs.Written.{own_number, wrote, placed, written_at};
+ghost use Rattle.shared_object.specs.Standing.{place, IsBuiltFor, Meets, AreVouched, IsSeat, IsBook};
+ghost use Rattle.shared_object.specs.Steps.{IsNote, HasTicket, unspent, Enters};
+
+use crate::locked::{Locked, Stepped, Unstepped};
+use crate::naming::Naming;
+use crate::object::{Object, World};
+use one_history::{History, Law, Note, ObjectSeat};
+use std::marker::Model;
+use std::sync::{Mutex, Wait};
+use tlm_types::Content;
+use token_book::{Book, Ticket, Tokens};
+
+/// An object with its seat in the history and its book of tickets, under a lock. Contracts see its
+/// number in the history and its own number.
+#[derive(Drop)]
+pub struct Shared<O: Object, G, W: Law<Content, G> + World<G, O>, N: Naming<G, W>> {
+    lock: Mutex<Locked<O, G, W, N>>,
+    number: u32,
+    own: u32,
+}
+
+impl<O: Object, G, W: Law<Content, G> + World<G, O>, N: Naming<G, W>> Model for Shared<O, G, W, N> {
+    ghost use Rattle.shared_object.specs.Standing.{Numbers};
+
+    ghost Value = { Numbers };
+
+    ghost view = { λ s. record { number = s.number; own = s.own } };
+}
+
+impl<O: Object, G, W: Law<Content, G> + World<G, O>, N: Naming<G, W>> Shared<O, G, W, N> {
+    /// The object with its seat and its book. Object and seat are empty. The object is built as the
+    /// world says, and its room, its planned number and the tickets that are out are equal.
+    pub fn new(object: O, seat: ObjectSeat<Content, G, W>, book: Book) -> Shared<O, G, W, N>
+        requires seat { (seat.table ≡ N.table) × (seat.knows ≡ fresh N.frame book.owner) }
+        requires book { IsBook N.tokens book.owner (O.room object) (O.bytes_left object) book }
+        requires empty { (O.entries object ≡ []) × (O.carried object ≡ []) }
+        requires room { O.room object ≡ slice_index_or N.frame.planned book.owner 0 }
+        requires built { let at = place N.frame N.tokens book.owner (own_number (O.built object).object) in
+            IsBuiltFor W.builds at (O.built object) }
+        ensures { result ≡ record { number = book.owner; own = own_number (O.built object).object } }
+    {
+        let number = book.owner();
+        let own = object.number();
+        Shared {
+            lock: Mutex::new(Locked::new(object, seat, book)),
+            number,
+            own,
+        }
+    }
+
+    /// The object's number in the history.
+    pub fn number(&self) -> u32
+        ensures { result ≡ self.now.number }
+    {
+        self.number
+    }
+
+    /// The number with which the object was made, among the objects of its kind.
+    pub fn own_number(&self) -> u32
+        ensures { result ≡ self.now.own }
+    {
+        self.own
+    }
+
+    /// Makes one call on the object, under its lock. The note is handed in and comes back, knowing all
+    /// that the object has written. Where the call is admitted, its entry is drawn in the history and
+    /// added to the log, and the ticket is spent; else the ticket comes back, and nothing was added. The
+    /// reply is what the object's `apply` gives in a state that its log so far gives. Its only error is
+    /// want of memory, and comes before anything is done; note, ticket and call come back in it.
+    pub fn step<R: Wait>(
+        &self,
+        rt: &R,
+        history: &History<Content, G, W>,
+        tickets: &Tokens,
+        note: Note<Content, G, W>,
+        ticket: Option<Ticket>,
+        call: O::Call,
+    ) -> Result<Stepped<O, G, W>, Unstepped<O, G, W>>
+        requires history { (history.now.table ≡ N.table) × (history.now.frame ≡ N.frame) }
+        requires tickets { tickets.now ≡ N.tokens }
+        requires note { IsNote N.table note }
+        requires ticket { let at = place N.frame N.tokens self.now.number self.now.own in
+            (o : O) → IsBuiltFor W.builds at (O.built o) → O.follows o → O.admitted o call ≡ true →
+            HasTicket N.tokens self.now.number (O.cost call) ticket }
+        requires fits { let at = place N.frame N.tokens self.now.number self.now.own in
+            (o : O) → IsBuiltFor W.builds at (O.built o) → O.fits o call (written_at self.now.number note.knows.known) }
+        requires backed { let at = place N.frame N.tokens self.now.number self.now.own in
+            (o : O) (p : ℕ) → Meets W.builds O.built O.entries O.follows at note.knows.known o →
+            O.admitted o call ≡ true → note.knows.seen ≤ p →
+            W.backs N.frame.world (map (placed self.now.number) (O.entries o) ++ note.knows.known)
+            (placed self.now.number (wrote p (O.content o call))) }
+        requires vouched { let at = place N.frame N.tokens self.now.number self.now.own in
+            (o : O) → Meets W.builds O.built O.entries O.follows at note.knows.known o →
+            AreVouched (W.vouches N.frame.world self.now.number) (O.brought o call) note.knows.known }
+        ensures answer { let at = place N.frame N.tokens self.now.number self.now.own in
+            IfOk result (λ s. (before : O) × (after : O)
+            × Meets W.builds O.built O.entries O.follows at note.knows.known before
+            × Enters self.now.number (O.entries before) (O.entries after) (O.admitted before call)
+            (O.content before call) note.knows s.note.knows s.position
+            × O.applied before (unwrap_or s.position 0) call s.reply after
+            × O.follows after
+            × AreVouched (W.vouches N.frame.world self.now.number) (O.given before call s.reply) s.note.knows.known) }
+        ensures note { IfOk result (λ s. IsNote N.table s.note) }
+        ensures look { IfOk result (λ s. s.note.knows.looks ≡ note.knows.looks ++ (self.now.number, O.look s.reply) ∷ []) }
+        ensures ticket { IfOk result (λ s. s.ticket ≡ unspent s.position ticket) }
+        ensures unstepped { IfErr result (λ u. (u.note ≡ note) × (u.ticket ≡ ticket) × (u.call ≡ call)) }
+        ensures refused { IfErr result (λ _. O.takes_memory call ≡ true) }
+    {
+        let mut guard = self.lock.lock(rt);
+        if guard.number() != self.number || guard.own_number() != self.own {
+            for _ in rt.forever() {}
+            unreachable!()
+        }
+        guard.step(history, tickets, note, ticket, call)
+    }
+
+    /// The object, its seat and its book. The log stands in the seat, and a ticket is out for each
+    /// entry that was planned and isn't there.
+    pub fn into_parts<R: Wait>(self, rt: &R) -> (O, ObjectSeat<Content, G, W>, Book)
+        ensures built { IsBuiltFor W.builds (place N.frame N.tokens self.number self.own) (O.built result.0) }
+        ensures seat { IsSeat N.table N.frame self.number (O.entries result.0) result.1 }
+        ensures book { IsBook N.tokens self.number (O.room result.0) (O.bytes_left result.0) result.2 }
+        ensures planned { length (O.entries result.0) + O.room result.0 ≡ slice_index_or N.frame.planned self.number 0 }
+        ensures vouched { AreVouched (W.vouches N.frame.world self.number) (O.carried result.0) result.1.knows.known }
+    {
+        let Shared { lock, number, own } = self;
+        let locked = lock.into_inner();
+        if locked.number() != number || locked.own_number() != own {
+            for _ in rt.forever() {}
+            unreachable!()
+        }
+        locked.into_parts()
+    }
+}

@@ -1,0 +1,114 @@
+-- A command line that asks for a valid plan, of files that are told, has its report.
+use Rattle.std.proofs.Common.{◌≡◌, ℕ, zero, suc, ◌<◌, ◌≤◌, List, [], ◌∷◌, length, take, Option, Some, None, Ok, Err, refl, ap, sym, subst, ◌∙◌, arith}
+use Rattle.std.specs.Prelude.{slice_get, IfSome}
+use Rattle.std.specs.List.{AllByRecursion}
+use Rattle.platform_file.specs.Reading.{Refusal}
+use Rattle.tlm_model.specs.declared.operation.Operation.{Operation}
+use Rattle.tlm_model.specs.declared.platform.InitiatorRow.{InitiatorRow}
+use Rattle.tlm_model.specs.declared.platform.Platform.{Platform}
+use Rattle.tlm_model.specs.Plan.{Plan}
+use Rattle.traffic_script.specs.Lines.{script_of}
+use Rattle.route_plan.specs.Valid.{checked_plan}
+use Rattle.command_words.specs.Words.{CommandLine, run, script}
+use Rattle.tlm_top.specs.Files.{Holding, shaped_platform, IsText, IsPlatform, IsFilePlatform, IsScript, AreScripts, IsPlan, IsFileRefused, HasRefusedFile, HasRefusedPlan, IsPlatformRefused, by_its_file, by_its_counts, IsNext, IsScriptRefused, IsPlatformFile, IsNextScript, IsLoaded, as_platform, as_script, IsLong, file_limit}
+use Rattle.tlm_top.specs.Headline.{Outside, IsAnswer}
+use Rattle.tlm_top.specs.Complete.{IsTold, HasToldPlatform, IsAmple, IsServed, IsComplete}
+use Rattle.tlm_top.specs.declared.exit.Exit.{Exit}
+use Rattle.tlm_top.specs.declared.exit.Exit.TheVariants.{Done, Usage, PlatformRefused, ScriptRefused, ReadFault, WriteFault, NoMemory, TooLong}
+
+held_text : (bytes text : List ℕ) (o : Option (List ℕ)) → o ≡ Some bytes → IfSome o (λ b. text ≡ b) → text ≡ bytes
+held_text bytes text None is same = cc
+held_text bytes text (Some b) is same = let e : b ≡ bytes = cc in same ∙ e
+
+-- a told file has one text
+text_is : (h : Holding) (name a b : List ℕ) → IsTold h name → IsText h name a → IsText h name b → a ≡ b
+text_is h name a b told first second = held_text told.bytes a (h name) told.held first ∙ sym (held_text told.bytes b (h name) told.held second)
+
+not_long : (h : Holding) (name : List ℕ) → IsTold h name → ¬ IsLong h name
+not_long h name told long = by_case (h name) told.held long
+  where
+    by_case : (o : Option (List ℕ)) → o ≡ Some told.bytes → IfSome o (λ b. file_limit < length b) → ⊥
+    by_case None is l = cc
+    by_case (Some b) is l = let e : b ≡ told.bytes = cc in let n = ap length e in let fits = told.fits in omega (arith, n, l, fits)
+
+platform_is : (h : Holding) (command : CommandLine) (p q : Platform) → HasToldPlatform h command → IsPlatform h command p → IsPlatform h command q → p ≡ q
+platform_is h (run file workers trace) p q told first second =
+    let same = text_is h file first.text second.text told first.loaded second.loaded in
+    let read : Ok p ≡ Ok q = sym first.read ∙ (ap shaped_platform same ∙ second.read) in cc
+platform_is h (script file) p q told first second = first ∙ sym second
+
+script_is : (h : Holding) (name : List ℕ) (a b : List Operation) → IsTold h name → IsScript h name a → IsScript h name b → a ≡ b
+script_is h name a b told first second =
+    let same = text_is h name first.text second.text told first.loaded second.loaded in
+    let read : Ok a ≡ Ok b = sym first.read ∙ (ap script_of same ∙ second.read) in cc
+
+scripts_are : (h : Holding) (rows : List InitiatorRow) (xs ys : List (List Operation)) → AllByRecursion (λ (row : InitiatorRow). IsTold h row.script) rows → AreScripts h rows xs → AreScripts h rows ys → xs ≡ ys
+scripts_are h [] [] [] told first second = refl
+scripts_are h [] [] (y ∷ ys) told first second = absurd second
+scripts_are h [] (x ∷ xs) ys told first second = absurd first
+scripts_are h (row ∷ rows) [] ys told first second = absurd first
+scripts_are h (row ∷ rows) (x ∷ xs) [] told first second = absurd second
+scripts_are h (row ∷ rows) (x ∷ xs) (y ∷ ys) told first second =
+    let head = script_is h row.script x y told.0 first.0 second.0 in
+    let rest = scripts_are h rows xs ys told.1 first.1 second.1 in cc
+
+-- the script of an initiator, and that its file is told
+pub record HasScript (h : Holding) (row : InitiatorRow) : Type 0 where
+  pub operations : List Operation
+  pub is : IsScript h row.script operations
+  pub told : IsTold h row.script
+
+script_at : (h : Holding) (rows : List InitiatorRow) (xs : List (List Operation)) (n : ℕ) (row : InitiatorRow) → AllByRecursion (λ (r : InitiatorRow). IsTold h r.script) rows → AreScripts h rows xs → slice_get rows n ≡ Some row → HasScript h row
+script_at h [] xs n row told are at = cc
+script_at h (r ∷ rows) [] n row told are at = absurd are
+script_at h (r ∷ rows) (x ∷ xs) zero row told are at =
+    let e : r ≡ row = cc in subst (λ (i : InitiatorRow). HasScript h i) e (record { operations = x; is = are.0; told = told.0 })
+script_at h (r ∷ rows) (x ∷ xs) (suc n) row told are at = script_at h rows xs n row told.1 are.1 at
+
+-- the script that is loaded next is one of the plan
+next_script : (o : Outside) (command : CommandLine) (n : ℕ) (row : InitiatorRow) → IsAmple o command → IsNext o.files.holds command n row → HasScript o.files.holds row
+next_script o command n row ample next =
+    let same = platform_is o.files.holds command next.platform ample.plan.platform ample.platform next.asked ample.asked.platform in
+    script_at o.files.holds ample.plan.platform.initiators ample.plan.scripts n row ample.scripts ample.asked.scripts
+    (ap (λ (p : Platform). slice_get p.initiators n) (sym same) ∙ next.next)
+
+no_refused_file : (o : Outside) (command : CommandLine) (r : Refusal) → IsAmple o command → HasRefusedFile o.files.holds command r → ⊥
+no_refused_file o (run file workers trace) r ample refused =
+    let p = ample.asked.platform in
+    let same = text_is o.files.holds file p.text refused.text ample.platform p.loaded refused.loaded in
+    let wrong : Ok ample.plan.platform ≡ Err r = sym p.read ∙ (ap shaped_platform same ∙ refused.refused) in cc
+no_refused_file o (script file) r ample refused = refused
+
+no_refused_plan : (o : Outside) (command : CommandLine) (r : Refusal) → IsAmple o command → HasRefusedPlan o.files.holds command r → ⊥
+no_refused_plan o command r ample refused =
+    let same = platform_is o.files.holds command refused.plan.platform ample.plan.platform ample.platform refused.asked.platform ample.asked.platform in
+    let scripts = scripts_are o.files.holds ample.plan.platform.initiators refused.plan.scripts ample.plan.scripts ample.scripts
+    (subst (λ (p : Platform). AreScripts o.files.holds p.initiators refused.plan.scripts) same refused.asked.scripts) ample.asked.scripts in
+    let plans : refused.plan ≡ ample.plan = λ i. record { platform = same i; scripts = scripts i } in
+    let wrong : Ok tt ≡ Err r = sym ample.valid.limits ∙ (ap checked_plan (sym plans) ∙ refused.refused) in cc
+
+no_refused_script : (o : Outside) (command : CommandLine) (n : ℕ) (name : List ℕ) (line : ℕ) → IsAmple o command → (r : _) → IsScriptRefused o.files.holds command n name r → ⊥
+no_refused_script o command n name line ample r refused =
+    let s = next_script o command n refused.row ample refused.first in
+    let same = text_is o.files.holds refused.row.script s.is.text refused.text s.told s.is.loaded refused.loaded in
+    let wrong : Ok s.operations ≡ Err r = sym s.is.read ∙ (ap script_of same ∙ refused.refused) in cc
+
+loaded_is_told : (o : Outside) (command : CommandLine) (name : List ℕ) → IsAmple o command → IsLoaded o.files.holds command name → IsTold o.files.holds name
+loaded_is_told o (run file workers trace) name ample (as_platform is) = subst (λ (n : List ℕ). IsTold o.files.holds n) (sym is) ample.platform
+loaded_is_told o (script file) name ample (as_platform is) = absurd is
+loaded_is_told o command name ample (as_script next) =
+    subst (λ (n : List ℕ). IsTold o.files.holds n) (sym next.named) (next_script o command next.number next.row ample next.next).told
+
+pub is_complete : IsComplete
+is_complete Done o command answer ample = tt
+is_complete Usage o command answer ample = absurd answer.1
+is_complete (PlatformRefused code table key) o command answer ample = by_cause answer.1
+  where
+    by_cause : IsPlatformRefused o.files.holds command (record { code = code; table = table; key = key }) → ⊥
+    by_cause (by_its_file refused) = no_refused_file o command _ ample refused
+    by_cause (by_its_counts refused) = no_refused_plan o command _ ample refused
+is_complete (ScriptRefused initiator name line code) o command answer ample = absurd (no_refused_script o command initiator name line ample _ answer.1)
+is_complete (ReadFault name) o command answer ample = absurd (ample.loads name answer.1.1)
+is_complete WriteFault o command answer ample = absurd (ample.writes answer.1)
+is_complete NoMemory o command answer ample = tt
+is_complete (TooLong name) o command answer ample = absurd (not_long o.files.holds name (loaded_is_told o command name ample answer.1.0) answer.1.1)

@@ -1,0 +1,92 @@
+-- The plan of a platform and its scripts.
+use Rattle.std.proofs.Common.{◌≡◌, ℕ, suc, ◌+◌, ◌≤◌, ◌^◌, arith, List, [], ◌∷◌, length, Result, Ok, Err, refl, ap, sym, subst, ◌∙◌}
+use Rattle.outside.specs.Causes.{Rose}
+use Rattle.platform_file.specs.Reading.{Refusal, ◌>>=◌, Fails}
+use Rattle.platform_file.specs.declared.fault.PlatformFault.{PlatformFault}
+use Rattle.platform_file.specs.declared.fault.PlatformFault.TheVariants.{Refused, Memory}
+use Rattle.route_plan.specs.Shape.{IsShape}
+use Rattle.route_plan.specs.Valid.{checked_plan, planned, IsValid}
+use Rattle.command_words.specs.Words.{CommandLine, run, script}
+use Rattle.tlm_model.specs.declared.operation.Operation.{Operation}
+use Rattle.tlm_model.specs.declared.platform.InitiatorRow.{InitiatorRow}
+use Rattle.tlm_model.specs.declared.platform.Platform.{Platform}
+use Rattle.tlm_model.specs.Plan.{Plan}
+use Rattle.tlm_top.specs.Exits.{exit_of}
+use Rattle.tlm_top.specs.Files.{Holding, Files, IsPlatform, IsPlan, AreScripts, IsNext, IsPlatformRefused, by_its_file, by_its_counts, IsLoaded, as_platform, as_script, HasFailed, IsLong, IsFilePlatform}
+use Rattle.tlm_top.specs.Headline.{IsRefusal}
+use Rattle.tlm_top.specs.Loads.{IsFileFault, IsFirstFault, IsScriptFault}
+use Rattle.tlm_top.specs.declared.exit.Exit.{Exit}
+use Rattle.tlm_top.specs.declared.exit.Exit.TheVariants.{Done, Usage, PlatformRefused, ScriptRefused, ReadFault, WriteFault, NoMemory, TooLong}
+use Rattle.tlm_top.proofs.Loading.{files, held, LoadFault-earlier}
+
+pub AreScripts-length : (h : Holding) (rows : List InitiatorRow) (scripts : List (List Operation)) → AreScripts h rows scripts → length scripts ≡ length rows
+AreScripts-length h [] [] are = refl
+AreScripts-length h [] (s ∷ scripts) are = absurd are
+AreScripts-length h (row ∷ rows) [] are = absurd are
+AreScripts-length h (row ∷ rows) (s ∷ scripts) are = ap suc (AreScripts-length h rows scripts are.1)
+
+within : (p q : Plan) (checked : Result (Unit {0}) Refusal) → (checked >>= λ _. Ok p) ≡ Ok q → (checked ≡ Ok tt) × (q ≡ p)
+within p q (Ok tt) is = (refl, let same : p ≡ q = cc in sym same)
+within p q (Err e) is = cc
+
+-- a plan that was made
+pub planned_is : (h : Holding) (command : CommandLine) (p q : Plan) → IsShape p.platform → IsPlatform h command p.platform → AreScripts h p.platform.initiators p.scripts → planned p ≡ Ok q → IsPlan h command q × IsValid q
+unfolding planned
+planned_is h command p q shape platform scripts is =
+    let w = within p q (checked_plan p) is in
+    subst (λ (x : Plan). IsPlan h command x × IsValid x) (sym w.1)
+    (record { platform = platform; scripts = scripts }, record { shape = shape; scripts = AreScripts-length h p.platform.initiators p.scripts scripts; limits = w.0 })
+
+refused : (p : Plan) (checked : Result (Unit {0}) Refusal) (r : Refusal) → (checked >>= λ _. Ok p) ≡ Err r → checked ≡ Err r
+refused p (Ok tt) r is = cc
+refused p (Err e) r is = let same : e ≡ r = cc in ap Err same
+
+-- a plan whose counts are refused
+pub plan_refused : (h : Holding) (before after : List ℕ → ℕ) (command : CommandLine) (p : Plan) (fault : PlatformFault) → IsPlatform h command p.platform → AreScripts h p.platform.initiators p.scripts → Fails fault (planned p) → IsRefusal (exit_of fault) (files h before after) command
+unfolding planned
+plan_refused h before after command p (Refused code table key) platform scripts fails =
+    by_its_counts (record { plan = p; asked = record { platform = platform; scripts = scripts }; refused = refused p (checked_plan p) _ fails })
+plan_refused h before after command p Memory platform scripts fails = tt
+
+-- scripts that aren't there
+pub scripts_refused : (f : Files) (command : CommandLine) (p : Platform) (exit : Exit) → IsPlatform f.holds command p → IsFirstFault f p.initiators exit → IsRefusal exit f command
+scripts_refused f command p exit platform first = by_exit exit first.fault
+  where
+    next : IsNext f.holds command first.number first.row
+    next = record { platform = p; asked = platform; scripts = first.scripts; read = first.read; next = first.next }
+
+    by_exit : (e : Exit) → IsScriptFault f first.number first.row e → IsRefusal e f command
+    by_exit Done fault = fault
+    by_exit Usage fault = fault
+    by_exit (PlatformRefused code table key) fault = absurd fault
+    by_exit (ScriptRefused initiator name line code) fault =
+        record { row = first.row; first = subst (λ (n : ℕ). IsNext f.holds command n first.row) (sym fault.0) next; named = fault.1; text = fault.2.text; loaded = fault.2.loaded; refused = fault.2.refused }
+    by_exit (ReadFault name) fault =
+        (as_script (record { number = first.number; row = first.row; next = next; named = fault.0 }), subst (λ (x : List ℕ). HasFailed f x) (sym fault.0) fault.1)
+    by_exit WriteFault fault = fault
+    by_exit NoMemory fault = tt
+    by_exit (TooLong name) fault =
+        (as_script (record { number = first.number; row = first.row; next = next; named = fault.0 }), subst (λ (x : List ℕ). IsLong f.holds x) (sym fault.0) fault.1)
+
+-- a refusal of a later part of a call is one of the whole call
+pub refusal-earlier : (h0 h : Holding) (f0 f f1 : List ℕ → ℕ) (command : CommandLine) (exit : Exit) → ((x : List ℕ) → h x ≡ h0 x) → ((x : List ℕ) → f0 x ≤ f x) → IsRefusal exit (files h f f1) command → IsRefusal exit (files h0 f0 f1) command
+refusal-earlier h0 h f0 f f1 command exit same later is = subst (λ (g : Holding). IsRefusal exit (files g f0 f1) command) (held h0 h same) (by_exit exit is)
+  where
+    rose : (a b c : ℕ) → a ≤ b → Rose b c → Rose a c
+    rose a b c below r = omega (arith, below, r)
+
+    by_exit : (e : Exit) → IsRefusal e (files h f f1) command → IsRefusal e (files h f0 f1) command
+    by_exit Done is = is
+    by_exit Usage is = is
+    by_exit (PlatformRefused code table key) is = is
+    by_exit (ScriptRefused initiator name line code) is = is
+    by_exit (ReadFault name) is = (is.0, rose (f0 name) (f name) (f1 name) (later name) is.1)
+    by_exit WriteFault is = is
+    by_exit NoMemory is = tt
+    by_exit (TooLong name) is = is
+
+-- the scripts that were loaded, as the plan has them
+pub AreScripts-moved : (h0 h : Holding) (rows moved : List InitiatorRow) (scripts taken : List (List Operation)) → ((x : List ℕ) → h x ≡ h0 x) → rows ≡ moved → taken ≡ scripts → AreScripts h rows scripts → AreScripts h0 moved taken
+AreScripts-moved h0 h rows moved scripts taken same to from are =
+    subst (λ (g : Holding). AreScripts g moved taken) (held h0 h same)
+    (subst (λ (rs : List InitiatorRow). AreScripts h rs taken) to (subst (λ (ss : List (List Operation)). AreScripts h rows ss) (sym from) are))

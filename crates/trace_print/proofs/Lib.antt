@@ -1,0 +1,14 @@
+pub mod Writing
+pub mod Putting
+pub mod Texts
+pub mod HopLemmas
+pub mod EntryLemmas
+pub mod EndLemmas
+pub mod StoreLemmas
+pub mod ReportLemmas
+pub mod TextLemmas
+pub mod WordLemmas
+pub mod SplitLemmas
+pub mod SameWords
+pub mod SameEntries
+pub mod SameHistories

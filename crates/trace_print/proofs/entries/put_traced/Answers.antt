@@ -1,0 +1,23 @@
+use Rattle.std.proofs.Common.{◌≡◌, ◌∙◌, ap, sym}
+use Rattle.tlm_types.specs.declared.entry.Head.{Head}
+use Rattle.tlm_types.specs.Log.{head_of}
+use Rattle.tlm_model.specs.declared.platform.Platform.{Platform}
+use Rattle.tlm_model.specs.Report.{entry_words}
+use Rattle.tlm_model.specs.Text.{line_of}
+use Rattle.trace_print.specs.Hops.{ends_at}
+use Rattle.trace_print.proofs.EntryLemmas.{hidden-one, shown-one}
+use Rattle.trace_print.proofs.Putting.{puts-as, puts-nothing}
+use Rattle.trace_print.proofs.entries.put_traced.Goals as goal
+
+pub returns-then-is_shown : goal.returns-then-is_shown
+returns-then-is_shown g c e here =
+    let p = c.args.plan.now.platform in
+    let found = rw here at c.head.ensures in
+    let same : c.head.result ≡ head_of e = cc in
+    let ends = c.ends_at-ends.ensures ∙ (ap (λ (h : Head). ends_at p h.object) same ∙ ap (λ (r : Platform). ends_at r e.object) (sym c.platform.ensures.same)) in
+    puts-as _ _ _ _ (c.put_entry.ensures e here ends)
+    (ap (λ (r : Platform). line_of (entry_words r e)) c.platform.ensures.same ∙ shown-one p c.args.trace e _ (c.is_shown.ensures e here) c.if-is_shown.true)
+
+pub returns-else-is_shown : goal.returns-else-is_shown
+returns-else-is_shown g c e here =
+    puts-as _ _ _ _ (puts-nothing _) (hidden-one c.args.plan.now.platform c.args.trace e _ (c.is_shown.ensures e here) c.if-is_shown.false)

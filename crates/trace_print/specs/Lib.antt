@@ -1,0 +1,5 @@
+pub mod Writes
+pub mod Putting
+pub mod Told
+pub mod Hops
+pub mod Naming

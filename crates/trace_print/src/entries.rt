@@ -1,0 +1,232 @@
+// The lines of the entries of a history.
+ghost use Rattle.std.specs.Prelude.{◌≡◌, ◌<◌, ◌∷◌, [], ◌++◌, Some, length, slice_get, map, codes, false, if◌then◌else◌};
+ghost use Rattle.std.specs.Fmt.{decimal};
+ghost use Rattle.std.specs.List.{join_with_byte};
+ghost use Rattle.tlm_types.specs.declared.entry.Entry.{Entry};
+ghost use Rattle.tlm_types.specs.declared.entry.What.TheVariants.{Granted, Call};
+ghost use Rattle.tlm_types.specs.Log.{facts_of, read_at};
+ghost use Rattle.tlm_model.specs.Report.{command_word, entry_words, is_access, status_word, traced, txn_word, way_word, what_words};
+ghost use Rattle.tlm_model.specs.Text.{address_word, data_word, line_of};
+ghost use Rattle.trace_print.specs.Hops.{ends_at, object_word_by};
+ghost use Rattle.trace_print.specs.Putting.{Puts, page};
+ghost use Rattle.trace_print.specs.Told.{access_words, shown_at, text_of};
+
+use crate::line::{Line, end_line, put};
+use crate::names::{ends_at, put_object, put_txn};
+use crate::words::{
+    command_text, kind_text, phase_text, put_address, put_data, put_number, put_range, put_sync,
+    put_text, put_way, status_text,
+};
+use outside::Sink;
+use route_plan::{HopEnds, Plan};
+use tlm_model::{Platform, Trace};
+use tlm_types::{Command, Facts, Head, Kind, Log, Phase, TlmSync, What};
+
+// The position, the time, the transaction and the object of an entry, each with a space after it.
+fn put_head<K: Sink>(
+    out: &mut K,
+    line: &mut Line,
+    platform: &Platform,
+    head: Head,
+    ends: Option<HopEnds>,
+)
+    ensures { Puts (page (K.taken out.old) (K.faults out.old) line.old)
+        (page (K.taken out.new) (K.faults out.new) line.new)
+        (join_with_byte 32 (decimal head.position ∷ decimal head.time ∷ txn_word platform.now head.txn
+        ∷ object_word_by platform.now head.object ends ∷ []) ++ codes " ") }
+{
+    put_number(out, line, head.position);
+    put(out, line, b" ");
+    put_number(out, line, head.time);
+    put(out, line, b" ");
+    put_txn(out, line, platform, head.txn);
+    put(out, line, b" ");
+    put_object(out, line, platform, head.object, ends);
+    put(out, line, b" ");
+}
+
+// The way of an access, and what it asked for, up to its length.
+fn put_asked<K: Sink>(out: &mut K, line: &mut Line, facts: Facts)
+    ensures { Puts (page (K.taken out.old) (K.faults out.old) line.old)
+        (page (K.taken out.new) (K.faults out.new) line.new)
+        (join_with_byte 32 (way_word facts.way ∷ command_word facts.command ∷ address_word facts.offset
+        ∷ decimal facts.length ∷ [])) }
+{
+    put_way(out, line, facts.way);
+    put(out, line, b" ");
+    put_text(out, line, command_text(facts.command));
+    put(out, line, b" ");
+    put_address(out, line, facts.offset);
+    put(out, line, b" ");
+    put_number(out, line, facts.length);
+}
+
+// What an access was, from its plain parts, its enables, and the bytes that its line shows.
+fn put_access<K: Sink>(out: &mut K, line: &mut Line, facts: Facts, enables: &[u8], shown: &[u8])
+    ensures { Puts (page (K.taken out.old) (K.faults out.old) line.old)
+        (page (K.taken out.new) (K.faults out.new) line.new)
+        (join_with_byte 32 (access_words facts enables.now shown.now)) }
+{
+    put_asked(out, line, facts);
+    put(out, line, b" be=");
+    put_data(out, line, enables);
+    put(out, line, b" sw=");
+    put_number(out, line, facts.width);
+    put(out, line, b" ");
+    put_data(out, line, shown);
+    put(out, line, b" ");
+    put_text(out, line, status_text(facts.status));
+}
+
+// The bytes that the line of an access shows.
+fn shown(history: &Log, index: u64, command: Command) -> &[u8]
+    requires { (f : Facts) × (read_at facts_of history.now.entries index ≡ Some f) × (command ≡ f.command) }
+    ensures { Some result.now ≡ read_at shown_at history.now.entries index }
+{
+    match command {
+        Command::Read => history.got(index),
+        Command::Write => history.sent(index),
+        Command::Ignore => &[],
+    }
+}
+
+fn put_granted<K: Sink>(out: &mut K, line: &mut Line, gate: u32, first: u64, last: u64, kind: Kind)
+    ensures { Puts (page (K.taken out.old) (K.faults out.old) line.old)
+        (page (K.taken out.new) (K.faults out.new) line.new)
+        (join_with_byte 32 (what_words (Granted gate first last kind))) }
+{
+    put_slot(out, line, b"granted ", gate);
+    put(out, line, b" ");
+    put_range(out, line, first, last);
+    put(out, line, b" ");
+    put_text(out, line, kind_text(kind));
+}
+
+fn put_call<K: Sink>(out: &mut K, line: &mut Line, phase: Phase, answer: TlmSync)
+    ensures { Puts (page (K.taken out.old) (K.faults out.old) line.old)
+        (page (K.taken out.new) (K.faults out.new) line.new)
+        (join_with_byte 32 (what_words (Call phase answer))) }
+{
+    put_text(out, line, phase_text(phase));
+    put(out, line, b" ");
+    put_sync(out, line, answer);
+}
+
+// A word with its space, and the number of a slot or a gate.
+fn put_slot<K: Sink>(out: &mut K, line: &mut Line, word: &[u8], slot: u32)
+    ensures { Puts (page (K.taken out.old) (K.faults out.old) line.old)
+        (page (K.taken out.new) (K.faults out.new) line.new) (word.now ++ decimal slot) }
+{
+    put(out, line, word);
+    put_number(out, line, slot as u64);
+}
+
+// What happened, where it is no access.
+fn put_event<K: Sink>(out: &mut K, line: &mut Line, what: &What)
+    requires { is_access what.now ≡ false }
+    ensures { Puts (page (K.taken out.old) (K.faults out.old) line.old)
+        (page (K.taken out.new) (K.faults out.new) line.new) (join_with_byte 32 (what_words what.now)) }
+{
+    match what {
+        What::Access { .. } => unreachable!(),
+        What::Granted {
+            gate,
+            first,
+            last,
+            kind,
+        } => put_granted(out, line, *gate, *first, *last, *kind),
+        What::Invalidated { first, last } => {
+            put(out, line, b"invalidated ");
+            put_range(out, line, *first, *last);
+        }
+        What::Closed { gate } => put_slot(out, line, b"closed ", *gate),
+        What::Call { phase, answer } => put_call(out, line, *phase, *answer),
+        What::Take { slot } => put_slot(out, line, b"take ", *slot),
+        What::Acquire { slot } => put_slot(out, line, b"acquire ", *slot),
+        What::Release { slot, freed } => {
+            put_slot(out, line, b"release ", *slot);
+            if *freed {
+                put(out, line, b" freed");
+            }
+        }
+    }
+}
+
+// What happened at this place of the history.
+fn put_what<K: Sink>(out: &mut K, line: &mut Line, history: &Log, index: u64)
+    requires { index < length history.now.entries }
+    ensures { (e : Entry) → slice_get history.now.entries index ≡ Some e →
+        Puts (page (K.taken out.old) (K.faults out.old) line.old)
+        (page (K.taken out.new) (K.faults out.new) line.new) (join_with_byte 32 (what_words e.what)) }
+{
+    if let Some(facts) = history.facts(index) {
+        let shown = shown(history, index, facts.command);
+        put_access(out, line, facts, history.enables(index), shown);
+    } else if let Some(what) = history.what(index) {
+        put_event(out, line, what);
+    }
+}
+
+/// Puts the line of the entry at this place. The ends are given where it stands at a hop.
+pub fn put_entry<K: Sink>(
+    out: &mut K,
+    line: &mut Line,
+    platform: &Platform,
+    ends: Option<HopEnds>,
+    history: &Log,
+    index: u64,
+)
+    requires { index < length history.now.entries }
+    ensures { (e : Entry) → slice_get history.now.entries index ≡ Some e → ends ≡ ends_at platform.now e.object →
+        Puts (page (K.taken out.old) (K.faults out.old) line.old)
+        (page (K.taken out.new) (K.faults out.new) line.new) (line_of (entry_words platform.now e)) }
+{
+    put_head(out, line, platform, history.head(index), ends);
+    put_what(out, line, history, index);
+    end_line(out, line);
+}
+
+/// The trace shows the entry at this place.
+pub fn is_shown(history: &Log, index: u64, trace: Trace) -> bool
+    requires { index < length history.now.entries }
+    ensures { (e : Entry) → slice_get history.now.entries index ≡ Some e → traced trace (e ∷ [])
+        ≡ (if result then e ∷ [] else []) }
+{
+    match trace {
+        Trace::All => true,
+        Trace::Accesses => history.facts(index).is_some(),
+        Trace::None => false,
+    }
+}
+
+// Puts the line of the entry at this place, where the trace shows it.
+fn put_traced<K: Sink>(
+    out: &mut K,
+    line: &mut Line,
+    plan: &Plan,
+    history: &Log,
+    index: u64,
+    trace: Trace,
+)
+    requires { index < length history.now.entries }
+    ensures { (e : Entry) → slice_get history.now.entries index ≡ Some e →
+        Puts (page (K.taken out.old) (K.faults out.old) line.old)
+        (page (K.taken out.new) (K.faults out.new) line.new)
+        (text_of (map (entry_words plan.now.platform) (traced trace (e ∷ [])))) }
+{
+    if is_shown(history, index, trace) {
+        let ends = ends_at(plan, history.head(index).object);
+        put_entry(out, line, plan.platform(), ends, history, index);
+    }
+}
+
+/// Puts the lines of the entries that a trace shows, in order.
+pub fn put_entries<K: Sink>(out: &mut K, line: &mut Line, plan: &Plan, history: &Log, trace: Trace)
+    ensures { Puts (page (K.taken out.old) (K.faults out.old) line.old)
+        (page (K.taken out.new) (K.faults out.new) line.new)
+        (text_of (map (entry_words plan.now.platform) (traced trace history.now.entries))) }
+{
+    for index in 0..history.len() {
+        put_traced(out, line, plan, history, index, trace);
+    }
+}

@@ -1,0 +1,21 @@
+//! Laws over the lines of a report.
+ghost use Rattle.trace_print.specs.Naming.{AreNamed, NamesEntries, NamesHistories};
+ghost use Rattle.tlm_model.specs.Worked.{readback, readback_plan};
+
+/// The line of an entry names it: two entries of a run with one line are the same. The names of the
+/// platform's components have visible bytes alone, and no `.` or `>`; no two initiators and no two
+/// memories have one name; and no two hops have the same two ends.
+pub fn lines_name_entries()
+    ensures { NamesEntries }
+{}
+
+/// The report of a run with all its entries names its history: two histories with one report are the
+/// same, over the same names.
+pub fn reports_name_histories()
+    ensures { NamesHistories }
+{}
+
+/// What the laws ask holds of a worked run.
+pub fn a_worked_run_is_named()
+    ensures { AreNamed readback_plan readback }
+{}

@@ -1,0 +1,134 @@
+//! The report of a run.
+//!
+//! - `print` writes the report of an outcome to a sink, with the entries that a `Trace` shows.
+//! - `PrintFault` tells why it didn't: the sink failed, or memory was refused.
+//!
+//! Promises: on Ok the sink took the report of the definitions, byte for byte. Where the sink fails it
+//! took a prefix of the report, its count of faults rose, and nothing is written after that. Memory is
+//! taken before the first write, for one line, so where it is refused the sink took nothing. A line is
+//! one piece for the sink. Every kind of entry is printed, whatever its numbers.
+#![tactic(auto)]
+
+ghost use Rattle.std.specs.Prelude.{◌∷◌, [], codes};
+ghost use Rattle.std.specs.Fmt.{decimal};
+ghost use Rattle.tlm_model.specs.Report.{report_of};
+ghost use Rattle.tlm_model.specs.Text.{line_of};
+ghost use Rattle.trace_print.specs.Putting.{Puts, page};
+ghost use Rattle.plat_core.specs.Outcome.{IsReportable};
+ghost use Rattle.trace_print.specs.Writes.{IsPrinted};
+
+mod ends;
+mod entries;
+pub mod laws;
+mod line;
+mod memories;
+mod names;
+#[cfg(test)]
+mod tests;
+mod words;
+
+use crate::ends::put_initiators;
+use crate::entries::put_entries;
+use crate::line::{Line, end_line, flush, put};
+use crate::memories::put_memories;
+use crate::words::put_number;
+use outside::Sink;
+use plat_core::Outcome;
+use route_plan::Plan;
+use std::alloc::{AllocError, Global};
+use thiserror::Error;
+use tlm_model::Trace;
+
+/// Why a report wasn't printed whole: the sink failed, or memory was refused.
+#[derive(Clone, Copy, Debug, PartialEq, Eq, Error)]
+pub enum PrintFault {
+    #[error("the report could not be written")]
+    Failed,
+    #[error("out of memory")]
+    Memory,
+}
+
+impl From<AllocError> for PrintFault {
+    ghost use Rattle.std.specs.Prelude.{◌≡◌};
+    ghost use Rattle.trace_print.specs.declared.PrintFault.TheVariants.{Memory};
+
+    ghost from_gives = { λ _ fault. fault ≡ Memory };
+
+    fn from(_: AllocError) -> PrintFault {
+        PrintFault::Memory
+    }
+}
+
+// The first line.
+fn put_title<K: Sink>(out: &mut K, line: &mut Line)
+    ensures { Puts (page (K.taken out.old) (K.faults out.old) line.old)
+        (page (K.taken out.new) (K.faults out.new) line.new)
+        (line_of (codes "tlm-report" ∷ codes "1" ∷ [])) }
+{
+    put(out, line, b"tlm-report 1");
+    end_line(out, line);
+}
+
+// The last line: how many entries the history has.
+fn put_count<K: Sink>(out: &mut K, line: &mut Line, count: u64)
+    ensures { Puts (page (K.taken out.old) (K.faults out.old) line.old)
+        (page (K.taken out.new) (K.faults out.new) line.new)
+        (line_of (codes "end" ∷ decimal count ∷ [])) }
+{
+    put(out, line, b"end ");
+    put_number(out, line, count);
+    end_line(out, line);
+}
+
+// The whole report, of which the end of the last line may still wait.
+fn put_report<K: Sink>(out: &mut K, line: &mut Line, plan: &Plan, outcome: &Outcome, trace: Trace)
+    requires { IsReportable plan.now outcome.now }
+    ensures { Puts (page (K.taken out.old) (K.faults out.old) line.old)
+        (page (K.taken out.new) (K.faults out.new) line.new)
+        (report_of trace plan.now outcome.now.history.entries) }
+{
+    let platform = plan.platform();
+    put_title(out, line);
+    put_entries(out, line, plan, &outcome.history, trace);
+    put_initiators(
+        out,
+        line,
+        platform.initiators.as_slice(),
+        outcome.ends.as_slice(),
+    );
+    put_memories(
+        out,
+        line,
+        platform.memories.as_slice(),
+        outcome.stores.as_slice(),
+    );
+    put_count(out, line, outcome.history.len());
+}
+
+/// Prints the report of an outcome of this plan: its head, a line for each entry that the trace shows,
+/// how each initiator ended with what was refused to it, the bytes of each memory that aren't zeros, 16
+/// a line, and the number of entries. Times are in picoseconds; addresses, offsets and lengths in
+/// bytes. After Failed the sink took a prefix of the report, and after Memory nothing.
+pub fn print<K: Sink>(
+    alloc: Global,
+    out: &mut K,
+    plan: &Plan,
+    outcome: &Outcome,
+    trace: Trace,
+) -> Result<(), PrintFault>
+    requires { IsReportable plan.now outcome.now }
+    ensures { IsPrinted result (record {
+      taken_before = K.taken out.old;
+      taken_after = K.taken out.new;
+      faults_before = K.faults out.old;
+      faults_after = K.faults out.new;
+    }) (report_of trace plan.now outcome.now.history.entries) }
+{
+    let mut line = Line::with_room(alloc)?;
+    put_report(out, &mut line, plan, outcome, trace);
+    flush(out, &mut line);
+    if line.has_failed() {
+        return Err(PrintFault::Failed);
+    }
+    Ok(())
+}

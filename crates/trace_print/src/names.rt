@@ -1,0 +1,121 @@
+// Names of a platform's components, as the report has them.
+ghost use Rattle.std.specs.Prelude.{◌≡◌, slice_get};
+ghost use Rattle.tlm_model.specs.Report.{initiator_name, memory_name, name_of_router, seq_word, target_name, txn_word};
+ghost use Rattle.trace_print.specs.Hops.{ends_at, hop_word_of, object_word_by, up_name};
+ghost use Rattle.trace_print.specs.Putting.{Puts, page};
+
+use crate::line::{Line, put};
+use crate::words::{put_number, put_text};
+use outside::Sink;
+use route_plan::{HopEnds, Plan, Up};
+use tlm_model::{Platform, Target};
+use tlm_types::{ObjectNo, TxnId};
+
+fn initiator_name(platform: &Platform, number: u32) -> &str
+    ensures { result.now ≡ initiator_name platform.now number }
+{
+    match platform.initiators.as_slice().get(number as usize) {
+        Some(row) => row.name.as_text(),
+        None => "",
+    }
+}
+
+fn router_name(platform: &Platform, number: u32) -> &str
+    ensures { result.now ≡ name_of_router (slice_get platform.now.routers number) }
+{
+    match platform.routers.as_slice().get(number as usize) {
+        Some(row) => row.name.as_text(),
+        None => "",
+    }
+}
+
+fn memory_name(platform: &Platform, number: u32) -> &str
+    ensures { result.now ≡ memory_name platform.now number }
+{
+    match platform.memories.as_slice().get(number as usize) {
+        Some(row) => row.name.as_text(),
+        None => "",
+    }
+}
+
+fn target_name(platform: &Platform, target: Target) -> &str
+    ensures { result.now ≡ target_name platform.now target }
+{
+    match target {
+        Target::Router(number) => router_name(platform, number),
+        Target::Memory(number) => memory_name(platform, number),
+    }
+}
+
+// The name of what stands before a hop.
+fn up_name(platform: &Platform, up: Up) -> &str
+    ensures { result.now ≡ up_name platform.now up }
+{
+    match up {
+        Up::Initiator(number) => initiator_name(platform, number),
+        Up::Router { router, .. } => router_name(platform, router),
+    }
+}
+
+fn put_ends<K: Sink>(out: &mut K, line: &mut Line, platform: &Platform, ends: HopEnds)
+    ensures { Puts (page (K.taken out.old) (K.faults out.old) line.old)
+        (page (K.taken out.new) (K.faults out.new) line.new) (hop_word_of platform.now ends) }
+{
+    put_text(out, line, up_name(platform, ends.up));
+    put(out, line, b">");
+    put_text(out, line, target_name(platform, ends.down));
+}
+
+/// Puts the name of a transaction: that of its initiator, and its number.
+pub fn put_seq<K: Sink>(out: &mut K, line: &mut Line, name: &str, seq: u64)
+    ensures { Puts (page (K.taken out.old) (K.faults out.old) line.old)
+        (page (K.taken out.new) (K.faults out.new) line.new) (seq_word name.now seq) }
+{
+    put_text(out, line, name);
+    put(out, line, b".");
+    put_number(out, line, seq);
+}
+
+/// Puts the name of a transaction of a platform.
+pub fn put_txn<K: Sink>(out: &mut K, line: &mut Line, platform: &Platform, txn: TxnId)
+    ensures { Puts (page (K.taken out.old) (K.faults out.old) line.old)
+        (page (K.taken out.new) (K.faults out.new) line.new) (txn_word platform.now txn) }
+{
+    put_seq(out, line, initiator_name(platform, txn.initiator), txn.seq);
+}
+
+/// The two ends of a hop. `None` for another object, and for a hop that isn't there.
+pub fn ends_at(plan: &Plan, object: ObjectNo) -> Option<HopEnds>
+    ensures { result ≡ ends_at plan.now.platform object }
+{
+    match object {
+        ObjectNo::Hop(number) => plan.hop_ends(number),
+        _ => None,
+    }
+}
+
+/// Puts the name of an object: that of a memory, the two ends of a hop, which are given, or the pool of
+/// an initiator.
+pub fn put_object<K: Sink>(
+    out: &mut K,
+    line: &mut Line,
+    platform: &Platform,
+    object: ObjectNo,
+    ends: Option<HopEnds>,
+)
+    ensures { Puts (page (K.taken out.old) (K.faults out.old) line.old)
+        (page (K.taken out.new) (K.faults out.new) line.new) (object_word_by platform.now object ends) }
+{
+    match object {
+        ObjectNo::Memory(number) => put_text(out, line, memory_name(platform, number)),
+        ObjectNo::Hop(_) => {
+            if let Some(ends) = ends {
+                put_ends(out, line, platform, ends);
+            }
+        }
+        ObjectNo::Pool(number) => {
+            put_text(out, line, initiator_name(platform, number));
+            put(out, line, b".pool");
+        }
+    }
+}

@@ -1,0 +1,125 @@
+-- The statement of a line.
+use Rattle.std.specs.Prelude.{ℕ, List, [], ◌∷◌, Option, Some, None, unwrap_or, if◌then◌else◌, Result, Ok, Err, codes}
+use Rattle.std.specs.Str.{bytes_eq}
+use Rattle.tlm_model.specs.declared.operation.Operation.{Operation}
+use Rattle.tlm_model.specs.declared.operation.Operation.TheVariants.{Write, Read, Ignore, Debug, Copy, Add, Wait, Sync, Fence}
+use Rattle.traffic_script.specs.declared.fault.ScriptCode.{ScriptCode}
+use Rattle.traffic_script.specs.declared.fault.ScriptCode.TheVariants.{UnknownOperation, Arity, NotBuilt}
+use Rattle.traffic_script.specs.declared.keyword.Keyword.{Keyword}
+use Rattle.traffic_script.specs.declared.keyword.Keyword.TheVariants as keyword
+use Rattle.traffic_script.specs.declared.statement.Statement.{Statement}
+use Rattle.traffic_script.specs.declared.statement.Statement.TheVariants.{Asks, Repeats, Ends}
+use Rattle.traffic_script.specs.Reading.{◌>>=◌}
+use Rattle.traffic_script.specs.Words.{words_of, text_of}
+use Rattle.traffic_script.specs.Numbers.{number_of, length_of, times_of, addend_of, data_of}
+use Rattle.traffic_script.specs.Options.{no_options, with_options}
+
+-- what the first word of a line names
+abbrev pub keyword_of : List ℕ → Result Keyword ScriptCode
+keyword_of word =
+    if bytes_eq word (codes "write") then Ok keyword.Write
+    else if bytes_eq word (codes "read") then Ok keyword.Read
+    else if bytes_eq word (codes "ignore") then Ok keyword.Ignore
+    else if bytes_eq word (codes "debug") then Ok keyword.Debug
+    else if bytes_eq word (codes "copy") then Ok keyword.Copy
+    else if bytes_eq word (codes "add") then Ok keyword.Add
+    else if bytes_eq word (codes "wait") then Ok keyword.Wait
+    else if bytes_eq word (codes "sync") then Ok keyword.Sync
+    else if bytes_eq word (codes "fence") then Ok keyword.Fence
+    else if bytes_eq word (codes "invalidate") then Ok keyword.Invalidate
+    else if bytes_eq word (codes "repeat") then Ok keyword.Repeat
+    else if bytes_eq word (codes "end") then Ok keyword.End
+    else Err UnknownOperation
+
+-- `write ADDR HEX` with options
+abbrev pub write_of : List (List ℕ) → Result Operation ScriptCode
+write_of (address ∷ data_word ∷ words) = do
+  at ← number_of address
+  bytes ← data_of data_word
+  options ← with_options no_options words
+  Ok (Write at bytes (unwrap_or options.enables []) options.width)
+write_of words = Err Arity
+
+-- `read ADDR LEN` with options
+abbrev pub read_of : List (List ℕ) → Result Operation ScriptCode
+read_of (address ∷ count ∷ words) = do
+  at ← number_of address
+  n ← length_of count
+  options ← with_options no_options words
+  Ok (Read at n (unwrap_or options.enables []) options.width)
+read_of words = Err Arity
+
+-- `ignore ADDR`
+abbrev pub ignore_of : List (List ℕ) → Result Operation ScriptCode
+ignore_of (address ∷ []) = number_of address >>= λ at. Ok (Ignore at)
+ignore_of words = Err Arity
+
+-- `debug ADDR LEN`
+abbrev pub debug_of : List (List ℕ) → Result Operation ScriptCode
+debug_of (address ∷ count ∷ []) = do
+  at ← number_of address
+  n ← length_of count
+  Ok (Debug at n)
+debug_of words = Err Arity
+
+-- `copy SRC DST LEN`
+abbrev pub copy_of : List (List ℕ) → Result Operation ScriptCode
+copy_of (source ∷ target ∷ count ∷ []) = do
+  from ← number_of source
+  to ← number_of target
+  n ← length_of count
+  Ok (Copy from to n)
+copy_of words = Err Arity
+
+-- `add ADDR N`
+abbrev pub add_of : List (List ℕ) → Result Operation ScriptCode
+add_of (address ∷ number ∷ []) = do
+  at ← number_of address
+  n ← addend_of number
+  Ok (Add at n)
+add_of words = Err Arity
+
+-- `wait PS`
+abbrev pub wait_of : List (List ℕ) → Result Operation ScriptCode
+wait_of (number ∷ []) = number_of number >>= λ time. Ok (Wait time)
+wait_of words = Err Arity
+
+-- a word that stands alone
+abbrev pub alone : {A : Type 0} → A → List (List ℕ) → Result A ScriptCode
+alone x [] = Ok x
+alone x (word ∷ words) = Err Arity
+
+-- `repeat N`
+abbrev pub repeat_of : List (List ℕ) → Result Statement ScriptCode
+repeat_of (number ∷ []) = times_of number >>= λ times. Ok (Repeats times)
+repeat_of words = Err Arity
+
+abbrev pub asks : Result Operation ScriptCode → Result Statement ScriptCode
+asks read = read >>= λ operation. Ok (Asks operation)
+
+-- what a keyword with the words behind it says
+abbrev pub statement_by : Keyword → List (List ℕ) → Result Statement ScriptCode
+statement_by keyword.Write words = asks (write_of words)
+statement_by keyword.Read words = asks (read_of words)
+statement_by keyword.Ignore words = asks (ignore_of words)
+statement_by keyword.Debug words = asks (debug_of words)
+statement_by keyword.Copy words = asks (copy_of words)
+statement_by keyword.Add words = asks (add_of words)
+statement_by keyword.Wait words = asks (wait_of words)
+statement_by keyword.Sync words = asks (alone Sync words)
+statement_by keyword.Fence words = asks (alone Fence words)
+statement_by keyword.Invalidate words = Err NotBuilt
+statement_by keyword.Repeat words = repeat_of words
+statement_by keyword.End words = alone Ends words
+
+-- what the words of a line say, if there are any
+abbrev pub statement_in : List (List ℕ) → Result (Option Statement) ScriptCode
+statement_in [] = Ok None
+statement_in (word ∷ words) = do
+  name ← keyword_of word
+  statement ← statement_by name words
+  Ok (Some statement)
+
+-- what a line says
+abbrev pub statement_of : List ℕ → Result (Option Statement) ScriptCode
+statement_of line = text_of line >>= λ text. statement_in (words_of text)
