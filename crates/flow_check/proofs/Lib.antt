@@ -6,3 +6,4 @@ mod WorkedHistories
 mod WrongHistories
 mod SilentPremises
 mod CheckLemmas
+pub mod CountedAccesses

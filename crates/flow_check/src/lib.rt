@@ -4,11 +4,13 @@
 //!   make, and computes the times of responses. Each function meets the definition that it computes.
 //! - `worked` has whole histories that are right, `wrong` has histories that miss a point by one entry
 //!   that is swapped, left out, doubled or re-timed.
+//! - `counted` has what plans of four-phase accesses may add to each object at most.
 //! - `silent` has histories that break a premise of the law on which the standard is silent, and miss a
 //!   conclusion.
 #![tactic(auto)]
 
 pub mod checks;
+pub mod counted;
 pub mod silent;
 #[cfg(test)]
 mod tests;

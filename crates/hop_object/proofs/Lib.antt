@@ -1,0 +1,10 @@
+pub mod Boards
+pub mod Places
+pub mod Firsts
+pub mod LegLemmas
+pub mod Keeps
+pub mod Items
+pub mod Meanings
+pub mod Carried
+pub mod LegLaws
+pub mod Benches

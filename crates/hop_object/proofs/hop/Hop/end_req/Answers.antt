@@ -1,0 +1,67 @@
+use Rattle.std.proofs.Common.{Some, List, get_or, length, ◌<◌, subst, ap, ◌≡◌, ℕ, ◌≤◌, suc, take, drop, true, refl, sym, ◌∙◌, arith}
+use Rattle.std.specs.Prelude.{find}
+use Rattle.std.specs.List.{list_any}
+use Rattle.base_phases.specs.declared.phases.LaneState.TheVariants.{Requested}
+use Rattle.hop_object.specs.declared.lane.Lane.{Lane}
+use Rattle.hop_object.specs.View.{HopView}
+use Rattle.hop_object.specs.Inside.{view_of}
+use Rattle.hop_object.specs.Lanes.{has_leg}
+use Rattle.hop_object.specs.Hops.{IsLegOf, MayCall}
+use Rattle.hop_object.proofs.Places.{at_place, found_any}
+use Rattle.hop_object.proofs.LegLemmas.{leg_parts}
+use Rattle.hop_object.proofs.Keeps.{few_out, kept_end_req}
+use Rattle.hop_object.proofs.hop.Hop.end_req.Goals as goal
+
+pub let_go-requires : goal.let_go-requires
+let_go-requires g c =
+    let lane = c.index-lane.result.now in
+    let has : has_leg c.args.leg.name lane ≡ true = at_place (λ (l : Lane g.row.T.Denot). has_leg c.args.leg.name l ≡ true) c.deref.result.now c.self.inside.lanes.items lane c.redeem-index.result c.redeem-index.ensures.leg c.deref.ensures.value c.index-lane.ensures in
+    (c.change-was.ensures.lanes lane c.index-lane.ensures).carried ∙ (leg_parts c.args.leg.name lane has).0
+
+pub issue-leg-requires-clause-few : goal.issue-leg-requires-clause-few
+issue-leg-requires-clause-few g c = λ n. let a = few_out (view_of c.self.inside) c.self.invariant.kept n in let b = c.redeem-index.ensures.few n in omega arith
+
+pub push_call-requires : goal.push_call-requires
+push_call-requires g c =
+    let lane = c.index-lane.result.now in
+    let i = c.redeem-index.result in
+    let xs = c.self.inside.lanes.items in
+    let is : find (has_leg c.args.leg.name) xs ≡ Some lane = ap (find (has_leg c.args.leg.name)) (sym c.deref.ensures.value) ∙ c.redeem-index.ensures.found lane (c.index-lane.ensures ∙ ap (λ (ys : List (Lane g.row.T.Denot)). get_or ys i lane) (sym c.deref.ensures.value)) in
+    let may = c.requires.may (ap (λ (v : HopView g.row.T.Denot). list_any (has_leg c.args.leg.name) v.lanes) (sym c.self.view_is) ∙ found_any (has_leg c.args.leg.name) xs lane is) in
+    subst (λ (v : HopView g.row.T.Denot). length v.log.entries < v.log.room) (sym c.self.view_is) may.room
+
+pub invariant_of-self : goal.invariant_of-self
+invariant_of-self g c =
+    let lane = c.index-lane.result.now in
+    let i = c.redeem-index.result in
+    let xs = c.self.inside.lanes.items in
+    let v = view_of c.self.inside in
+    let k = c.self.invariant in
+    let d = c.change-was.ensures.lanes lane c.index-lane.ensures in
+    let has : has_leg c.args.leg.name lane ≡ true = at_place (λ (l : Lane g.row.T.Denot). has_leg c.args.leg.name l ≡ true) c.deref.result.now xs lane i c.redeem-index.ensures.leg c.deref.ensures.value c.index-lane.ensures in
+    let is : find (has_leg c.args.leg.name) xs ≡ Some lane = ap (find (has_leg c.args.leg.name)) (sym c.deref.ensures.value) ∙ c.redeem-index.ensures.found lane (c.index-lane.ensures ∙ ap (λ (ys : List (Lane g.row.T.Denot)). get_or ys i lane) (sym c.deref.ensures.value)) in
+    let may = c.requires.may (ap (λ (w : HopView g.row.T.Denot). list_any (has_leg c.args.leg.name) w.lanes) (sym c.self.view_is) ∙ found_any (has_leg c.args.leg.name) xs lane is) in
+    let may_here : MayCall v c.args.position = subst (λ (w : HopView g.row.T.Denot). MayCall w c.args.position) (sym c.self.view_is) may in
+    let own : IsLegOf v c.args.leg Requested = subst (λ (w : HopView g.row.T.Denot). IsLegOf w c.args.leg Requested) (sym c.self.view_is) c.requires.leg in
+    let kept = kept_end_req v c.args.leg (take i xs) lane (drop (suc i) xs) c.args.position c.max-time.result k.kept may_here.past (record { here = d.here; has = has; one = c.redeem-index.ensures.one; was = c.redeem-index.ensures.out }) own (omega (arith, c.max-time.ensures)) in
+    record {
+      kept = rw (d.after, c.push_call.ensures, c.issue-leg.ensures.book, c.redeem-index.ensures.book) kept;
+      roomy = omega (arith, c.change-was.ensures.capacity, k.roomy);
+    }
+
+pub returns : goal.returns
+returns g c =
+    let lane = c.index-lane.result.now in
+    let i = c.redeem-index.result in
+    let xs = c.self.inside.lanes.items in
+    let d = c.change-was.ensures.lanes lane c.index-lane.ensures in
+    rw (← c.self.view_is) (record {
+      before = take i xs;
+      lane = lane;
+      behind = drop (suc i) xs;
+      here = d.here;
+      leg_is = ap (find (has_leg c.args.leg.name)) (sym c.deref.ensures.value) ∙ c.redeem-index.ensures.found lane (c.index-lane.ensures ∙ ap (λ (ys : List (Lane g.row.T.Denot)). get_or ys i lane) (sym c.deref.ensures.value));
+      time_is = c.max-time.ensures;
+      after = rw (d.after, c.push_call.ensures, c.issue-leg.ensures.book, c.redeem-index.ensures.book) refl;
+      next_is = rw (c.issue-leg.ensures.leg, c.redeem-index.ensures.book) refl;
+    })

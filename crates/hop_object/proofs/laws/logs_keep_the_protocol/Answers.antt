@@ -1,0 +1,12 @@
+use Rattle.hop_model.proofs.CallLemmas.{follows}
+use Rattle.hop_model.proofs.ExclusionLemmas.{exclusive}
+use Rattle.hop_model.proofs.RuleLemmas.{keeps_rules}
+use Rattle.hop_object.specs.Hops.{board_of, rules_of}
+use Rattle.hop_object.proofs.laws.logs_keep_the_protocol.Goals as goal
+
+pub returns : goal.returns
+returns g c = record {
+  phases = λ hop f once. follows (rules_of hop) hop.log.entries (board_of hop) f.reached once;
+  exclusive = λ hop f once. exclusive (rules_of hop) hop.log.entries (board_of hop) f.reached once;
+  rules = λ hop f once. keeps_rules (rules_of hop) hop.log.entries (board_of hop) f.reached once;
+}

@@ -1,0 +1,120 @@
+-- A hop with its lanes, its log and its book: what holds of it, and what a call makes of it.
+use Rattle.std.specs.Prelude.{◌≡◌, ℕ, ◌+◌, ◌<◌, ◌≤◌, ◌&&◌, ◌%◌, not, nat_lt, max, Bool, false, List, [], ◌∷◌, ◌++◌, length, Option, All, AllPairs}
+use Rattle.tlm_types.specs.declared.words.TxnId.{TxnId}
+use Rattle.tlm_types.specs.declared.words.ObjectNo.TheVariants.{Hop}
+use Rattle.tlm_types.specs.declared.words.Phase.{Phase}
+use Rattle.tlm_types.specs.declared.words.Phase.TheVariants.{BeginReq}
+use Rattle.tlm_types.specs.declared.words.TlmSync.{TlmSync}
+use Rattle.tlm_types.specs.declared.entry.What.TheVariants.{Call}
+use Rattle.tlm_types.specs.declared.entry.Content.{Content}
+use Rattle.tlm_types.specs.declared.entry.Entry.{Entry}
+use Rattle.tlm_types.specs.Log.{with_entry}
+use Rattle.base_phases.specs.declared.phases.LaneState.{LaneState}
+use Rattle.token_book.specs.Account.{Account, Slip, out_of, issued, retired, slip}
+use Rattle.shared_object.specs.Written.{logged, wrote}
+use Rattle.hop_model.specs.Answers.{request_answer, is_requested}
+use Rattle.hop_model.specs.Board.{Board, Rules, start, request_end_after, response_end_after, Reaches}
+use Rattle.hop_object.specs.declared.lane.Lane.{Lane}
+use Rattle.hop_object.specs.States.{number_of_state}
+use Rattle.hop_object.specs.View.{HopView}
+use Rattle.hop_object.specs.Lanes.{any_requested, any_responding, legs_out, name_at, opens, IsPlaced}
+
+-- what the entry of a call says
+abbrev pub call_content : TxnId → ℕ → Phase → TlmSync → Content
+call_content txn time phase answer = record { txn = txn; time = time; what = Call phase answer; number = 0 }
+
+-- the entry of a call on the hop of this number
+abbrev pub entry_of : ℕ → ℕ → TxnId → ℕ → Phase → TlmSync → Entry
+entry_of number position txn time phase answer = logged (Hop number) (wrote position (call_content txn time phase answer))
+
+-- an entry stands before another in the history
+abbrev pub IsBefore : Entry → Entry → Type 0
+IsBefore d e = d.position < e.position
+
+-- the leg of a lane, and the book that it is then out of
+abbrev pub leg_at : Account → ℕ → LaneState → Slip
+leg_at book position state = slip book (name_at position state) 1
+
+abbrev pub leg_out : Account → ℕ → LaneState → Account
+leg_out book position state = issued book (name_at position state) 1
+
+module _ {T : Type 0} where
+  abbrev pub rules_of : HopView T → Rules
+  rules_of v = record { limit = v.traits.lanes; req = v.traits.req; resp = v.traits.resp }
+
+  -- the board of the model
+  abbrev pub board_of : HopView T → Board
+  board_of v = record { lanes = opens v.lanes; request_end = v.request_end; response_end = v.response_end }
+
+  -- the lanes are those of the log: by its entries the model reaches them. Each entry stands past those before it
+  pub record Follows (v : HopView T) : Type 0 where
+    pub reached : Reaches (rules_of v) start v.log.entries (board_of v)
+    pub ordered : AllPairs IsBefore v.log.entries
+
+  -- what holds of every hop: its lanes are few and those of its log, its legs are out of its book, and its entries are its own
+  pub record Kept (v : HopView T) : Type 0 where
+    pub few : length v.lanes ≤ v.traits.lanes
+    pub small : v.traits.lanes ≤ 16
+    pub placed : All IsPlaced v.lanes
+    pub legs : (n : ℕ) → out_of n v.book.out ≡ legs_out n v.lanes
+    pub follows : Follows v
+    pub own : All (λ e. e.object ≡ Hop v.number) v.log.entries
+
+  -- an entry may be added at this position: it is past all entries, and there is room for it
+  pub record MayCall (v : HopView T) (position : ℕ) : Type 0 where
+    pub below : position < 1000000
+    pub past : All (λ e. e.position < position) v.log.entries
+    pub room : length v.log.entries < v.log.room
+
+  -- a BEGIN_REQ is taken: no request is open, and a lane is free
+  abbrev pub can_begin : HopView T → Bool
+  can_begin v = not (any_requested v.lanes) && nat_lt (length v.lanes) v.traits.lanes
+
+  abbrev pub begin_answer : HopView T → TlmSync
+  begin_answer v = request_answer v.traits.req (any_responding v.lanes)
+
+  abbrev pub begin_time : HopView T → ℕ → ℕ
+  begin_time v at = max at v.request_end
+
+  abbrev pub begin_entry : HopView T → ℕ → TxnId → ℕ → TlmSync → Entry
+  begin_entry v position txn at answer = entry_of v.number position txn (begin_time v at) BeginReq answer
+
+  -- a new lane of the transaction of an entry
+  abbrev pub new_lane : Entry → LaneState → Option T → Lane T
+  new_lane e state item = record { txn = e.txn; position = e.position; state = state; last = e.time; latest = e.position; item = item }
+
+  -- the hop after a BEGIN_REQ that leaves these lanes and this book
+  abbrev pub begun_with : HopView T → Entry → TlmSync → List (Lane T) → Account → HopView T
+  begun_with v e answer lanes book = record v { lanes = lanes; request_end = request_end_after v.request_end false BeginReq answer e.time; log = with_entry v.log e; book = book }
+
+  -- a BEGIN_REQ that takes a lane
+  abbrev pub entered : HopView T → Entry → TlmSync → LaneState → Option T → Account → HopView T
+  entered v e answer state item book = begun_with v e answer (v.lanes ++ new_lane e state item ∷ []) book
+
+  -- a BEGIN_REQ that ends the transaction
+  abbrev pub passed : HopView T → Entry → TlmSync → HopView T
+  passed v e answer = begun_with v e answer v.lanes v.book
+
+  -- the hop after a later call, on a lane of this state, that leaves these lanes and this book
+  abbrev pub called : HopView T → List (Lane T) → Entry → LaneState → Phase → TlmSync → Account → HopView T
+  called v lanes e state phase answer book = record v {
+    lanes = lanes;
+    request_end = request_end_after v.request_end (is_requested state) phase answer e.time;
+    response_end = response_end_after v.response_end phase answer e.time;
+    log = with_entry v.log e;
+    book = book;
+  }
+
+  -- the hop after a fetch
+  abbrev pub with_lanes : HopView T → List (Lane T) → Account → HopView T
+  with_lanes v lanes book = record v { lanes = lanes; book = book }
+
+  -- a leg of the hop whose lane is in this state
+  pub record IsLegOf (v : HopView T) (leg : Slip) (state : LaneState) : Type 0 where
+    pub table : leg.table ≡ v.book.table
+    pub owner : leg.owner ≡ v.book.owner
+    pub state_is : leg.name % 4 ≡ number_of_state state
+
+  -- the book after a leg was given for that of the lane's next state
+  abbrev pub leg_changed : Account → Slip → Lane T → LaneState → Account
+  leg_changed book leg lane state = leg_out (retired book leg) lane.position state

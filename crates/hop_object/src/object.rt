@@ -1,0 +1,135 @@
+// A hop as an object of the history.
+ghost use Rattle.std.specs.Prelude.{◌≡◌, true};
+
+use crate::call::{HopCall, HopReply, HopTraits};
+use crate::hop::Hop;
+use one_history::Sign;
+use shared_object::Object;
+use tlm_types::{Log, Memory};
+use token_book::Tokens;
+
+impl<T> Hop<T> {
+    ghost use Rattle.hop_object.specs.Hops.{MayCall};
+    ghost use Rattle.hop_object.specs.Objects.{is_admitted, Applied, IsFit};
+
+    // Makes a call.
+    fn answer(&mut self, tokens: &Tokens, position: u64, call: HopCall<T>) -> HopReply<T>
+        requires tokens { self.old.book.table ≡ tokens.now }
+        requires fit { IsFit self.old call }
+        requires may { is_admitted self.old call ≡ true → MayCall self.old position }
+        ensures { Applied self.old position call result self.new }
+    {
+        match call {
+            HopCall::BeginReq { txn, at, item } => {
+                HopReply::Begun(self.begin_req(tokens, position, txn, at, item))
+            }
+            HopCall::FetchDown => HopReply::Down(self.fetch_down(tokens)),
+            HopCall::EndReq { leg, at } => {
+                let (next, time) = self.end_req(tokens, position, leg, at);
+                HopReply::EndedReq(next, time)
+            }
+            HopCall::BeginResp { leg, at, item } => {
+                HopReply::Responded(self.begin_resp(tokens, position, leg, at, item))
+            }
+            HopCall::FetchUp => HopReply::Up(self.fetch_up(tokens)),
+            HopCall::EndResp { leg, at } => {
+                HopReply::EndedResp(self.end_resp(tokens, position, leg, at))
+            }
+            HopCall::Ended { txn } => HopReply::Ended(self.ended(txn)),
+        }
+    }
+}
+
+impl<T> Object for Hop<T> {
+    ghost use Rattle.std.specs.Prelude.{◌≡◌, ◌-◌, false, length, map};
+    ghost use Rattle.shared_object.specs.Written.{noted};
+    ghost use Rattle.hop_object.specs.Hops.{Follows};
+    ghost use Rattle.hop_object.specs.Objects.{brought_by, built_of, carried_by, content_by, given_by, is_admitted, look_of, Applied, IsFit};
+
+    type Call = HopCall<T>;
+
+    type Reply = HopReply<T>;
+
+    type Item = T;
+
+    type Made = HopTraits;
+
+    ghost built = { built_of };
+
+    ghost entries = { λ h. map (noted 0) h.log.entries };
+
+    ghost follows = { Follows };
+
+    ghost room = { λ h. h.log.room - length h.log.entries };
+
+    ghost bytes_left = { λ _. 0 };
+
+    ghost cost = { λ _. 0 };
+
+    ghost admitted = { is_admitted };
+
+    ghost content = { content_by };
+
+    ghost look = { look_of };
+
+    ghost fits = { λ h call _. IsFit h call };
+
+    ghost ready = { λ _ _. Unit {0} };
+
+    ghost takes_memory = { λ _. false };
+
+    ghost carried = { λ h. carried_by h.lanes };
+
+    ghost brought = { brought_by };
+
+    ghost given = { given_by };
+
+    ghost applied = { Applied };
+
+    ghost more_fit = { λ _ _ _ _ _ fit. fit };
+
+    fn number(&self) -> u32 {
+        Hop::number(self)
+    }
+
+    fn admits(&self, call: &HopCall<T>) -> bool {
+        let _ = Hop::log(self);
+        match call {
+            HopCall::BeginReq { .. } => self.can_begin(),
+            HopCall::EndReq { leg, .. } | HopCall::EndResp { leg, .. } => self.knows(leg),
+            HopCall::BeginResp { leg, .. } => self.knows(leg) && self.can_respond(),
+            HopCall::FetchDown | HopCall::FetchUp | HopCall::Ended { .. } => false,
+        }
+    }
+
+    fn sign(&self, _call: &HopCall<T>) -> Sign {
+        Sign::Plain
+    }
+
+    fn make_room(&mut self, _call: &HopCall<T>) -> Result<(), Memory> {
+        Ok(())
+    }
+
+    fn apply(&mut self, tokens: &Tokens, position: u64, call: HopCall<T>) -> HopReply<T> {
+        let reply = self.answer(tokens, position, call);
+        let _ = Hop::log(self);
+        reply
+    }
+
+    fn log(&self) -> &Log {
+        Hop::log(self)
+    }
+
+    fn room(&self) -> u64 {
+        let log = Hop::log(self);
+        log.room().saturating_sub(log.len())
+    }
+
+    fn cost(_call: &HopCall<T>) -> u64 {
+        0
+    }
+
+    fn bytes_left(&self) -> u64 {
+        0
+    }
+}

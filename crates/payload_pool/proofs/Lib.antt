@@ -1,0 +1,8 @@
+pub mod Found
+pub mod Tallies
+pub mod Names
+pub mod Lives
+pub mod Steps
+pub mod Keeps
+pub mod Written
+pub mod Held

@@ -1,0 +1,6 @@
+pub mod Logged
+pub mod Slots
+pub mod Lives
+pub mod Pool
+pub mod Inside
+pub mod Calls

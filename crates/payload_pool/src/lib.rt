@@ -1,0 +1,25 @@
+//! A pool of payloads whose references are counted (IEEE 1666-2011, clause 14.5).
+//!
+//! - `Pool` has slots, each with a payload and a wallet that are made once, by `new`.
+//! - A `Baton` is a payload that was taken, with the initiator's own reference; a `Hold` is one
+//!   reference more. They are tokens of the pool's book, so none counts twice.
+//! - `PoolCall` is what can be asked of it, and `PoolReply` what it answers.
+//!
+//! Promises: a take gives the least free slot with a payload as new, and none exactly where all slots
+//! are live. A slot is free again exactly where its last reference was given back, which the answer
+//! tells. Each call but `Live` adds one entry, and the slots are what the log gives. No call but `new`
+//! takes memory.
+#![tactic(auto)]
+
+mod baton;
+mod call;
+mod log;
+mod object;
+mod pool;
+mod release;
+mod slot;
+mod take;
+
+pub use baton::{Baton, Hold};
+pub use call::{PoolCall, PoolReply};
+pub use pool::{Pool, PoolMade};

@@ -1,0 +1,122 @@
+// A pool as an object of the history.
+use crate::call::{PoolCall, PoolReply};
+use crate::pool::{Pool, PoolMade};
+use one_history::Sign;
+use shared_object::Object;
+use tlm_types::{Log, Memory};
+use token_book::Tokens;
+
+impl Object for Pool {
+    ghost use Rattle.std.specs.Prelude.{◌≡◌, ◌-◌, [], length, map, false};
+    ghost use Rattle.payload_pool.specs.Logged.{written_by};
+    ghost use Rattle.payload_pool.specs.Lives.{FitsLog};
+    ghost use Rattle.payload_pool.specs.Calls.{built_of, admitted, content_of, Fits, look_of, Applied};
+
+    type Call = PoolCall;
+
+    type Reply = PoolReply;
+
+    type Item = ();
+
+    type Made = PoolMade;
+
+    ghost built = { built_of };
+
+    ghost entries = { λ v. map written_by v.log.events };
+
+    ghost follows = { λ v. FitsLog v.slots v.log.events };
+
+    ghost room = { λ v. v.log.room - length v.log.events };
+
+    ghost bytes_left = { λ _. 0 };
+
+    ghost cost = { λ _. 0 };
+
+    ghost admitted = { admitted };
+
+    ghost content = { content_of };
+
+    ghost look = { look_of };
+
+    ghost fits = { λ v call _. Fits v call };
+
+    ghost ready = { λ _ _. Unit {0} };
+
+    ghost takes_memory = { λ _. false };
+
+    ghost carried = { λ _. [] };
+
+    ghost brought = { λ _ _. [] };
+
+    ghost given = { λ _ _ _. [] };
+
+    ghost applied = { Applied };
+
+    ghost more_fit = { λ _ _ _ _ _ fit. fit };
+
+    fn number(&self) -> u32 {
+        self.initiator()
+    }
+
+    fn admits(&self, call: &PoolCall) -> bool {
+        let _ = Pool::log(self);
+        match call {
+            PoolCall::Take { .. } => self.has_free(),
+            PoolCall::Acquire { baton, .. } | PoolCall::Stow { baton, .. } => {
+                self.is_out(baton.own.name())
+            }
+            PoolCall::Release { hold, .. } => self.is_out(hold.token.name()),
+            PoolCall::Live => false,
+        }
+    }
+
+    fn sign(&self, call: &PoolCall) -> Sign {
+        match call {
+            PoolCall::Take { .. }
+            | PoolCall::Acquire { .. }
+            | PoolCall::Release { .. }
+            | PoolCall::Stow { .. }
+            | PoolCall::Live => Sign::Plain,
+        }
+    }
+
+    fn make_room(&mut self, _call: &PoolCall) -> Result<(), Memory> {
+        Ok(())
+    }
+
+    fn apply(&mut self, tokens: &Tokens, position: u64, call: PoolCall) -> PoolReply {
+        let reply = match call {
+            PoolCall::Take { txn, at } => PoolReply::Took(self.take(tokens, position, txn, at)),
+            PoolCall::Acquire { baton, at } => {
+                let (baton, hold) = self.acquire(tokens, position, baton, at);
+                PoolReply::Acquired(baton, hold)
+            }
+            PoolCall::Release { hold, at } => PoolReply::Released {
+                freed: self.release(tokens, position, hold, at),
+            },
+            PoolCall::Stow { baton, at } => PoolReply::Released {
+                freed: self.stow(tokens, position, baton, at),
+            },
+            PoolCall::Live => PoolReply::Live(self.live()),
+        };
+        let _ = Pool::log(self);
+        reply
+    }
+
+    fn log(&self) -> &Log {
+        Pool::log(self)
+    }
+
+    fn room(&self) -> u64 {
+        let log = Pool::log(self);
+        log.room().saturating_sub(log.len())
+    }
+
+    fn cost(_call: &PoolCall) -> u64 {
+        0
+    }
+
+    fn bytes_left(&self) -> u64 {
+        0
+    }
+}

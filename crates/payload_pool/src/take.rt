@@ -1,0 +1,114 @@
+// Payloads that are taken, and references to them.
+ghost use Rattle.std.specs.Prelude.{◌≡◌, ◌+◌, ◌*◌, ◌%◌, ◌≤◌, ◌<◌, length, true};
+ghost use Rattle.tlm_types.specs.declared.words.ObjectNo.TheVariants.{Pool as pool_number};
+ghost use Rattle.token_book.specs.Account.{issued, out_of, slip};
+ghost use Rattle.payload_pool.specs.Slots.{acquired_of};
+ghost use Rattle.payload_pool.specs.Pool.{IsOut, has_free};
+ghost use Rattle.payload_pool.specs.Calls.{is_out, Takes, Acquires};
+
+use crate::baton::{Baton, Hold, Own};
+use crate::pool::Pool;
+use crate::slot::{Kept, free_place, place_of};
+use tlm_types::{Head, ObjectNo, Ps, TxnId, What};
+use token_book::{Book, Token, Tokens};
+
+// Where and when an entry happens.
+pub(crate) fn head(initiator: u32, position: u64, txn: TxnId, time: Ps) -> Head
+    ensures { result ≡ record { position = position; object = pool_number initiator; txn = txn; time = time } }
+{
+    Head {
+        position,
+        object: ObjectNo::Pool(initiator),
+        txn,
+        time,
+    }
+}
+
+// A token of a hold.
+fn issue_hold(tokens: &Tokens, book: &mut Book, name: u32) -> Hold
+    requires table { book.old.table ≡ tokens.now }
+    requires name { name % 32 < 15 }
+    requires few { out_of name book.old.out ≤ 1000 }
+    ensures book { book.new ≡ issued book.old name 1 }
+    ensures hold { result ≡ slip book.old name 1 }
+{
+    Hold {
+        token: tokens.issue(book, name, 1),
+    }
+}
+
+// A token of a baton.
+fn issue_own(tokens: &Tokens, book: &mut Book, name: u32) -> Own
+    requires table { book.old.table ≡ tokens.now }
+    requires name { 16 ≤ name % 32 }
+    requires few { out_of name book.old.out ≤ 1000 }
+    ensures book { book.new ≡ issued book.old name 1 }
+    ensures own { result ≡ slip book.old name 1 }
+{
+    Own {
+        token: tokens.issue(book, name, 1),
+    }
+}
+
+impl Pool {
+    /// Takes the payload of the least free slot, which is then as new. None exactly where all slots are
+    /// live.
+    pub fn take(&mut self, tokens: &Tokens, position: u64, txn: TxnId, at: Ps) -> Option<Baton>
+        requires tokens { self.old.book.table ≡ tokens.now }
+        requires position { has_free self.old ≡ true → position < 1000000 }
+        requires room { has_free self.old ≡ true → length self.old.log.events < self.old.log.room }
+        ensures { Takes self.old position txn at result self.new }
+    {
+        let place = free_place(&self.slots)?;
+        let Kept { payload, wallet } = self.slots[place].begin(txn, position);
+        let slot = place as u32;
+        let what = What::Take { slot };
+        self.log
+            .push(head(self.initiator, position, txn, at), what, 0);
+        let own = issue_own(tokens, &mut self.book, 32 * position as u32 + 16);
+        Some(Baton {
+            payload,
+            wallet,
+            slot,
+            txn,
+            own,
+        })
+    }
+
+    /// Acquires one reference more, with a baton that has acquired fewer than 15.
+    pub fn acquire(&mut self, tokens: &Tokens, position: u64, baton: Baton, at: Ps) -> (Baton, Hold)
+        requires tokens { self.old.book.table ≡ tokens.now }
+        requires baton { IsOut self.old baton.own }
+        requires few { acquired_of baton.own.name < 15 }
+        requires room { is_out self.old baton.own.name ≡ true → length self.old.log.events < self.old.log.room }
+        ensures { Acquires self.old position baton at result.0 result.1 self.new }
+    {
+        let Baton {
+            payload,
+            wallet,
+            slot,
+            txn,
+            own,
+        } = baton;
+        let name = own.name();
+        let Own { token } = own;
+        tokens.retire(&mut self.book, token);
+        let Some(place) = place_of(&self.slots, name) else {
+            unreachable!()
+        };
+        let what = What::Acquire { slot: place as u32 };
+        let head = head(self.initiator, position, self.slots[place].txn(), at);
+        self.log.push(head, what, name % 16);
+        self.slots[place].acquire();
+        let own = issue_own(tokens, &mut self.book, name + 1);
+        let hold = issue_hold(tokens, &mut self.book, name - 16);
+        let baton = Baton {
+            payload,
+            wallet,
+            slot,
+            txn,
+            own,
+        };
+        (baton, hold)
+    }
+}
