@@ -6,3 +6,4 @@ pub mod Steps
 pub mod Keeps
 pub mod Written
 pub mod Held
+pub mod Bench

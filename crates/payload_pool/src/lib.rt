@@ -19,6 +19,8 @@ mod pool;
 mod release;
 mod slot;
 mod take;
+#[cfg(test)]
+mod tests;
 
 pub use baton::{Baton, Hold};
 pub use call::{PoolCall, PoolReply};
