@@ -134,3 +134,17 @@ fn faults_have_texts(rt: HostRuntime) -> Result<(), Fail> {
     assert_eq!(rt; memory.as_str(), "out of memory");
     Ok(())
 }
+
+// A repeat keeps its lines and not the operations written out.
+#[test]
+fn a_long_repeat_is_one_piece(rt: HostRuntime) -> Result<(), Fail> {
+    let script = read_script(rt.alloc(), b"repeat 100000\nsync\nend\n")?;
+    assert_eq!(rt; (script.len(), script.pieces().len()), (100_000, 1));
+    for piece in script.pieces() {
+        assert_eq!(rt;
+            (piece.operations.as_slice().len(), piece.times),
+            (1, 100_000)
+        );
+    }
+    Ok(())
+}
