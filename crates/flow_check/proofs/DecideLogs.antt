@@ -17,7 +17,8 @@ use Rattle.hop_model.specs.Answers.{is_requested, is_responding, request_answer,
 use Rattle.hop_model.specs.Board.{Begins, Board, InTurn, Moves, Open, Reaches, Rules, StepsBy, any_in, fresh_lane, lane_after, request_end_after, response_end_after, start}
 use Rattle.flow_model.specs.World.{World}
 use Rattle.flow_model.specs.Events.{Event, Among, hop_log}
-use Rattle.flow_model.specs.Pools.{IsLive, IsPoolLog, Life, PoolStepBy, Slots, no_slots, slots_after}
+use Rattle.flow_model.specs.Pools.{IsLive, IsPoolLog, Life, PoolStepBy, Slots, slots_after}
+use Rattle.flow_model.specs.Slots.{no_slots}
 use Rattle.flow_law.specs.Law.{HasSteps}
 use Rattle.flow_check.proofs.Decide.{bind, each, either, is_phase, is_same_txn, less, same_nat}
 

@@ -13,13 +13,13 @@ use Rattle.tlm_types.specs.declared.words.Way.TheVariants.{Blocking as by_blocki
 use Rattle.tlm_types.specs.declared.entry.Entry.{Entry}
 use Rattle.tlm_types.specs.declared.entry.What.{What}
 use Rattle.tlm_types.specs.declared.entry.What.TheVariants.{Access as Accessed, Granted, Invalidated, Closed, Call, Take, Acquire, Release}
+use Rattle.tlm_model.specs.declared.operation.Operation.{Operation}
 use Rattle.tlm_model.specs.declared.platform.Platform.{Platform}
 use Rattle.tlm_model.specs.declared.platform.RouterRow.{RouterRow}
 use Rattle.tlm_model.specs.declared.platform.Style.{Style}
 use Rattle.tlm_model.specs.declared.platform.Style.TheVariants.{Blocking, Direct, FourPhase}
 use Rattle.tlm_model.specs.declared.platform.Target.TheVariants.{Router, Memory as at_memory}
 use Rattle.tlm_model.specs.declared.platform.WindowRow.{WindowRow}
-use Rattle.tlm_model.specs.Each.{AtEach}
 use Rattle.tlm_model.specs.Plan.{Initiator, Plan, initiators_of}
 use Rattle.tlm_model.specs.Requests.{Request, requests_of}
 use Rattle.tlm_model.specs.Scripts.{OfRequest, comes_first}
@@ -28,15 +28,16 @@ use Rattle.flow_model.specs.Events.{Among, Event, Finds, entries}
 use Rattle.flow_model.specs.Points.{IsFreed}
 use Rattle.flow_model.specs.Issue.{issue_time}
 use Rattle.flow_model.specs.Platform.{world_of}
-use Rattle.flow_model.specs.Traffic.{IsIssuedBy, IsWaitedFor, slots_of}
+use Rattle.flow_model.specs.Traffic.{IsIssuedBy, IsWaitedFor, IssuesInTime, WaitsForEnds, slots_of}
 use Rattle.flow_law.specs.Law.{Premises}
 use Rattle.flow_plan.specs.Valid.{HasNoCycle, LeadsOver, LeadsTo}
-use Rattle.flow_plan.proofs.Backed.{traffic_law}
+use Rattle.flow_plan.proofs.Backed.{issue_law, traffic_law}
 use Rattle.flow_plan.proofs.Ended.{ended_law}
 use Rattle.flow_plan.proofs.Ways.{world_law}
-use Rattle.flow_check.specs.Worked.{IsWorked, accepting, answering, completing, ending, lone, refused, refused_plan, routed, routed_plan}
+use Rattle.flow_check.specs.Worked.{IsWorked, accepting, answering, completing, ending, lone, plan_of, refused, refused_plan, routed, routed_plan, write_at}
 use Rattle.flow_check.proofs.Decide.{bind, each, find, found, guard_true, is_same_object, is_same_txn, same_nat}
 use Rattle.flow_check.proofs.DecidePremises.{all, bounded, premises_of, tested}
+use Rattle.flow_check.proofs.WorkedRequests.{RunsRequests, accepting_runs, answering_runs, completing_runs, ending_runs, refused_runs, routed_runs}
 
 -- the points of requests
 abbrev match_by : {A : Type 0} → (o : Option A) (Q : A → Type 0) → ((a : A) → Option (Q a)) → Option (MatchOption o ⊥ Q)
@@ -67,12 +68,13 @@ issued_by FourPhase time issued (Release slot freed) = Some tt
 abbrev not_waited : (p : Plan) (before : List Entry) (i : Initiator) (q r : Request) → Option (IsWaitedFor p before i q r)
 not_waited p before i q r = guard_true (comes_first i.row.style r q) None
 
-pub record Requests (p : Plan) (h : List Entry) : Type 0 where
-  pub others : AtEach (λ before e. OfRequest p before e (λ i r. IsIssuedBy i.row.style e.time (issue_time p before e.txn) e.what)) h
-  pub waits : AtEach (λ before e. OfRequest p before e (λ i q. AllByRecursion (IsWaitedFor p before i q) (requests_of p.platform i before))) h
+-- when requests are issued
+pub record Issues (p : Plan) (h : List Entry) : Type 0 where
+  pub others : IssuesInTime p h
+  pub waits : WaitsForEnds p h
 
-abbrev requests : (p : Plan) (h : List Entry) → Option (Requests p h)
-requests p h =
+abbrev issues : (p : Plan) (h : List Entry) → Option (Issues p h)
+issues p h =
     bind (each _ (of_request p (λ before e i r. IsIssuedBy i.row.style e.time (issue_time p before e.txn) e.what) (λ before e i r. issued_by i.row.style e.time (issue_time p before e.txn) e.what)) h) (λ o.
     bind (each _ (of_request p (λ before e i q. AllByRecursion (IsWaitedFor p before i q) (requests_of p.platform i before)) (λ before e i q. all (IsWaitedFor p before i q) (not_waited p before i q) (requests_of p.platform i before))) h) (λ w.
     Some (record { others = o; waits = w })))
@@ -95,14 +97,15 @@ frees h = find (IsFreed first) (is_freed first) h
 abbrev HasOne : Plan → Type 0
 HasOne p = (i s : ℕ) (pass : Passage) → (world_of p).passage (record { initiator = i; seq = s }) ≡ Some pass → first ≡ record { initiator = i; seq = s }
 
-worked : (p : Plan) (h : List Event) → Premises (world_of p) (slots_of p) (issue_time p) h → Requests p (entries h) → HasOne p → Finds (Among h) (IsFreed first) → IsWorked p h
-worked p h pr r one f =
-    let t = traffic_law p h pr in
-    record {
-      premises = pr;
-      traffic = record { phases = t.phases; exclusive = t.exclusive; passes = t.passes; pools = t.pools; times = record { calls = t.times; others = r.others; waits = r.waits } };
-      ended = ended_law p h pr (λ x pass q. subst (λ (y : TxnId). Finds (Among h) (IsFreed y)) (one x.initiator x.seq pass q) f);
-    }
+worked : (p : Plan) (h : List Event) → Premises (world_of p) (slots_of p) (issue_time p) h → RunsRequests p (entries h) → Issues p (entries h) → HasOne p → Finds (Among h) (IsFreed first) → IsWorked p h
+worked p h pr r i one f = record {
+  premises = pr;
+  good = record {
+    sound = record { requests = r.keeps; traffic = issue_law p (entries h) (traffic_law p h pr) i.others i.waits };
+    requests = r.ends;
+    traffic = ended_law p h pr (λ x pass q. subst (λ (y : TxnId). Finds (Among h) (IsFreed y)) (one x.initiator x.seq pass q) f);
+  };
+}
 
 -- the objects that have entries
 places : List ObjectNo
@@ -111,12 +114,15 @@ places = Hop 0 ∷ Pool 0 ∷ Memory 0 ∷ []
 some_same : {X : Type 0} (a b : X) → Some a ≡ Some b → a ≡ b
 some_same a b q = cc
 
-lone_world : (reply : ReqMode) (response : RespMode) → IsWorld (world_of (lone reply response))
-unfolding lone
-lone_world reply response = world_law (lone reply response) tt (λ n r l. no_router l.1.is)
+pub direct_world : (reply : ReqMode) (response : RespMode) (size : ℕ) (script : List Operation) → IsWorld (world_of (plan_of reply response size (at_memory 0) [] script))
+direct_world reply response size script = world_law (plan_of reply response size (at_memory 0) [] script) (λ n r l. no_router l.1.is)
   where
     no_router : {X : Type 0} {row : X} → None ≡ Some row → ⊥
     no_router q = cc
+
+lone_world : (reply : ReqMode) (response : RespMode) → IsWorld (world_of (lone reply response))
+unfolding lone
+lone_world reply response = direct_world reply response 16 (write_at 0)
 
 lone_one : (reply : ReqMode) (response : RespMode) → HasOne (lone reply response)
 unfolding lone
@@ -126,19 +132,19 @@ lone_one reply response (suc i) s pass q = cc
 
 pub accepting_works : IsWorked (lone Req.Accept Resp.Accept) accepting
 unfolding lone accepting places
-accepting_works = worked (lone Req.Accept Resp.Accept) accepting (premises_of _ _ _ places accepting (lone_world Req.Accept Resp.Accept) (found (tested _ _ _ places accepting) refl) (found (bounded accepting) refl)) (found (requests (lone Req.Accept Resp.Accept) (entries accepting)) refl) (lone_one Req.Accept Resp.Accept) (found (frees accepting) refl)
+accepting_works = worked (lone Req.Accept Resp.Accept) accepting (premises_of _ _ _ places accepting (lone_world Req.Accept Resp.Accept) (found (tested _ _ _ places accepting) refl) (found (bounded accepting) refl)) accepting_runs (found (issues (lone Req.Accept Resp.Accept) (entries accepting)) refl) (lone_one Req.Accept Resp.Accept) (found (frees accepting) refl)
 
 pub completing_works : IsWorked (lone Req.Complete Resp.Accept) completing
 unfolding lone completing places
-completing_works = worked (lone Req.Complete Resp.Accept) completing (premises_of _ _ _ places completing (lone_world Req.Complete Resp.Accept) (found (tested _ _ _ places completing) refl) (found (bounded completing) refl)) (found (requests (lone Req.Complete Resp.Accept) (entries completing)) refl) (lone_one Req.Complete Resp.Accept) (found (frees completing) refl)
+completing_works = worked (lone Req.Complete Resp.Accept) completing (premises_of _ _ _ places completing (lone_world Req.Complete Resp.Accept) (found (tested _ _ _ places completing) refl) (found (bounded completing) refl)) completing_runs (found (issues (lone Req.Complete Resp.Accept) (entries completing)) refl) (lone_one Req.Complete Resp.Accept) (found (frees completing) refl)
 
 pub answering_works : IsWorked (lone Req.BeginResp Resp.Accept) answering
 unfolding lone answering places
-answering_works = worked (lone Req.BeginResp Resp.Accept) answering (premises_of _ _ _ places answering (lone_world Req.BeginResp Resp.Accept) (found (tested _ _ _ places answering) refl) (found (bounded answering) refl)) (found (requests (lone Req.BeginResp Resp.Accept) (entries answering)) refl) (lone_one Req.BeginResp Resp.Accept) (found (frees answering) refl)
+answering_works = worked (lone Req.BeginResp Resp.Accept) answering (premises_of _ _ _ places answering (lone_world Req.BeginResp Resp.Accept) (found (tested _ _ _ places answering) refl) (found (bounded answering) refl)) answering_runs (found (issues (lone Req.BeginResp Resp.Accept) (entries answering)) refl) (lone_one Req.BeginResp Resp.Accept) (found (frees answering) refl)
 
 pub ending_works : IsWorked (lone Req.EndReq Resp.EndResp) ending
 unfolding lone ending places
-ending_works = worked (lone Req.EndReq Resp.EndResp) ending (premises_of _ _ _ places ending (lone_world Req.EndReq Resp.EndResp) (found (tested _ _ _ places ending) refl) (found (bounded ending) refl)) (found (requests (lone Req.EndReq Resp.EndResp) (entries ending)) refl) (lone_one Req.EndReq Resp.EndResp) (found (frees ending) refl)
+ending_works = worked (lone Req.EndReq Resp.EndResp) ending (premises_of _ _ _ places ending (lone_world Req.EndReq Resp.EndResp) (found (tested _ _ _ places ending) refl) (found (bounded ending) refl)) ending_runs (found (issues (lone Req.EndReq Resp.EndResp) (entries ending)) refl) (lone_one Req.EndReq Resp.EndResp) (found (frees ending) refl)
 
 -- platforms whose routers lead to later ones have no cycle
 rising : (p : Platform) → ((r s : ℕ) → LeadsTo p r s → r < s) → HasNoCycle p
@@ -168,7 +174,7 @@ refused_rises (suc r) s l = absurd (none l.is)
 
 refused_world : IsWorld (world_of refused_plan)
 unfolding refused_plan
-refused_world = world_law refused_plan (tt, tt) (rising refused_plan.platform refused_rises)
+refused_world = world_law refused_plan (rising refused_plan.platform refused_rises)
 
 refused_one : HasOne refused_plan
 unfolding refused_plan
@@ -178,7 +184,7 @@ refused_one (suc i) s pass q = cc
 
 pub refused_works : IsWorked refused_plan refused
 unfolding refused_plan refused places
-refused_works = worked refused_plan refused (premises_of _ _ _ places refused refused_world (found (tested _ _ _ places refused) refl) (found (bounded refused) refl)) (found (requests refused_plan (entries refused)) refl) refused_one (found (frees refused) refl)
+refused_works = worked refused_plan refused (premises_of _ _ _ places refused refused_world (found (tested _ _ _ places refused) refl) (found (bounded refused) refl)) refused_runs (found (issues refused_plan (entries refused)) refl) refused_one (found (frees refused) refl)
 
 routed_rises : (r s : ℕ) → LeadsTo routed_plan.platform r s → r < s
 unfolding routed_plan
@@ -205,7 +211,7 @@ routed_rises (suc (suc r)) s l = absurd (none l.is)
 
 routed_world : IsWorld (world_of routed_plan)
 unfolding routed_plan
-routed_world = world_law routed_plan (tt, (tt, tt)) (rising routed_plan.platform routed_rises)
+routed_world = world_law routed_plan (rising routed_plan.platform routed_rises)
 
 routed_places : List ObjectNo
 routed_places = Hop 0 ∷ Hop 1 ∷ Hop 2 ∷ Pool 0 ∷ Memory 0 ∷ []
@@ -218,4 +224,4 @@ routed_one (suc i) s pass q = cc
 
 pub routed_works : IsWorked routed_plan routed
 unfolding routed_plan routed routed_places
-routed_works = worked routed_plan routed (premises_of _ _ _ routed_places routed routed_world (found (tested _ _ _ routed_places routed) refl) (found (bounded routed) refl)) (found (requests routed_plan (entries routed)) refl) routed_one (found (frees routed) refl)
+routed_works = worked routed_plan routed (premises_of _ _ _ routed_places routed routed_world (found (tested _ _ _ routed_places routed) refl) (found (bounded routed) refl)) routed_runs (found (issues routed_plan (entries routed)) refl) routed_one (found (frees routed) refl)

@@ -1,6 +1,6 @@
 -- Worked four-phase histories, made by hand.
 use Rattle.std.specs.Prelude.{ℕ, List, [], ◌∷◌, codes, true, false, None}
-use Rattle.tlm_types.specs.declared.words.Command.TheVariants.{Write as write_command}
+use Rattle.tlm_types.specs.declared.words.Command.TheVariants.{Read as read_command, Write as write_command}
 use Rattle.tlm_types.specs.declared.words.ObjectNo.{ObjectNo}
 use Rattle.tlm_types.specs.declared.words.ObjectNo.TheVariants.{Memory as at_memory, Hop, Pool}
 use Rattle.tlm_types.specs.declared.words.Phase.{Phase}
@@ -12,11 +12,11 @@ use Rattle.tlm_types.specs.declared.words.RespMode.TheVariants as Resp
 use Rattle.tlm_types.specs.declared.words.Response.TheVariants.{Ok}
 use Rattle.tlm_types.specs.declared.words.TlmSync.{TlmSync}
 use Rattle.tlm_types.specs.declared.words.TlmSync.TheVariants.{Accepted, Updated, Completed}
-use Rattle.tlm_types.specs.declared.words.Way.TheVariants.{FourPhase}
+use Rattle.tlm_types.specs.declared.words.Way.TheVariants.{FourPhase, Debug as by_debug}
 use Rattle.tlm_types.specs.declared.entry.What.{What}
 use Rattle.tlm_types.specs.declared.entry.What.TheVariants.{Access as Accessed, Call as Called, Take, Acquire, Release}
 use Rattle.tlm_model.specs.declared.operation.Operation.{Operation}
-use Rattle.tlm_model.specs.declared.operation.Operation.TheVariants.{Write}
+use Rattle.tlm_model.specs.declared.operation.Operation.TheVariants.{Write, Debug, Fence}
 use Rattle.tlm_model.specs.declared.platform.RouterRow.{RouterRow}
 use Rattle.tlm_model.specs.declared.platform.Style.TheVariants.{FourPhase as fourphase_style}
 use Rattle.tlm_model.specs.declared.platform.Target.{Target}
@@ -27,7 +27,7 @@ use Rattle.flow_model.specs.Issue.{issue_time}
 use Rattle.flow_model.specs.Platform.{world_of}
 use Rattle.flow_model.specs.Traffic.{slots_of}
 use Rattle.flow_law.specs.Law.{Premises}
-use Rattle.flow_plan.specs.Plans.{EndsTraffic, KeepsTraffic}
+use Rattle.good_history.specs.Good.{IsGood}
 
 -- one four-phase initiator `dma`, these routers, and a memory `ram` of so many bytes and 10 ps
 abbrev pub plan_of : ReqMode → RespMode → ℕ → Target → List RouterRow → List Operation → Plan
@@ -125,11 +125,10 @@ routed =
     ∷ call 17 1 22 EndResp Completed ∷ release 18 22 1
     ∷ call 19 2 22 EndResp Completed ∷ event 20 (Pool 0) 22 2 (Release 0 true) ∷ []
 
--- what makes a history right: single components made it, and it has the points, also those of the end
+-- what makes a history right: single components made it, and it is good
 pub record IsWorked (p : Plan) (h : List Event) : Type 0 where
   pub premises : Premises (world_of p) (slots_of p) (issue_time p) h
-  pub traffic : KeepsTraffic p (entries h)
-  pub ended : EndsTraffic p (entries h)
+  pub good : IsGood p (entries h)
 
 -- wrong histories of the memory that accepts: the access stands before the request is there
 unfoldable pub early_access : List Event
@@ -189,3 +188,37 @@ ended_below_first =
     ∷ call 9 2 12 EndReq Accepted ∷ written 10 12
     ∷ call 11 2 22 BeginResp Accepted ∷ call 12 1 22 BeginResp Accepted ∷ call 13 0 22 BeginResp Accepted
     ∷ call 14 1 22 EndResp Completed ∷ []
+
+-- the last Release is left out
+unfoldable pub unreleased : List Event
+unreleased =
+    take 0 0 ∷ acquire 1 0 0
+    ∷ call 2 0 0 BeginReq Accepted ∷ call 3 0 0 EndReq Accepted
+    ∷ written 4 0
+    ∷ call 5 0 10 BeginResp Accepted ∷ call 6 0 10 EndResp Completed
+    ∷ release 7 10 0 ∷ []
+
+-- the access writes another byte than its request
+unfoldable pub miswritten : List Event
+miswritten =
+    take 0 0 ∷ acquire 1 0 0
+    ∷ call 2 0 0 BeginReq Accepted ∷ call 3 0 0 EndReq Accepted
+    ∷ event 4 (at_memory 0) 0 0 (Accessed FourPhase (record { command = write_command; offset = 0; length = 1; sent = 0xbb ∷ []; enables = []; width = 1 }) Ok [])
+    ∷ call 5 0 10 BeginResp Accepted ∷ call 6 0 10 EndResp Completed
+    ∷ release 7 10 0 ∷ freed 8 10 ∷ []
+
+-- `dma` on `ram`, with a debug read
+unfoldable pub debug_plan : Plan
+debug_plan = plan_of Req.Accept Resp.Accept 16 (Memory 0) [] (Debug 0 1 ∷ [])
+
+-- the debug read stands 7 ps after its initiator issued it
+unfoldable pub late_debug : List Event
+late_debug = event 0 (at_memory 0) 7 0 (Accessed by_debug (record { command = read_command; offset = 0; length = 1; sent = []; enables = []; width = 1 }) Ok (0 ∷ [])) ∷ []
+
+-- `dma` on `ram`, with two writes and a fence between them
+unfoldable pub fenced_plan : Plan
+fenced_plan = plan_of Req.Accept Resp.Accept 16 (Memory 0) [] (Write 0 (0xaa ∷ []) [] None ∷ Fence ∷ Write 1 (0xaa ∷ []) [] None ∷ [])
+
+-- the second write is begun before the first has ended
+unfoldable pub unfenced : List Event
+unfenced = take 0 0 ∷ record { entry = record { position = 1; object = Pool 0; txn = record { initiator = 0; seq = 1 }; time = 0; what = Take 1 }; number = 0 } ∷ []

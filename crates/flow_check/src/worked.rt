@@ -1,4 +1,5 @@
-//! Right histories: each entry is backed by those before it, each hop and pool made its log, and the points hold.
+//! Right histories: each entry is backed by those before it, each hop and pool made its log, and the whole history is
+//! good: it runs its script, has all the points of four-phase traffic, and has come to its end.
 ghost use Rattle.tlm_types.specs.declared.words.ReqMode.TheVariants as Req;
 ghost use Rattle.tlm_types.specs.declared.words.RespMode.TheVariants as Resp;
 ghost use Rattle.flow_check.specs.Worked.{IsWorked, accepting, answering, completing, ending, lone, refused, refused_plan, routed, routed_plan};

@@ -2,8 +2,11 @@
 ghost use Rattle.tlm_types.specs.declared.words.ReqMode.TheVariants as Req;
 ghost use Rattle.tlm_types.specs.declared.words.RespMode.TheVariants as Resp;
 ghost use Rattle.flow_model.specs.Events.{entries};
+ghost use Rattle.tlm_model.specs.Kept.{KeepsRequests};
+ghost use Rattle.flow_plan.specs.Plans.{HasBackedTraffic};
+ghost use Rattle.good_history.specs.Good.{IsGood, IsSound};
 ghost use Rattle.flow_model.specs.Traffic.{FollowsPhases, HasFreedPayloads, HasPhaseTimes, HasWholeSequences, IsExclusive, KeepsPools, PassesHops};
-ghost use Rattle.flow_check.specs.Worked.{early_access, ended_below_first, freed_twice, hasty_response, kept, lone, request_doubled, request_unended, routed_plan, unended, unreferenced, wrongly_answered};
+ghost use Rattle.flow_check.specs.Worked.{debug_plan, early_access, ended_below_first, fenced_plan, freed_twice, hasty_response, kept, late_debug, lone, miswritten, request_doubled, request_unended, routed_plan, unended, unfenced, unreferenced, unreleased, wrongly_answered};
 
 /// The access stands before its BEGIN_REQ.
 pub fn early_access_misses_its_order()
@@ -54,4 +57,29 @@ pub fn hasty_response_misses_its_time()
 pub fn unended_access_is_not_whole()
     ensures sequence { ¬ HasWholeSequences (lone Req.Accept Resp.Accept) (entries unended) }
     ensures payload { ¬ HasFreedPayloads (lone Req.Accept Resp.Accept) (entries unended) }
+{}
+
+/// An access whose last Release is left out: the history is right as far as it has come, and isn't good.
+pub fn unreleased_access_is_not_good()
+    ensures sound { IsSound (lone Req.Accept Resp.Accept) (entries unreleased) }
+    ensures wrong { ¬ IsGood (lone Req.Accept Resp.Accept) (entries unreleased) }
+{}
+
+/// An access that writes another byte than its request.
+pub fn wrong_byte_is_not_good()
+    ensures { ¬ IsGood (lone Req.Accept Resp.Accept) (entries miswritten) }
+{}
+
+/// A debug read that stands after the current time of its initiator: no other point tells.
+pub fn late_debug_misses_its_time()
+    ensures requests { KeepsRequests debug_plan (entries late_debug) }
+    ensures backed { HasBackedTraffic debug_plan (entries late_debug) }
+    ensures wrong { ¬ HasPhaseTimes debug_plan (entries late_debug) }
+{}
+
+/// A write after a fence that doesn't wait for the one before: no other point tells.
+pub fn unfenced_write_misses_its_turn()
+    ensures requests { KeepsRequests fenced_plan (entries unfenced) }
+    ensures backed { HasBackedTraffic fenced_plan (entries unfenced) }
+    ensures wrong { ¬ HasPhaseTimes fenced_plan (entries unfenced) }
 {}

@@ -5,7 +5,8 @@ use Rattle.tlm_types.specs.declared.words.TxnId.{TxnId}
 use Rattle.tlm_types.specs.declared.entry.What.{What}
 use Rattle.tlm_types.specs.declared.entry.What.TheVariants.{Take, Acquire, Release}
 use Rattle.flow_model.specs.Events.{Event, Among, Finds, IsTakeOf, IsFreedOf}
-use Rattle.flow_model.specs.Pools.{Life, Slots, put, more, fewer, slots_by, slots_after, no_slots, PoolStepBy}
+use Rattle.flow_model.specs.Pools.{Life, Slots, more, fewer, slots_by, slots_after, PoolStepBy}
+use Rattle.flow_model.specs.Slots.{put, no_slots}
 use Rattle.flow_law.proofs.Splits.{among_left, among_right, among_cases}
 use Rattle.flow_law.proofs.Forms.{PoolSteps}
 

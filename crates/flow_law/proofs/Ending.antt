@@ -1,18 +1,15 @@
 -- An access whose payload is back in its pool is done on each of its hops.
-use Rattle.std.proofs.Common.{◌≡◌, ℕ, zero, suc, pred, ◌+◌, ◌-◌, ◌<◌, ◌≤◌, List, [], ◌∷◌, ◌++◌, Some, true, refl, ap, sym, ◌∙◌, arith, add-one, subst, ◌⊎◌, inl, inr}
-use Rattle.std.specs.Prelude.{IsTrue}
-use Rattle.tlm_types.specs.declared.words.Phase.{Phase}
-use Rattle.tlm_types.specs.declared.words.Phase.TheVariants.{BeginReq, EndReq, BeginResp, EndResp}
-use Rattle.tlm_types.specs.declared.words.TlmSync.{TlmSync}
-use Rattle.tlm_types.specs.declared.words.TlmSync.TheVariants.{Accepted, Updated, Completed}
+use Rattle.std.proofs.Common.{◌≡◌, ℕ, zero, suc, pred, ◌+◌, ◌-◌, ◌<◌, ◌≤◌, List, [], ◌∷◌, ◌++◌, length, drop, length-drop, Some, true, refl, ap, sym, ◌∙◌, arith, subst, ◌⊎◌, inl, inr}
+use Rattle.tlm_types.specs.declared.words.Phase.TheVariants.{BeginReq, BeginResp, EndResp}
 use Rattle.tlm_types.specs.declared.entry.Entry.{Entry}
 use Rattle.tlm_types.specs.declared.words.TxnId.{TxnId}
 use Rattle.tlm_types.specs.declared.words.ReqMode.{ReqMode}
 use Rattle.tlm_types.specs.declared.words.ReqMode.TheVariants.{Accept, Short, EndReq as AtOnce, BeginResp as WithResponse, Complete}
 use Rattle.tlm_types.specs.declared.words.RespMode.{RespMode}
 use Rattle.tlm_types.specs.declared.words.RespMode.TheVariants.{Accept as Accepts, EndResp as Ends, Complete as Completes}
-use Rattle.flow_model.specs.Events.{Event, Among, Finds, IsCall, IsPhase, IsAcquire, IsReleased, IsAccess, hop_log}
-use Rattle.flow_model.specs.Numbers.{IsEnding, IsEnder, IsResponding, IsResponse, IsAnswered, EndIs, released_hop}
+use Rattle.flow_model.specs.Backed.{ReleaseBacked}
+use Rattle.flow_model.specs.Events.{Event, Among, Finds, IsPhase, IsAcquire, IsReleased, hop_log}
+use Rattle.flow_model.specs.Numbers.{IsEnding, IsEnder, UpFrom, UpIs, RspIs, EndIs, released_hop}
 use Rattle.flow_model.specs.Points.{IsFreed}
 use Rattle.base_phases.specs.Sequences.{Call, IsWhole}
 use Rattle.hop_model.specs.Calls.{calls_of}
@@ -20,16 +17,15 @@ use Rattle.std.proofs.lemmas.List.Elements.{filter_map-append}
 use Rattle.flow_model.specs.World.{World, Passage, hop_count, hop_at, row_of}
 use Rattle.flow_law.specs.Ending.{IsDone}
 use Rattle.flow_law.proofs.Forms.{Saying, says, sayings, rows, IsPrefix, IsPrefixOf, Given, IsOneOf, eleven, AtSplits, said}
-use Rattle.flow_law.proofs.Freed.{begun, Begun, released_before, own_released, ended_before}
-use Rattle.flow_law.proofs.More.{end_more}
-use Rattle.flow_law.proofs.Nodes.{OneOf, before_call}
+use Rattle.flow_law.proofs.Freed.{released_before, own_released, ended_before}
+use Rattle.flow_law.proofs.More.{end_more, rsp_more, up_more}
 use Rattle.flow_law.proofs.Reading.{backed_release}
-use Rattle.flow_law.proofs.Sayings.{In, in_said, said_in, prefix_of_front}
+use Rattle.flow_law.proofs.Sayings.{In, said_in, prefix_of_front}
 use Rattle.flow_law.proofs.Splits.{Split, among_split, among_whole}
-use Rattle.flow_law.proofs.Steps.{came, backed_at, proper}
+use Rattle.flow_law.proofs.Steps.{backed_at, proper}
 use Rattle.flow_law.proofs.CallLists.{all_calls, calls_at, one_to, rows_are, whole_says}
 use Rattle.flow_law.proofs.Table.{table}
-use Rattle.flow_law.proofs.Times.{none_answered}
+use Rattle.flow_law.proofs.Times.{next_hop}
 
 append_nil : (l : List Event) → l ++ [] ≡ l
 append_nil [] = refl
@@ -79,95 +75,54 @@ rows_end_last Short Accepts = ((λ z. z, (λ z. z, tt)), tt)
 rows_end_last Short Ends = ((λ z. z, tt), tt)
 rows_end_last Short Completes = ((λ z. z, tt), tt)
 
--- before END_RESP a response was said
-pub record Responded (cs : List Saying) : Type 0 where
-  pub phase : Phase
-  pub answer : TlmSync
-  pub said : In cs (says phase answer)
-  pub responds : IsResponding phase answer
-
-responded_at : (cs l : List Saying) (p : Phase) (a : TlmSync) → cs ≡ l → In l (says p a) → IsResponding p a → Responded cs
-responded_at cs l p a q i r = record { phase = p; answer = a; said = subst (λ (k : List Saying). In k (says p a)) (sym q) i; responds = r }
-
-responded : (cs : List Saying) → OneOf (before_call EndResp) cs → Responded cs
-responded cs (inl m) = responded_at cs _ BeginReq (Updated BeginResp) m (inl refl) tt
-responded cs (inr (inl m)) = responded_at cs _ BeginResp Accepted m (inr (inl refl)) tt
-responded cs (inr (inr (inl m))) = responded_at cs _ BeginResp Accepted m (inr (inr (inl refl))) tt
-responded cs (inr (inr (inr (inl m)))) = responded_at cs _ BeginResp Accepted m (inr (inl refl)) tt
-responded cs (inr (inr (inr (inr m)))) = absurd m
-
--- what the backing of a Release says, as a record over the passage
-record ReleaseFacts (x : TxnId) (n : ℕ) (before : List Event) (g : Passage) : Type 0 where
-  below : released_hop n < hop_count g
-  ended : Finds (Among before) (IsEnder x (hop_at g (released_hop n)))
-  served : IsTrue g.routed → Finds (Among before) (IsAccess x)
-
 module _ (w : World) (slots : ℕ → ℕ) (issued : List Entry → TxnId → ℕ) (h : List Event) (pr : Given w slots issued h) (x : TxnId) (pass : Passage) (is : w.passage x ≡ Some pass) where
-  -- an end on a hop comes after a response there
-  response_of_end : (o : ℕ) → Finds (Among h) (IsEnder x o) → Finds (Among h) (IsResponse x o)
-  response_of_end o f = go f.is.phase f.is.answer f.is.call f.is.ends
-    where
-      now : (p : Phase) (a : TlmSync) → IsCall x o p a f.event → IsResponding p a → Finds (Among h) (IsResponse x o)
-      now p a c r = record { event = f.event; known = f.known; is = record { phase = p; answer = a; call = c; responds = r } }
+  -- what a BEGIN_RESP is told of the response
+  up_before : (k : ℕ) → k < hop_count pass → (e : Event) → Among h e → IsPhase x (hop_at pass k) BeginResp e → (t : ℕ) × UpIs w (Among h) x pass k t
+  up_before k below e m i =
+      let s = among_split h e m in
+      let b = backed_at w slots issued h pr s.before s.after e s.is x (hop_at pass k) BeginResp i.answer i.call pass is k below refl in
+      (b.time.number, up_more w (Among s.before) (Among h) (λ f n. among_whole h s.before s.after e f s.is n) x (hop_at pass k) (drop (k + 1) pass.hops) b.time.number b.time.is_number)
 
-      go : (p : Phase) (a : TlmSync) → IsCall x o p a f.event → IsEnding p a → Finds (Among h) (IsResponse x o)
-      go BeginReq Accepted c z = absurd z
-      go BeginReq (Updated r) c z = absurd z
-      go BeginReq Completed c z = now BeginReq Completed c tt
-      go EndReq a c z = absurd z
-      go BeginResp a c z = now BeginResp a c tt
-      go EndResp a c z =
-          let s = among_split h f.event f.known in
-          let r = responded (sayings x o s.before) (came w slots issued h pr s.before s.after f.event s.is x o EndResp a c).0 in
-          let g = in_said x o s.before r.phase r.answer r.said in
-          record { event = g.event; known = among_whole h s.before s.after f.event g.event s.is g.known; is = record { phase = r.phase; answer = r.answer; call = g.is; responds = r.responds } }
-
-  -- a response on a hop comes after the response on the next
-  next_response : (k : ℕ) → suc k < hop_count pass → Finds (Among h) (IsResponse x (hop_at pass k)) → Finds (Among h) (IsResponse x (hop_at pass (suc k)))
-  next_response k below f = go f.is.phase f.is.answer f.is.call f.is.responds
-    where
-      more : k + 1 < hop_count pass
-      more = omega arith
-
-      by_return : (a : TlmSync) → IsCall x (hop_at pass k) BeginReq a f.event → IsAnswered x (hop_at pass k) f.event → Finds (Among h) (IsResponse x (hop_at pass (suc k)))
-      by_return a c i = absurd (none_answered w slots issued h pr x pass is k more f.event f.known i)
-
-      go : (p : Phase) (a : TlmSync) → IsCall x (hop_at pass k) p a f.event → IsResponding p a → Finds (Among h) (IsResponse x (hop_at pass (suc k)))
-      go BeginReq Accepted c z = absurd z
-      go BeginReq (Updated BeginReq) c z = absurd z
-      go BeginReq (Updated EndReq) c z = absurd z
-      go BeginReq (Updated EndResp) c z = absurd z
-      go BeginReq (Updated BeginResp) c z = by_return (Updated BeginResp) c (record { answer = Updated BeginResp; call = c; brings = tt })
-      go BeginReq Completed c z = by_return Completed c (record { answer = Completed; call = c; brings = tt })
-      go EndReq a c z = absurd z
-      go EndResp a c z = absurd z
-      go BeginResp a c z =
-          let s = among_split h f.event f.known in
-          let below_k : k < hop_count pass = omega arith in
-          let b = backed_at w slots issued h pr s.before s.after f.event s.is x (hop_at pass k) BeginResp a c pass is k below_k refl in
-          let g = b.order.answered more in
-          let r : Finds (Among h) (IsResponse x (hop_at pass (k + 1))) = record { event = g.event; known = among_whole h s.before s.after f.event g.event s.is g.known; is = g.is } in
-          subst (λ (j : ℕ). Finds (Among h) (IsResponse x (hop_at pass j))) (add-one k) r
-
-  begin_of_response : (o : ℕ) → Finds (Among h) (IsResponse x o) → Finds (Among h) (IsPhase x o BeginReq)
-  begin_of_response o f =
-      let s = among_split h f.event f.known in
-      go s (begun f.is.phase (sayings x o s.before) (came w slots issued h pr s.before s.after f.event s.is x o f.is.phase f.is.answer f.is.call).0)
-    where
-      go : (s : Split h f.event) → (f.is.phase ≡ BeginReq) ⊎ Begun (sayings x o s.before) → Finds (Among h) (IsPhase x o BeginReq)
-      go s (inl q) = record { event = f.event; known = f.known; is = record { answer = f.is.answer; call = subst (λ (p : Phase). IsCall x o p f.is.answer f.event) q f.is.call } }
-      go s (inr b) =
-          let g = in_said x o s.before BeginReq b.answer b.said in
-          record { event = g.event; known = among_whole h s.before s.after f.event g.event s.is g.known; is = record { answer = b.answer; call = g.is } }
-
-  -- so the BEGIN_REQ of the last hop stands
-  last_begin : (d k : ℕ) → k + suc d ≡ hop_count pass → Finds (Among h) (IsResponse x (hop_at pass k)) → (m : ℕ) → suc m ≡ hop_count pass → Finds (Among h) (IsPhase x (hop_at pass m) BeginReq)
-  last_begin zero k q f m r =
+  -- where the response of x is there on a hop, the BEGIN_REQ of the last hop stands
+  last_of_up : (rest : List ℕ) (k : ℕ) → drop (k + 1) pass.hops ≡ rest → k < hop_count pass → (t : ℕ) → UpFrom w (Among h) x (hop_at pass k) rest t → (m : ℕ) → suc m ≡ hop_count pass → Finds (Among h) (IsPhase x (hop_at pass m) BeginReq)
+  last_of_up [] k d below t u m r =
+      let l : length (drop (k + 1) pass.hops) ≡ length pass.hops - (k + 1) = length-drop (k + 1) pass.hops in
+      let n : length (drop (k + 1) pass.hops) ≡ 0 = ap length d in
       let same : k ≡ m = omega arith in
-      subst (λ (j : ℕ). Finds (Among h) (IsPhase x (hop_at pass j) BeginReq)) same (begin_of_response (hop_at pass k) f)
-  last_begin (suc d) k q f m r = last_begin d (suc k) (omega arith) (next_response k (omega arith) f) m r
+      subst (λ (j : ℕ). Finds (Among h) (IsPhase x (hop_at pass j) BeginReq)) same (record { event = u.is_req.event; known = u.is_req.known; is = u.is_req.is })
+  last_of_up (p ∷ rest) k d below t (inl g) m r =
+      let n = next_hop pass k p rest d in
+      let u = up_before (suc k) n.below g.event g.known (subst (λ (o : ℕ). IsPhase x o BeginResp g.event) n.hop g.is) in
+      last_of_up rest (suc k) n.rest_is n.below u.0 (subst (λ (l : List ℕ). UpFrom w (Among h) x (hop_at pass (suc k)) l u.0) n.rest_is u.1) m r
+  last_of_up (p ∷ rest) k d below t (inr g) m r =
+      let n = next_hop pass k p rest d in
+      last_of_up rest (suc k) n.rest_is n.below t (subst (λ (o : ℕ). UpFrom w (Among h) x o rest t) n.hop g.1) m r
 
-  -- and with it those of all hops
+  last_of_rsp : (k : ℕ) → k < hop_count pass → (t : ℕ) → RspIs w (Among h) x pass k t → (m : ℕ) → suc m ≡ hop_count pass → Finds (Among h) (IsPhase x (hop_at pass m) BeginReq)
+  last_of_rsp k below t (inl g) m r =
+      let u = up_before k below g.event g.known g.is in
+      last_of_up (drop (k + 1) pass.hops) k refl below u.0 u.1 m r
+  last_of_rsp k below t (inr g) m r = last_of_up (drop (k + 1) pass.hops) k refl below t g.1 m r
+
+  -- and where x has ended on a hop
+  last_of_end_resp : (k : ℕ) → k < hop_count pass → (e : Event) → Among h e → IsPhase x (hop_at pass k) EndResp e → (m : ℕ) → suc m ≡ hop_count pass → Finds (Among h) (IsPhase x (hop_at pass m) BeginReq)
+  last_of_end_resp zero below e n i m r =
+      let s = among_split h e n in
+      let b = backed_at w slots issued h pr s.before s.after e s.is x (hop_at pass 0) EndResp i.answer i.call pass is 0 below refl in
+      last_of_rsp 0 below b.time.number (rsp_more w (Among s.before) (Among h) (λ f n. among_whole h s.before s.after e f s.is n) x (hop_at pass 0) (drop (0 + 1) pass.hops) b.time.number b.time.is_number) m r
+  last_of_end_resp (suc k) below e n i m r =
+      let s = among_split h e n in
+      let b = backed_at w slots issued h pr s.before s.after e s.is x (hop_at pass (suc k)) EndResp i.answer i.call pass is (suc k) below refl in
+      last_of_rsp k (omega arith) b.time.number (rsp_more w (Among s.before) (Among h) (λ f n. among_whole h s.before s.after e f s.is n) x (hop_at pass k) (drop (k + 1) pass.hops) b.time.number b.time.is_number) m r
+
+  last_of_end : (k : ℕ) → k < hop_count pass → (t : ℕ) → EndIs w (Among h) x pass k t → (m : ℕ) → suc m ≡ hop_count pass → Finds (Among h) (IsPhase x (hop_at pass m) BeginReq)
+  last_of_end k below t (inl f) m r = last_of_rsp k below t f.1 m r
+  last_of_end k below t (inr f) m r = elim f.is.1 [
+    | inl i ↦ last_of_rsp k below f.event.time (inl (record { event = f.event; known = f.known; is = i; time = refl })) m r
+    | inr i ↦ last_of_end_resp k below f.event f.known i m r
+  ]
+
+  -- with the BEGIN_REQ of the last hop stand those of all hops
   begin_before : (k : ℕ) → suc k < hop_count pass → Finds (Among h) (IsPhase x (hop_at pass (suc k)) BeginReq) → Finds (Among h) (IsPhase x (hop_at pass k) BeginReq)
   begin_before k below f =
       let s = among_split h f.event f.known in
@@ -197,41 +152,31 @@ module _ (w : World) (slots : ℕ → ℕ) (issued : List Entry → TxnId → �
     whole_list : h ≡ h ++ []
     whole_list = sym (append_nil h)
 
-    -- some hop has ended, that of the freed Release
-    pub record SomeEnd : Type 0 where
-      pub hop : ℕ
-      pub below : hop < hop_count pass
-      pub ended : Finds (Among h) (IsEnder x (hop_at pass hop))
-      pub served : IsTrue pass.routed → Finds (Among h) (IsAccess x)
-
-    some_end : SomeEnd
+    -- the hop of the freed Release has ended
+    last : ReleaseBacked w (Among place.before) x pass f.is.number f.event.time
     unfolding place
-    some_end =
+    last =
         let s = place in
         let b = backed_release w (Among s.before) x f.is.number true f.event (pr.backed s.before f.event s.after s.is) f.is.release in
         let same : b.passage ≡ pass = some_same b.passage pass (sym b.is ∙ is) in
-        let r = subst (λ (g : Passage). ReleaseFacts x f.is.number s.before g) same (record { below = b.release.below; ended = b.release.ended; served = b.release.served }) in
-        record {
-          hop = released_hop f.is.number;
-          below = r.below;
-          ended = record { event = r.ended.event; known = among_whole h s.before s.after f.event r.ended.event s.is r.ended.known; is = r.ended.is };
-          served = λ t. (let g = r.served t in record { event = g.event; known = among_whole h s.before s.after f.event g.event s.is g.known; is = g.is });
-        }
+        subst (λ (g : Passage). ReleaseBacked w (Among s.before) x g f.is.number f.event.time) same b.release
+
+    known : (e : Event) → Among place.before e → Among h e
+    unfolding place
+    known e m = among_whole h place.before place.after f.event e place.is m
 
     each_begin : (k : ℕ) → k < hop_count pass → Finds (Among h) (IsPhase x (hop_at pass k) BeginReq)
     each_begin k below =
-        let s = some_end in
-        let low : s.hop < hop_count pass = s.below in
-        let top = last_begin (pred (hop_count pass - s.hop)) s.hop (omega arith) (response_of_end (hop_at pass s.hop) s.ended) (pred (hop_count pass)) (omega arith) in
+        let o = released_hop f.is.number in
+        let low : o < hop_count pass = last.below in
+        let top = last_of_end o low f.event.time (end_more w (Among place.before) (Among h) known x pass o f.event.time last.time) (pred (hop_count pass)) (omega arith) in
         begin_below (pred (hop_count pass)) k (omega arith) (omega arith) top
 
     each_acquire : (k : ℕ) → k < hop_count pass → Finds (Among h) (IsAcquire x k)
     each_acquire k below = acquire_of_begin k below (each_begin k below)
 
     each_end : (k : ℕ) → k < hop_count pass → Finds (Among h) (IsEnder x (hop_at pass k))
-    each_end k below =
-        let few : hop_count pass ≤ 15 = (pr.world.passages x pass is).few in
-        ended_before w slots issued h pr h [] whole_list x pass is k (omega arith) (each_acquire k below) f
+    each_end k below = ended_before w slots issued h pr h [] whole_list x pass is k (each_acquire k below) f
 
     each_release : (k : ℕ) → (k < hop_count pass) ⊎ (k ≡ 15) → Finds (Among h) (IsReleased x k)
     each_release k (inl below) = released_before w slots issued h pr h [] whole_list x k (each_acquire k below) f
@@ -256,7 +201,7 @@ module _ (w : World) (slots : ℕ → ℕ) (issued : List Entry → TxnId → �
           let same : b.passage ≡ pass = some_same b.passage pass (sym b.is ∙ is) in
           end_more w (Among s.before) (Among h) (λ f n. among_whole h s.before s.after e f s.is n) x pass (released_hop k) e.time
           (subst (λ (g : Passage). EndIs w (Among s.before) x g (released_hop k) e.time) same b.release.time));
-      served = some_end.served;
+      served = λ t. (let g = last.served t in record { event = g.event; known = known g.event g.known; is = g.is });
     }
 
 pub ending : (w : World) (slots : ℕ → ℕ) (issued : List Entry → TxnId → ℕ) (h : List Event) → Given w slots issued h →

@@ -23,7 +23,8 @@ use Rattle.hop_model.specs.ByRules.{request_end as hop_request_end}
 use Rattle.flow_model.specs.World.{World, Passage, IsWorld}
 use Rattle.flow_model.specs.Events.{Event, Among, Finds, IsPhase, IsOwn, IsTake, IsTakeOf, IsAccess, at, entries, hop_log}
 use Rattle.flow_model.specs.Backed.{IsBacked, EndsResponse}
-use Rattle.flow_model.specs.Pools.{PoolStepBy, slots_after, no_slots}
+use Rattle.flow_model.specs.Pools.{PoolStepBy, slots_after}
+use Rattle.flow_model.specs.Slots.{no_slots}
 
 -- P holds of each event with the list of those before it
 abbrev pub AtSplits : (List Event → Event → Type 0) → List Event → Type 0

@@ -1,5 +1,5 @@
 -- No call and no Access of a transaction stands after its freed Release.
-use Rattle.std.proofs.Common.{◌≡◌, ℕ, ◌<◌, ◌≤◌, List, [], ◌∷◌, ◌++◌, Some, true, false, Bool, cond, nat_eq, refl, ap, sym, ◌∙◌, arith, subst, ◌⊎◌, inl, inr}
+use Rattle.std.proofs.Common.{◌≡◌, ℕ, ◌<◌, List, [], ◌∷◌, ◌++◌, Some, true, false, Bool, cond, nat_eq, refl, ap, sym, ◌∙◌, arith, subst, ◌⊎◌, inl, inr}
 use Rattle.std.proofs.lemmas.Bool.{eqb-true}
 use Rattle.tlm_types.specs.declared.words.ObjectNo.{ObjectNo}
 use Rattle.tlm_types.specs.declared.words.ObjectNo.TheVariants.{Pool}
@@ -15,7 +15,7 @@ use Rattle.flow_model.specs.Points.{IsFreed, IsFreedLast}
 use Rattle.flow_model.specs.World.{World, Passage, hop_count, hop_at}
 use Rattle.flow_law.proofs.Each.{each_from}
 use Rattle.flow_law.proofs.Forms.{Saying, says, sayings, Given}
-use Rattle.flow_law.proofs.Lives.{AcquireOf, ReleaseOf, FreedOf, none_after_freed, all_released, number_released}
+use Rattle.flow_law.proofs.Lives.{AcquireOf, ReleaseOf, FreedOf, none_after_freed, all_released, number_few, number_released}
 use Rattle.flow_law.proofs.Nodes.{OneOf, before_call}
 use Rattle.flow_law.proofs.Once.{among_order, Precedes}
 use Rattle.flow_law.proofs.Reading.{BackedRelease, backed_call, backed_release}
@@ -85,6 +85,14 @@ released_below k l = go (nat_eq k 15) refl
     go false q = refl
 
 module _ (w : World) (slots : ℕ → ℕ) (issued : List Entry → TxnId → ℕ) (h : List Event) (pr : Given w slots issued h) where
+  -- the number of an Acquire is below 15
+  pub acquire_few : (x : TxnId) (k : ℕ) → Finds (Among h) (IsAcquire x k) → k < 15
+  acquire_few x k f =
+      let s = among_split h f.event f.known in
+      number_few (slots x.initiator) (at (Pool x.initiator) h) (pr.pools x.initiator) (pr.one_take x.initiator)
+      (at (Pool x.initiator) s.before) (at (Pool x.initiator) s.after) f.event (at-split (Pool x.initiator) h s.before s.after f.event s.is f.is.object)
+      x k (record { txn = f.is.txn; number = f.is.number; slot = f.is.slot; what = f.is.what })
+
   module _ (before rest : List Event) (q : h ≡ before ++ rest) where
     -- what stands before an earlier entry stands before this one
     pub back_to : (s : Event) (place : Split before s) (f : Event) → Among place.before f → Among before f
@@ -156,10 +164,11 @@ module _ (w : World) (slots : ℕ → ℕ) (issued : List Entry → TxnId → �
             record { event = r.event; known = back_to f.event s r.event m.among; is = record { freed = r.is.freed; release = record { object = m.mine; txn = r.is.txn; number = r.is.number; slot = r.is.slot; what = r.is.what } } }
 
     -- and so the sequence of x on each hop that it acquired has ended before
-    pub ended_before : (x : TxnId) (pass : Passage) → w.passage x ≡ Some pass → (k : ℕ) → k < 15 → Finds (Among before) (IsAcquire x k) → Finds (Among before) (IsFreed x) → Finds (Among before) (IsEnder x (hop_at pass k))
-    ended_before x pass is k small g f =
+    pub ended_before : (x : TxnId) (pass : Passage) → w.passage x ≡ Some pass → (k : ℕ) → Finds (Among before) (IsAcquire x k) → Finds (Among before) (IsFreed x) → Finds (Among before) (IsEnder x (hop_at pass k))
+    ended_before x pass is k g f =
         let r = released_before x k g f in
-        ended x pass is k small r.event (among_split before r.event r.known) r.is.freed r.is.release
+        let few : k < 15 = acquire_few x k (record { event = g.event; known = subst (λ (l : List Event). Among l g.event) (sym q) (among_left before rest g.event g.known); is = g.is }) in
+        ended x pass is k few r.event (among_split before r.event r.known) r.is.freed r.is.release
 
   module _ (before after : List Event) (e : Event) (q : h ≡ before ++ e ∷ after) where
     -- a call of x has its Acquire before it
@@ -179,11 +188,8 @@ module _ (w : World) (slots : ℕ → ℕ) (issued : List Entry → TxnId → �
         let b = backed_call w (Among before) x o i.phase i.answer e (pr.backed before e after q) i.call in
         let pass = b.passage in
         let k = b.call.hop in
-        let good = pr.world.passages x pass b.is in
-        let below : k < hop_count pass = b.call.below in
-        let few : hop_count pass ≤ 15 = good.few in
         let c : IsCall x (hop_at pass k) i.phase i.answer e = subst (λ (n : ℕ). IsCall x n i.phase i.answer e) (sym b.call.place) i.call in
-        let d = ended_before before (e ∷ after) q x pass b.is k (omega arith) (acquired x pass b.is k below i.phase i.answer c) f in
+        let d = ended_before before (e ∷ after) q x pass b.is k (acquired x pass b.is k b.call.below i.phase i.answer c) f in
         quiet_in (sayings x (hop_at pass k) before) (says d.is.phase d.is.answer)
         (quiet i.phase (sayings x (hop_at pass k) before) (came w slots issued h pr before after e q x (hop_at pass k) i.phase i.answer c).0)
         (said_in x (hop_at pass k) before d.event d.is.phase d.is.answer d.known d.is.call) d.is.ends

@@ -5,7 +5,8 @@ use Rattle.tlm_types.specs.declared.words.TxnId.{TxnId}
 use Rattle.tlm_types.specs.declared.entry.What.{What}
 use Rattle.tlm_types.specs.declared.entry.What.TheVariants.{Access as Accessed, Granted, Invalidated, Closed, Call, Take, Acquire, Release}
 use Rattle.flow_model.specs.Events.{Event, Among, Finds, IsTakeOf}
-use Rattle.flow_model.specs.Pools.{Life, Slots, put, more, fewer, slots_by, slots_after, no_slots, PoolStepBy, AcquireStep, ReleaseStep, IsLive}
+use Rattle.flow_model.specs.Pools.{Life, Slots, more, fewer, slots_by, slots_after, PoolStepBy, AcquireStep, ReleaseStep, IsLive}
+use Rattle.flow_model.specs.Slots.{put, no_slots}
 use Rattle.flow_law.proofs.Forms.{TakesOnce, is_txn, acquires, acquire_by, PoolSteps}
 use Rattle.flow_law.proofs.Numbers.{Distinct, all_held}
 use Rattle.flow_law.proofs.Once.{once_same}
@@ -394,6 +395,14 @@ module _ (slots : ℕ) (log : List Event) (steps : PoolSteps slots log) (once : 
       let s : AcquireStep (slots_after no_slots l) c.slot e.txn e.number = subst (λ (v : What). PoolStepBy slots (slots_after no_slots l) e.txn e.number v) c.what (steps l e a q) in
       let g = (inv_at l (e ∷ a) q).lives c.slot s.live.life s.live.is in
       sym c.number ∙ (s.number ∙ (sym g.counted ∙ ap (λ (y : TxnId). acquires y l) (s.live.txn ∙ c.txn)))
+
+  -- a pool acquires at most 15 references of a transaction: the number 15 is left for that of its initiator
+  pub number_few : (l a : List Event) (e : Event) → log ≡ l ++ e ∷ a → (x : TxnId) (n : ℕ) → AcquireOf x n e → n < 15
+  number_few l a e q x n c =
+      let s : AcquireStep (slots_after no_slots l) c.slot e.txn e.number = subst (λ (v : What). PoolStepBy slots (slots_after no_slots l) e.txn e.number v) c.what (steps l e a q) in
+      let f : e.number < 15 = s.few in
+      let r : e.number ≡ n = c.number in
+      omega arith
 
   -- at the freed Release
   module _ (l a : List Event) (e : Event) (q : log ≡ l ++ e ∷ a) (x : TxnId) (r : FreedOf x e) where

@@ -19,9 +19,9 @@ use Rattle.flow_model.specs.Backed.{TimeBacked, BackedBy, EndsRequestBy as EndsR
 use Rattle.flow_model.specs.Events.{Event, Among, Finds, IsCall, IsPhase, IsOwn, at, hop_log}
 use Rattle.flow_model.specs.Numbers.{ReqIs, UpFrom, RspFrom, NumberOf, released_hop, IsByReturn, served_hop, IsAnswered}
 use Rattle.flow_model.specs.Points.{CallTimed, TimedBy, IsTimed}
-use Rattle.flow_model.specs.World.{World, Passage, hop_count, hop_at, row_by, row_of, is_refused, IsRouterMode}
+use Rattle.flow_model.specs.World.{World, Passage, hop_count, hop_at, row_by, row_of, is_refused}
 use Rattle.flow_law.proofs.Each.{each_from}
-use Rattle.flow_law.proofs.Forms.{Saying, says, sayings, RequestAnswer, is_requested, ends_request, request_end, Given}
+use Rattle.flow_law.proofs.Forms.{Saying, says, sayings, is_requested, ends_request, request_end, Given}
 use Rattle.flow_law.proofs.LastRequest.{last_is_greatest}
 use Rattle.flow_law.proofs.More.{rsp_more}
 use Rattle.flow_law.proofs.Nodes.{OneOf, before_call, RowAnswer}
@@ -117,18 +117,44 @@ not_last k n below q =
     let r : ¬ (k + 1 ≡ n) = λ s. cc (eq-eqb (k + 1) n s) in
     omega arith
 
-router_held : (r : ReqMode) (a : TlmSync) → IsRouterMode r → RequestAnswer r a → ¬ IsByReturn a
-router_held Accept a m q = subst (λ (b : TlmSync). ¬ IsByReturn b) (sym q) (λ r. r)
-router_held AtOnce a m q = subst (λ (b : TlmSync). ¬ IsByReturn b) (sym q) (λ r. r)
-router_held Short a m q = absurd m
-router_held WithResponse a m q = absurd m
-router_held Complete a m q = absurd m
-
 more_left : (xs : List ℕ) (k p : ℕ) (rest : List ℕ) → drop (k + 1) xs ≡ p ∷ rest → k + 1 < length xs
 more_left xs k p rest q =
     let l : length (drop (k + 1) xs) ≡ suc (length rest) = ap length q in
     let m : length (drop (k + 1) xs) ≡ length xs - (k + 1) = length-drop (k + 1) xs in
     omega arith
+
+first_same : (p q : ℕ) (l m : List ℕ) → p ∷ l ≡ q ∷ m → p ≡ q
+first_same p q l m r = cc
+
+rest_same : (p q : ℕ) (l m : List ℕ) → p ∷ l ≡ q ∷ m → l ≡ m
+rest_same p q l m r = cc
+
+pub rest_at : (pass : Passage) (k : ℕ) → suc k < hop_count pass → drop (k + 1) pass.hops ≡ hop_at pass (suc k) ∷ drop (suc k + 1) pass.hops
+rest_at pass k below = ap (λ (n : ℕ). drop n pass.hops) (add-one k) ∙ drop_more pass.hops (suc k) 0 below
+
+-- the hop after hop k, where p and these are the rest of the way
+pub record IsNext (pass : Passage) (k p : ℕ) (rest : List ℕ) : Type 0 where
+  pub below : suc k < hop_count pass
+  pub hop : p ≡ hop_at pass (suc k)
+  pub rest_is : drop (suc k + 1) pass.hops ≡ rest
+
+pub next_hop : (pass : Passage) (k p : ℕ) (rest : List ℕ) → drop (k + 1) pass.hops ≡ p ∷ rest → IsNext pass k p rest
+next_hop pass k p rest d =
+    let more : k + 1 < length pass.hops = more_left pass.hops k p rest d in
+    let below : suc k < hop_count pass = omega arith in
+    let q : p ∷ rest ≡ hop_at pass (suc k) ∷ drop (suc k + 1) pass.hops = sym d ∙ rest_at pass k below in
+    record {
+      below = below;
+      hop = first_same p (hop_at pass (suc k)) rest (drop (suc k + 1) pass.hops) q;
+      rest_is = sym (rest_same p (hop_at pass (suc k)) rest (drop (suc k + 1) pass.hops) q);
+    }
+
+-- the BEGIN_REQ of x on a hop, at this time at most
+pub record IsBegunBy (h : List Event) (x : TxnId) (o : ℕ) (t : ℕ) : Type 0 where
+  pub event : Event
+  pub known : Among h event
+  pub is : IsPhase x o BeginReq event
+  pub least : event.time ≤ t
 
 module _ (w : World) (slots : ℕ → ℕ) (issued : List Entry → TxnId → ℕ) (h : List Event) (pr : Given w slots issued h) where
   pub begin_same : (x : TxnId) (o : ℕ) (f g : Event) → Among h f → IsPhase x o BeginReq f → Among h g → IsPhase x o BeginReq g → f ≡ g
@@ -159,12 +185,56 @@ module _ (w : World) (slots : ℕ → ℕ) (issued : List Entry → TxnId → �
       let v = subst (λ (e : Event). IsCall x o BeginReq b.answer e) (sym same) u.is in
       b.held (subst IsByReturn (answer_of ans.answer b.answer (sym ans.call.what ∙ v.what)) ans.brings)
 
-  -- on a hop that leads on no BEGIN_REQ brings the response
-  pub none_answered : (x : TxnId) (pass : Passage) → w.passage x ≡ Some pass → (k : ℕ) → k + 1 < hop_count pass → (g : Event) → Among h g → ¬ IsAnswered x (hop_at pass k) g
-  none_answered x pass is k below g m ans =
+  -- before a BEGIN_RESP there is a BEGIN_REQ
+  begun_before : (x : TxnId) (o : ℕ) (g : Event) → Among h g → IsPhase x o BeginResp g → IsBegunBy h x o g.time
+  begun_before x o g m i =
       let s = among_split h g m in
-      let c = step w slots issued h pr s.before s.after g s.is x (hop_at pass k) BeginReq ans.answer ans.call in
-      router_held (w.hop (hop_at pass k)).req ans.answer (pr.world.routers x pass is k below) (c.request_answer refl) ans.brings
+      let b = held BeginResp (sayings x o s.before) (came w slots issued h pr s.before s.after g s.is x o BeginResp i.answer i.call).0 (inr refl) in
+      let u = in_said x o s.before BeginReq b.answer b.said in
+      record {
+        event = u.event;
+        known = among_whole h s.before s.after g u.event s.is u.known;
+        is = record { answer = b.answer; call = u.is };
+        least = own_le x o u.event g (record { place = s; known = u.known }) (record { phase = BeginReq; answer = b.answer; call = u.is }) (record { phase = BeginResp; answer = i.answer; call = i.call });
+      }
+
+  -- the BEGIN_REQ on a hop has at most the time of that on the next
+  begin_le : (x : TxnId) (pass : Passage) → w.passage x ≡ Some pass → (k : ℕ) → suc k < hop_count pass → (f g : Event) → Among h f → IsPhase x (hop_at pass k) BeginReq f → Among h g → IsPhase x (hop_at pass (suc k)) BeginReq g → f.time ≤ g.time
+  begin_le x pass is k below f g m i n j =
+      let s = among_split h g n in
+      let d = backed_at w slots issued h pr s.before s.after g s.is x (hop_at pass (suc k)) BeginReq j.answer j.call pass is (suc k) below refl in
+      let p = d.time.is_number in
+      let same : f ≡ p.is_req.event = begin_same x (hop_at pass k) f p.is_req.event m i (among_whole h s.before s.after g p.is_req.event s.is p.is_req.known) p.is_req.is in
+      let t : f.time ≡ p.is_req.event.time = ap (λ (y : Event). y.time) same in
+      let u : p.is_req.event.time ≡ p.req = p.is_req.time in
+      let v : d.time.number ≡ later p.req (w.hop (hop_at pass k)).latency = p.sum in
+      let z : f.time ≤ greatest_time = pr.times f m in
+      let y : d.time.number ≤ g.time = at_least w (Among s.before) x pass (suc k) BeginReq g.time d.time in
+      omega arith
+
+  -- where the response of x is there on a hop, its BEGIN_REQ there has at most this time
+  begin_up : (x : TxnId) (pass : Passage) → w.passage x ≡ Some pass → (rest : List ℕ) (k : ℕ) → drop (k + 1) pass.hops ≡ rest → (t : ℕ) → UpFrom w (Among h) x (hop_at pass k) rest t
+      → (f : Event) → Among h f → IsPhase x (hop_at pass k) BeginReq f → f.time ≤ t
+  begin_up x pass is [] k d t u f m i =
+      let same : f ≡ u.is_req.event = begin_same x (hop_at pass k) f u.is_req.event m i u.is_req.known u.is_req.is in
+      let a : f.time ≡ u.is_req.event.time = ap (λ (y : Event). y.time) same in
+      let b : u.is_req.event.time ≡ u.req = u.is_req.time in
+      let c : t ≡ later u.req (w.hop (hop_at pass k)).latency = u.sum in
+      let z : f.time ≤ greatest_time = pr.times f m in
+      omega arith
+  begin_up x pass is (p ∷ rest) k d t (inl g) f m i =
+      let n = next_hop pass k p rest d in
+      let b = begun_before x (hop_at pass (suc k)) g.event g.known (subst (λ (o : ℕ). IsPhase x o BeginResp g.event) n.hop g.is) in
+      let a : f.time ≤ b.event.time = begin_le x pass is k n.below f b.event m i b.known b.is in
+      let c : b.event.time ≤ g.event.time = b.least in
+      let e : g.event.time ≡ t = g.time in
+      omega arith
+  begin_up x pass is (p ∷ rest) k d t (inr g) f m i =
+      let n = next_hop pass k p rest d in
+      let r : IsPhase x (hop_at pass (suc k)) BeginReq g.0.event = record { answer = g.0.is.answer; call = subst (λ (o : ℕ). IsCall x o BeginReq g.0.is.answer g.0.event) n.hop g.0.is.call } in
+      let a : f.time ≤ g.0.event.time = begin_le x pass is k n.below f g.0.event m i g.0.known r in
+      let b : g.0.event.time ≤ t = begin_up x pass is rest (suc k) n.rest_is t (subst (λ (o : ℕ). UpFrom w (Among h) x o rest t) n.hop g.1) g.0.event g.0.known r in
+      omega arith
 
   -- an own call before END_RESP has at most the time rsp
   own_rsp : (before after : List Event) (e : Event) → h ≡ before ++ e ∷ after → (x : TxnId) (pass : Passage) → w.passage x ≡ Some pass → (k : ℕ) → (a : TlmSync) → IsCall x (hop_at pass k) EndResp a e
@@ -195,23 +265,14 @@ module _ (w : World) (slots : ℕ → ℕ) (issued : List Entry → TxnId → �
           tell EndResp v (inl u) = cc
           tell EndResp v (inr (inl u)) = cc
           tell EndResp v (inr (inr u)) = cc
-  own_rsp before after e q x pass is k a c f m i [] d r (inr g) =
+  own_rsp before after e q x pass is k a c f m i rest d r (inr g) =
       elim (own_phase before after e q x (hop_at pass k) EndResp a c f m i) [
-        | inl s ↦ (
-            let b : IsPhase x (hop_at pass k) BeginReq f = record { answer = i.answer; call = subst (λ (p : Phase). IsCall x (hop_at pass k) p i.answer f) s i.call } in
-            let same : f ≡ g.1.is_req.event = begin_same x (hop_at pass k) f g.1.is_req.event n b g.1.is_req.known g.1.is_req.is in
-            let t : f.time ≡ g.1.is_req.event.time = ap (λ (y : Event). y.time) same in
-            let u : g.1.is_req.event.time ≡ g.1.req = g.1.is_req.time in
-            let v : r ≡ later g.1.req (w.hop (hop_at pass k)).latency = g.1.sum in
-            let z : f.time ≤ greatest_time = pr.times f n in
-            omega arith)
+        | inl s ↦ begin_up x pass is rest k d r g.1 f n (record { answer = i.answer; call = subst (λ (p : Phase). IsCall x (hop_at pass k) p i.answer f) s i.call })
         | inr s ↦ absurd (answered_begin x (hop_at pass k) g.0.event g.0.known g.0.is f n i s)
       ]
     where
       n : Among h f
       n = among_whole h before after e f q m
-  own_rsp before after e q x pass is k a c f m i (p ∷ rest) d r (inr g) =
-      absurd (none_answered x pass is k (more_left pass.hops k p rest d) g.0.event g.0.known g.0.is)
 
   among_more : (before after : List Event) (e : Event) → h ≡ before ++ e ∷ after → (f : Event) → Among before f → Among h f
   among_more before after e q f m = among_whole h before after e f q m
@@ -316,15 +377,8 @@ module _ (w : World) (slots : ℕ → ℕ) (issued : List Entry → TxnId → �
     late_end_req a c f known i false mem n r =
         let b = backed_at w slots issued h pr before after e q x (hop_at pass k) EndReq a c pass is k below refl in
         let ahead : suc k < hop_count pass = not_last k (hop_count pass) below (leads_on (nat_eq (k + 1) (hop_count pass)) (w.hop (hop_at pass k)).to_memory (w.hop (hop_at pass k)).req b.sequence mem) in
-        let s = among_split h r.event (among_more before after e q r.event r.known) in
-        let d = backed_at w slots issued h pr s.before s.after r.event s.is x (hop_at pass (k + 1)) BeginReq r.is.answer r.is.call pass is (suc k) ahead (ap (hop_at pass) (sym (add-one k))) in
-        let p = d.time.is_number in
-        let same : f ≡ p.is_req.event = begin_same x (hop_at pass k) f p.is_req.event (among_more before after e q f known) i (among_more s.before s.after r.event s.is p.is_req.event p.is_req.known) p.is_req.is in
-        let t : f.time ≡ p.is_req.event.time = ap (λ (y : Event). y.time) same in
-        let u : p.is_req.event.time ≡ p.req = p.is_req.time in
-        let v : d.time.number ≡ later p.req (w.hop (hop_at pass k)).latency = p.sum in
-        let z : f.time ≤ greatest_time = pr.times f (among_more before after e q f known) in
-        let y : d.time.number ≤ r.event.time = at_least w (Among s.before) x pass (suc k) BeginReq r.event.time d.time in
+        let j : IsPhase x (hop_at pass (suc k)) BeginReq r.event = subst (λ (m : ℕ). IsPhase x (hop_at pass m) BeginReq r.event) (add-one k) r.is in
+        let y : f.time ≤ r.event.time = begin_le x pass is k ahead f r.event (among_more before after e q f known) i (among_more before after e q r.event r.known) j in
         let g : r.event.time ≡ n = r.time in
         omega arith
 
@@ -360,13 +414,13 @@ module _ (w : World) (slots : ℕ → ℕ) (issued : List Entry → TxnId → �
     late_end_resp zero below a c f m i n r =
         own_rsp before after e q x pass is zero a c f m i (drop (0 + 1) pass.hops) refl n (rsp_more w (Among before) (Among h) (among_more before after e q) x (hop_at pass 0) (drop (0 + 1) pass.hops) n r)
     late_end_resp (suc j) below a c f m i n (inr r) =
-        absurd (none_answered x pass is j (omega arith) r.0.event (among_more before after e q r.0.event r.0.known) r.0.is)
+        own_rsp before after e q x pass is (suc j) a c f m i (drop (suc j + 1) pass.hops) refl n
+        (rsp_more w (Among before) (Among h) (among_more before after e q) x (hop_at pass (suc j)) (drop (suc j + 1) pass.hops) n
+        (subst (λ (l : List ℕ). UpFrom w (Among before) x (hop_at pass j) l n) (rest_at pass j below) r.1))
     late_end_resp (suc j) below a c f m i n (inl r) =
         let s = among_split h r.event (among_more before after e q r.event r.known) in
         let d = backed_at w slots issued h pr s.before s.after r.event s.is x (hop_at pass j) BeginResp r.is.answer r.is.call pass is j (omega arith) refl in
-        let here : drop (j + 1) pass.hops ≡ hop_at pass (suc j) ∷ drop (suc j + 1) pass.hops =
-        ap (λ (n : ℕ). drop n pass.hops) (add-one j) ∙ drop_more pass.hops (suc j) 0 below in
-        let u : RspFrom w (Among s.before) x (hop_at pass (suc j)) (drop (suc j + 1) pass.hops) d.time.number = subst (λ (l : List ℕ). UpFrom w (Among s.before) x (hop_at pass j) l d.time.number) here d.time.is_number in
+        let u : RspFrom w (Among s.before) x (hop_at pass (suc j)) (drop (suc j + 1) pass.hops) d.time.number = subst (λ (l : List ℕ). UpFrom w (Among s.before) x (hop_at pass j) l d.time.number) (rest_at pass j below) d.time.is_number in
         let v : f.time ≤ d.time.number = own_rsp before after e q x pass is (suc j) a c f m i (drop (suc j + 1) pass.hops) refl d.time.number
         (rsp_more w (Among s.before) (Among h) (among_more s.before s.after r.event s.is) x (hop_at pass (suc j)) (drop (suc j + 1) pass.hops) d.time.number u) in
         let y : d.time.number ≤ r.event.time = at_least w (Among s.before) x pass j BeginResp r.event.time d.time in

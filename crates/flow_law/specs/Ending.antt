@@ -10,7 +10,8 @@ use Rattle.hop_model.specs.Table.{sequences_of}
 use Rattle.flow_model.specs.World.{World, Passage, hop_count, hop_at, row_of}
 use Rattle.flow_model.specs.Events.{Event, Among, Finds, IsAcquire, IsAccess, IsFreedOf, IsReleased, IsTakeOf, acquires, entries, hop_log}
 use Rattle.flow_model.specs.Numbers.{ReqIs, ArrIs, UpIs, RspIs, EndIs, released_hop}
-use Rattle.flow_model.specs.Pools.{IsPoolLog, slots_after, no_slots}
+use Rattle.flow_model.specs.Pools.{IsPoolLog, slots_after}
+use Rattle.flow_model.specs.Slots.{no_slots}
 use Rattle.flow_model.specs.Points.{IsFreed}
 use Rattle.flow_law.specs.Law.{Premises}
 

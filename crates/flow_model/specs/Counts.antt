@@ -1,6 +1,6 @@
 -- The log of a payload pool without the numbers of its references: each live slot has its transaction and its count of
 -- references (IEEE 1666-2011, clause 14.5).
-use Rattle.std.specs.Prelude.{ℕ, ◌≡◌, ◌+◌, ◌-◌, ◌<◌, List, [], ◌∷◌, Option, Some, None, Bool, true, if◌then◌else◌, ◌==◌, IsSome, MatchOption}
+use Rattle.std.specs.Prelude.{ℕ, ◌≡◌, ◌+◌, ◌-◌, List, [], ◌∷◌, Option, Some, None, Bool, true, if◌then◌else◌, ◌==◌, MatchOption}
 use Rattle.std.specs.List.{flat_map}
 use Rattle.tlm_types.specs.declared.words.TxnId.{TxnId}
 use Rattle.tlm_types.specs.declared.entry.Entry.{Entry}
@@ -8,6 +8,7 @@ use Rattle.tlm_types.specs.declared.entry.What.{What}
 use Rattle.tlm_types.specs.declared.entry.What.TheVariants.{Take, Acquire, Release}
 use Rattle.tlm_model.specs.Each.{AtEach}
 use Rattle.hop_model.specs.Calls.{is_of}
+use Rattle.flow_model.specs.Slots.{SlotsOf, TakesLeast, no_slots, put}
 
 pub record Counted : Type 0 where
   pub txn : TxnId
@@ -15,13 +16,7 @@ pub record Counted : Type 0 where
 
 -- the live slots
 abbrev pub Counts : Type 0
-Counts = ℕ → Option Counted
-
-abbrev pub no_counts : Counts
-no_counts k = None
-
-abbrev pub with_slot : Counts → ℕ → Option Counted → Counts
-with_slot s k c j = if j == k then c else s j
+Counts = SlotsOf Counted
 
 abbrev pub one_more : Option Counted → Option Counted
 one_more None = None
@@ -33,20 +28,14 @@ one_less None = None
 one_less (Some c) = if c.count == 1 then None else Some (record { txn = c.txn; count = c.count - 1 })
 
 abbrev pub counts_by : Counts → TxnId → What → Counts
-counts_by s x (Take k) = with_slot s k (Some (record { txn = x; count = 1 }))
-counts_by s x (Acquire k) = with_slot s k (one_more (s k))
-counts_by s x (Release k freed) = with_slot s k (one_less (s k))
+counts_by s x (Take k) = put s k (Some (record { txn = x; count = 1 }))
+counts_by s x (Acquire k) = put s k (one_more (s k))
+counts_by s x (Release k freed) = put s k (one_less (s k))
 counts_by s x _ = s
 
 abbrev pub counts_after : Counts → List Entry → Counts
 counts_after s [] = s
 counts_after s (e ∷ es) = counts_after (counts_by s e.txn e.what) es
-
--- a Take takes the least slot that isn't live
-pub record TakesLeast (slots : ℕ) (s : Counts) (k : ℕ) : Type 0 where
-  pub below : k < slots
-  pub free : s k ≡ None
-  pub least : (j : ℕ) → j < k → IsSome (s j)
 
 -- an Acquire or Release names a live slot of its transaction; the Release that makes the count 0 is freed, and no other
 abbrev pub CountStep : ℕ → Counts → TxnId → What → Type 0
@@ -56,7 +45,7 @@ CountStep slots s x (Release k freed) = MatchOption (s k) ⊥ (λ c. (c.txn ≡ 
 CountStep slots s x _ = ⊥
 
 abbrev pub KeepsCounts : ℕ → List Entry → Type 0
-KeepsCounts slots log = AtEach (λ before e. CountStep slots (counts_after no_counts before) e.txn e.what) log
+KeepsCounts slots log = AtEach (λ before e. CountStep slots (counts_after no_slots before) e.txn e.what) log
 
 -- how many Takes and Releases of x the log has
 abbrev pub take_by : Bool → What → ℕ

@@ -2,6 +2,7 @@ pub mod World
 pub mod Events
 pub mod Numbers
 pub mod Backed
+pub mod Slots
 pub mod Pools
 pub mod Points
 pub mod Counts

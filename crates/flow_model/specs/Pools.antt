@@ -1,10 +1,11 @@
 -- The log of a payload pool: the lives of its slots (IEEE 1666-2011, clause 14.5: a pooled payload counts its references).
-use Rattle.std.specs.Prelude.{ℕ, ◌≡◌, ◌+◌, ◌<◌, List, [], ◌∷◌, length, Option, Some, None, Bool, true, false, if◌then◌else◌, ◌⊎◌, ◌==◌, IsSome}
+use Rattle.std.specs.Prelude.{ℕ, ◌≡◌, ◌+◌, ◌<◌, List, [], ◌∷◌, length, Option, Some, None, Bool, true, false, ◌⊎◌, ◌==◌}
 use Rattle.tlm_types.specs.declared.words.TxnId.{TxnId}
 use Rattle.tlm_types.specs.declared.entry.What.{What}
 use Rattle.tlm_types.specs.declared.entry.What.TheVariants.{Take, Acquire, Release}
 use Rattle.tlm_model.specs.Each.{AtEach}
 use Rattle.flow_model.specs.Events.{Event, Among, Finds, IsTakeOf}
+use Rattle.flow_model.specs.Slots.{SlotsOf, TakesLeast, no_slots, put}
 
 -- a life of a slot: its transaction, the number of its Acquires, and the numbers of its Releases. Its references are the one
 -- of the Take and those of the Acquires, less those released
@@ -14,10 +15,7 @@ pub record Life : Type 0 where
   pub released : List ℕ
 
 abbrev pub Slots : Type 0
-Slots = ℕ → Option Life
-
-abbrev pub put : Slots → ℕ → Option Life → Slots
-put s k l j = if j == k then l else s j
+Slots = SlotsOf Life
 
 abbrev pub more : Option Life → Option Life
 more None = None
@@ -38,15 +36,13 @@ abbrev pub slots_after : Slots → List Event → Slots
 slots_after s [] = s
 slots_after s (e ∷ es) = slots_after (slots_by s e.txn e.number e.what) es
 
-abbrev pub no_slots : Slots
-no_slots k = None
-
 -- the slot is live, with this transaction
 pub record IsLive (s : Slots) (k : ℕ) (x : TxnId) : Type 0 where
   pub life : Life
   pub is : s k ≡ Some life
   pub txn : life.txn ≡ x
 
+-- fewer than 15: that number is left for the reference of the initiator
 pub record AcquireStep (s : Slots) (k : ℕ) (x : TxnId) (n : ℕ) : Type 0 where
   pub live : IsLive s k x
   pub number : n ≡ live.life.acquired
@@ -59,13 +55,8 @@ pub record ReleaseStep (s : Slots) (k : ℕ) (x : TxnId) (n : ℕ) (freed : Bool
   pub new : ¬ Among live.life.released n
   pub is_freed : freed ≡ (length live.life.released == live.life.acquired)
 
-pub record TakeStep (slots : ℕ) (s : Slots) (k : ℕ) : Type 0 where
-  pub below : k < slots
-  pub free : s k ≡ None
-  pub least : (j : ℕ) → j < k → IsSome (s j)
-
 abbrev pub PoolStepBy : ℕ → Slots → TxnId → ℕ → What → Type 0
-PoolStepBy slots s x n (Take k) = TakeStep slots s k
+PoolStepBy slots s x n (Take k) = TakesLeast slots s k
 PoolStepBy slots s x n (Acquire k) = AcquireStep s k x n
 PoolStepBy slots s x n (Release k freed) = ReleaseStep s k x n freed
 PoolStepBy slots s x n _ = ⊥

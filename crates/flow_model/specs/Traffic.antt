@@ -83,12 +83,20 @@ HasEnded p before i r (Some pass) = IsWhole (calls_of (record { initiator = i.nu
 abbrev pub IsWaitedFor : Plan → List Entry → Initiator → Request → Request → Type 0
 IsWaitedFor p before i q r = IsTrue (comes_first i.row.style r q) → HasEnded p before i r ((world_of p).passage (record { initiator = i.number; seq = r.seq }))
 
+-- the entries of a four-phase initiator's other requests have its current time
+abbrev pub IssuesInTime : Plan → List Entry → Type 0
+IssuesInTime p h = AtEach (λ before e. OfRequest p before e (λ i r. IsIssuedBy i.row.style e.time (issue_time p before e.txn) e.what)) h
+
+-- no entry of a request stands before the accesses have ended for which its initiator waits
+abbrev pub WaitsForEnds : Plan → List Entry → Type 0
+WaitsForEnds p h = AtEach (λ before e. OfRequest p before e (λ i q. AllByRecursion (IsWaitedFor p before i q) (requests_of p.platform i before))) h
+
 -- the entries of accesses have the times that their earlier entries give, and those of other requests the current time of their
 -- initiator, which waits before each operation that isn't a plain access
 pub record HasPhaseTimes (p : Plan) (h : List Entry) : Type 0 where
   pub calls : IsTimed (world_of p) (issue_time p) (numbered h)
-  pub others : AtEach (λ before e. OfRequest p before e (λ i r. IsIssuedBy i.row.style e.time (issue_time p before e.txn) e.what)) h
-  pub waits : AtEach (λ before e. OfRequest p before e (λ i q. AllByRecursion (IsWaitedFor p before i q) (requests_of p.platform i before))) h
+  pub others : IssuesInTime p h
+  pub waits : WaitsForEnds p h
 
 -- At the end: each access has a whole sequence on each of its hops
 pub record HasWholeSequences (p : Plan) (h : List Entry) : Type 0 where

@@ -1,7 +1,7 @@
 -- What four-phase traffic reads of a platform: the components at the ends of each hop, and the hops of each access.
-use Rattle.std.specs.Prelude.{ℕ, ◌≡◌, ◌+◌, ◌<◌, ◌≤◌, List, length, get_or, Option, Some, Bool, true, false, not, ◌&&◌, ◌==◌}
+use Rattle.std.specs.Prelude.{ℕ, ◌≡◌, ◌+◌, ◌<◌, List, length, get_or, Option, Some, Bool, true, false, not, ◌&&◌, ◌==◌}
 use Rattle.tlm_types.specs.declared.words.ReqMode.{ReqMode}
-use Rattle.tlm_types.specs.declared.words.ReqMode.TheVariants.{Accept, Short, EndReq}
+use Rattle.tlm_types.specs.declared.words.ReqMode.TheVariants.{Accept, Short}
 use Rattle.tlm_types.specs.declared.words.TxnId.{TxnId}
 use Rattle.hop_model.specs.Board.{Rules}
 
@@ -43,19 +43,10 @@ is_refused w pass k = (k + 1 == hop_count pass) && not (w.hop (hop_at pass k)).t
 abbrev pub row_of : World → Passage → ℕ → ReqMode
 row_of w pass k = row_by (is_refused w pass k) (w.hop (hop_at pass k)).req
 
--- No access passes a hop twice, and at most 15 hops: the number 15 is left for the reference of its initiator.
+-- No access passes a hop twice.
 pub record IsPassage (pass : Passage) : Type 0 where
-  pub some : 0 < hop_count pass
-  pub few : hop_count pass ≤ 15
   pub distinct : (j k : ℕ) → j < hop_count pass → k < hop_count pass → hop_at pass j ≡ hop_at pass k → j ≡ k
 
--- a router gives no response with the answer to BEGIN_REQ
-abbrev pub IsRouterMode : ReqMode → Type 0
-IsRouterMode Accept = Unit {0}
-IsRouterMode EndReq = Unit {0}
-IsRouterMode _ = ⊥
-
--- the accesses pass hops as they may, and a hop that leads on leads to a router
+-- the accesses pass hops as they may
 pub record IsWorld (w : World) : Type 0 where
   pub passages : (x : TxnId) (pass : Passage) → w.passage x ≡ Some pass → IsPassage pass
-  pub routers : (x : TxnId) (pass : Passage) → w.passage x ≡ Some pass → (k : ℕ) → k + 1 < hop_count pass → IsRouterMode (w.hop (hop_at pass k)).req

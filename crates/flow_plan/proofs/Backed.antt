@@ -8,7 +8,7 @@ use Rattle.flow_model.specs.Platform.{world_of}
 use Rattle.flow_model.specs.Traffic.{slots_of}
 use Rattle.flow_law.proofs.CallLists.{entries-at}
 use Rattle.flow_law.proofs.TheLaw.{law}
-use Rattle.flow_plan.specs.Plans.{TrafficLaw}
+use Rattle.flow_plan.specs.Plans.{IssueLaw, TrafficLaw}
 use Rattle.flow_plan.proofs.PoolCounts.{counted, taken_once}
 
 pub traffic_law : TrafficLaw
@@ -25,3 +25,12 @@ traffic_law p h pr =
       };
       times = c.times;
     }
+
+pub issue_law : IssueLaw
+issue_law p h t others waits = record {
+  phases = t.phases;
+  exclusive = t.exclusive;
+  passes = t.passes;
+  pools = t.pools;
+  times = record { calls = t.times; others = others; waits = waits };
+}

@@ -15,6 +15,7 @@ use Rattle.tlm_model.specs.History.{entries_at, is_object}
 use Rattle.tlm_model.specs.Plan.{Plan, Initiator, initiators_of}
 use Rattle.tlm_model.specs.Requests.{Request, requests_of}
 use Rattle.tlm_model.specs.Scripts.{OfRequest}
+use Rattle.tlm_model.proofs.EachLemmas.{EachFrom-weaker}
 use Rattle.tlm_model.proofs.HistoryLemmas.{AllByRecursion-push}
 use Rattle.hop_model.specs.ByRules.{KeepsRules}
 use Rattle.hop_model.specs.Protocol.{IsExclusive}
@@ -27,8 +28,8 @@ use Rattle.flow_model.specs.Points.{InOrderBy, IsFreed, TimedBy}
 use Rattle.flow_model.specs.Traffic.{HasEnded, IsIssuedBy, IsWaitedFor, slots_of}
 use Rattle.flow_plan.specs.Plans.{DecoupledTraffic, HasNoFourPhase, IsAsked, IsDecoupled, KeepsTraffic, EndsTraffic}
 
--- nobody passes a hop
-all_at : {X : Type 0} (P : X → Type 0) (xs : List X) (k : ℕ) (x : X) → AllByRecursion P xs → slice_get xs k ≡ Some x → P x
+-- what holds of each holds of the one at place k
+pub all_at : {X : Type 0} (P : X → Type 0) (xs : List X) (k : ℕ) (x : X) → AllByRecursion P xs → slice_get xs k ≡ Some x → P x
 all_at P [] k x a q = cc
 all_at P (y ∷ xs) zero x a q = subst P (some_same y x q) a.0
   where
@@ -36,7 +37,8 @@ all_at P (y ∷ xs) zero x a q = subst P (some_same y x q) a.0
     some_same a b q = cc
 all_at P (y ∷ xs) (suc k) x a q = all_at P xs k x a.1 q
 
-no_passage : (p : Plan) → HasNoFourPhase p → (x : TxnId) → (world_of p).passage x ≡ None
+-- nobody passes a hop
+pub no_passage : (p : Plan) → HasNoFourPhase p → (x : TxnId) → (world_of p).passage x ≡ None
 no_passage p none x = go (slice_get (initiators_of p) x.initiator) refl
   where
     by_style : (i : Initiator) (s : Style) → s ≢ FourPhase → (a : Option (Option ℕ)) → passage_to p.platform i s a ≡ None
@@ -79,10 +81,6 @@ each_numbered P f before b (e ∷ h) c a =
 each_true : {X : Type 0} (P : List X → X → Type 0) → ((before : List X) (x : X) → P before x) → (before xs : List X) → EachFrom P before xs
 each_true P f before [] = tt
 each_true P f before (x ∷ xs) = (f before x, each_true P f (before ++ x ∷ []) xs)
-
-each_more : {X : Type 0} (P Q : List X → X → Type 0) → ((before : List X) (x : X) → P before x → Q before x) → (before xs : List X) → EachFrom P before xs → EachFrom Q before xs
-each_more P Q f before [] e = tt
-each_more P Q f before (x ∷ xs) e = (f before x e.0, each_more P Q f (before ++ x ∷ []) xs e.1)
 
 all_true : {X : Type 0} (P : X → Type 0) → ((x : X) → P x) → (xs : List X) → AllByRecursion P xs
 all_true P f [] = tt
@@ -179,8 +177,8 @@ module _ (p : Plan) (none : HasNoFourPhase p) where
       };
       times = record {
         calls = each_numbered _ (λ before e c i. subst (λ (f : Option Passage). TimedBy (world_of p) (issue_time p) before e.txn f e.object e.time e.number e.what) (sym (no_passage p none e.txn)) (timed (world_of p) (issue_time p) before e.txn e.time e.number e.object e.what i)) [] [] h tt decoupled;
-        others = each_more _ _ (λ before e a. of_request _ (λ i r n. issued_by i.row.style e.time (issue_time p before e.txn) e.what n) before e a) [] h asked;
-        waits = each_more _ _ (λ before e a. of_request _ (λ i q n. all_true _ (λ r. waited before i q r) (requests_of p.platform i before)) before e a) [] h asked;
+        others = EachFrom-weaker _ _ (λ before e a. of_request _ (λ i r n. issued_by i.row.style e.time (issue_time p before e.txn) e.what n) before e a) [] h asked;
+        waits = EachFrom-weaker _ _ (λ before e a. of_request _ (λ i q n. all_true _ (λ r. waited before i q r) (requests_of p.platform i before)) before e a) [] h asked;
       };
     }
 

@@ -27,6 +27,7 @@ use Rattle.flow_law.specs.Ending.{IsDone}
 use Rattle.flow_law.proofs.CallLists.{entries-at}
 use Rattle.flow_law.proofs.EndTimes.{end_is}
 use Rattle.flow_law.proofs.Forms.{Given, acquire_by, acquires, is_txn}
+use Rattle.flow_law.proofs.Freed.{acquire_few}
 use Rattle.flow_law.proofs.Lives.{AcquireOf, ReleaseOf, number_counted, released_once}
 use Rattle.flow_law.proofs.Numbers.{Distinct}
 use Rattle.flow_law.proofs.OtherLaws.{ending_law}
@@ -327,11 +328,20 @@ module _ (w : World) (slots : ℕ → ℕ) (issued : List Entry → TxnId → �
   log : List Event
   log = at (Pool x.initiator) h
 
-  small : hop_count pass ≤ 15
-  small = (pr.world.passages x pass is).few
-
+  -- the freed Release is that of a hop
   some_hop : 0 < hop_count pass
-  some_hop = (pr.world.passages x pass is).some
+  some_hop =
+      let s = among_split h freed.event freed.known in
+      let b = backed_release w (Among s.before) x freed.is.number true freed.event (g.backed s.before freed.event s.after s.is) freed.is.release in
+      let same : b.passage ≡ pass = some_same b.passage pass (sym b.is ∙ is) in
+      let low : released_hop freed.is.number < hop_count pass = subst (λ (q : Passage). released_hop freed.is.number < hop_count q) same b.release.below in
+      omega arith
+
+  small : hop_count pass ≤ 15
+  small =
+      let some : 0 < hop_count pass = some_hop in
+      let last : hop_count pass - 1 < 15 = acquire_few w slots issued h g x (hop_count pass - 1) (done.acquired (hop_count pass - 1) (omega arith)) in
+      omega arith
 
   -- the Take
   taken : takes x (entries_at (Pool x.initiator) (entries h)) ≡ 1

@@ -11,8 +11,9 @@ use Rattle.tlm_model.specs.Each.{EachFrom}
 use Rattle.flow_model.specs.Events.{Event, Among, Finds, IsTakeOf, entries}
 use Rattle.flow_law.proofs.Forms.{is_txn}
 use Rattle.flow_law.proofs.Sayings.{same_txn}
-use Rattle.flow_model.specs.Pools.{Life, Slots, PoolStepBy, IsPoolLog, TakesOnce, fewer, more, no_slots, slots_after, slots_by}
-use Rattle.flow_model.specs.Counts.{Counted, Counts, CountStep, KeepsCounts, TakesAtMostOnce, counts_after, counts_by, no_counts, one_less, one_more, take_by, takes}
+use Rattle.flow_model.specs.Pools.{Life, Slots, PoolStepBy, IsPoolLog, TakesOnce, fewer, more, slots_after, slots_by}
+use Rattle.flow_model.specs.Slots.{no_slots}
+use Rattle.flow_model.specs.Counts.{Counted, Counts, CountStep, KeepsCounts, TakesAtMostOnce, counts_after, counts_by, one_less, one_more, take_by, takes}
 
 -- a slot in both forms
 abbrev Agrees : Option Life → Option Counted → Type 0
@@ -130,19 +131,19 @@ module _ (slots : ℕ) (s : Slots) (c : Counts) (agree : AllAgree s c) where
 entries_push : (b : List Event) (e : Event) → entries (b ++ e ∷ []) ≡ entries b ++ e.entry ∷ []
 entries_push b e = map-append (λ (f : Event). f.entry) b (e ∷ [])
 
-kept_from : (slots : ℕ) (b rest : List Event) → AllAgree (slots_after no_slots b) (counts_after no_counts (entries b))
+kept_from : (slots : ℕ) (b rest : List Event) → AllAgree (slots_after no_slots b) (counts_after no_slots (entries b))
     → EachFrom (λ before e. PoolStepBy slots (slots_after no_slots before) e.txn e.number e.what) b rest
-    → EachFrom (λ before e. CountStep slots (counts_after no_counts before) e.txn e.what) (entries b) (entries rest)
+    → EachFrom (λ before e. CountStep slots (counts_after no_slots before) e.txn e.what) (entries b) (entries rest)
 kept_from slots b [] a f = tt
 kept_from slots b (e ∷ rest) a f =
     let s = slots_after no_slots b in
-    let c = counts_after no_counts (entries b) in
-    let more : AllAgree (slots_after no_slots (b ++ e ∷ [])) (counts_after no_counts (entries (b ++ e ∷ []))) =
-    subst (λ (t : Slots). AllAgree t (counts_after no_counts (entries (b ++ e ∷ [])))) (sym (slots_push no_slots b e))
-    (subst (λ (t : Counts). AllAgree (slots_by s e.txn e.number e.what) t) (sym (ap (counts_after no_counts) (entries_push b e) ∙ counts_push no_counts (entries b) e.entry))
+    let c = counts_after no_slots (entries b) in
+    let more : AllAgree (slots_after no_slots (b ++ e ∷ [])) (counts_after no_slots (entries (b ++ e ∷ []))) =
+    subst (λ (t : Slots). AllAgree t (counts_after no_slots (entries (b ++ e ∷ [])))) (sym (slots_push no_slots b e))
+    (subst (λ (t : Counts). AllAgree (slots_by s e.txn e.number e.what) t) (sym (ap (counts_after no_slots) (entries_push b e) ∙ counts_push no_slots (entries b) e.entry))
     (after_agrees slots s c a e.txn e.number e.what f.0)) in (
       step_agrees slots s c a e.txn e.number e.what f.0,
-      subst (λ (l : List Entry). EachFrom (λ before e. CountStep slots (counts_after no_counts before) e.txn e.what) l (entries rest)) (entries_push b e) (kept_from slots (b ++ e ∷ []) rest more f.1),
+      subst (λ (l : List Entry). EachFrom (λ before e. CountStep slots (counts_after no_slots before) e.txn e.what) l (entries rest)) (entries_push b e) (kept_from slots (b ++ e ∷ []) rest more f.1),
     )
 
 pub counted : (slots : ℕ) (log : List Event) → IsPoolLog slots log → KeepsCounts slots (entries log)

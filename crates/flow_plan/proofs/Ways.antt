@@ -1,12 +1,8 @@
 -- The ways of a platform without cycles pass no hop twice.
-use Rattle.std.proofs.Common.{◌≡◌, ℕ, zero, suc, ◌+◌, ◌-◌, ◌<◌, ◌≤◌, List, [], ◌∷◌, ◌++◌, length, map, take, get_or, Option, Some, None, true, false, Bool, cond, refl, ap, sym, ◌∙◌, arith, subst, ◌⊎◌, inl, inr}
+use Rattle.std.proofs.Common.{◌≡◌, ℕ, zero, suc, ◌+◌, ◌-◌, ◌<◌, ◌≤◌, List, [], ◌∷◌, length, take, get_or, Option, Some, None, true, false, Bool, cond, refl, ap, sym, arith, subst, ◌⊎◌, inl, inr}
 use Rattle.std.specs.Prelude.{slice_get, sum_by}
-use Rattle.std.specs.List.{AllByRecursion, flat_map}
 use Rattle.std.proofs.lemmas.List.Sums.{sum_by-cons}
 use Rattle.std.proofs.lemmas.Option.{slice_get_within}
-use Rattle.std.proofs.lemmas.List.{length-map}
-use Rattle.tlm_types.specs.declared.words.RespMode.{RespMode}
-use Rattle.tlm_types.specs.declared.words.RespMode.TheVariants.{Accept as accept_response}
 use Rattle.tlm_types.specs.declared.words.TxnId.{TxnId}
 use Rattle.tlm_model.specs.declared.platform.InitiatorRow.{InitiatorRow}
 use Rattle.tlm_model.specs.declared.platform.MemoryRow.{MemoryRow}
@@ -20,9 +16,9 @@ use Rattle.tlm_model.specs.declared.platform.WindowRow.{WindowRow}
 use Rattle.tlm_model.specs.declared.operation.Operation.{Operation}
 use Rattle.tlm_model.specs.Plan.{Plan, Initiator, initiators_from, initiators_of}
 use Rattle.tlm_model.specs.Route.{Found, into_memory, into_router, into_window, is_within, later, walk, window_hop, window_of}
-use Rattle.flow_model.specs.World.{HopEnds, IsPassage, IsRouterMode, Passage, hop_at, hop_count}
-use Rattle.flow_model.specs.Platform.{addresses_of, all_windows, hop_in, hop_to, no_hop, passage_by, passage_to, to_router, world_of}
-use Rattle.flow_plan.specs.Valid.{HasNoCycle, HasRouterModes, LeadsOver, WorldLaw}
+use Rattle.flow_model.specs.World.{IsPassage, Passage}
+use Rattle.flow_model.specs.Platform.{addresses_of, passage_by, passage_to, world_of}
+use Rattle.flow_plan.specs.Valid.{HasNoCycle, LeadsOver, WorldLaw}
 
 some_same : {X : Type 0} (a b : X) → Some a ≡ Some b → a ≡ b
 some_same a b q = cc
@@ -64,23 +60,6 @@ walk_way (suc k) p (Router r) a before = go (λ t b c. walk_way k p t b c) (slic
     go : ((t : Target) (b c : ℕ) → Way p t (walk k p t b c).hops) → (row : Option RouterRow) → slice_get p.routers r ≡ row → Way p (Router r) (into_router p r row a before (λ t b c. walk k p t b c)).hops
     go next None q = tt
     go next (Some row) q = window row q next (window_of 0 row.windows a) refl
-
-walk_short : (k : ℕ) (p : Platform) (t : Target) (a before : ℕ) → length (walk k p t a before).hops ≤ k
-walk_short zero p t a before = omega arith
-walk_short (suc k) p (Memory m) a before = go (slice_get p.memories m)
-  where
-    go : (row : Option MemoryRow) → length (into_memory row m a before).hops ≤ suc k
-    go None = omega arith
-    go (Some row) = omega arith
-walk_short (suc k) p (Router r) a before = go (λ t b c. walk_short k p t b c) (slice_get p.routers r)
-  where
-    window : (row : RouterRow) → ((t : Target) (b c : ℕ) → length (walk k p t b c).hops ≤ k) → (f : Option Found) → length (into_window p r f a (later before row.latency) (λ t b c. walk k p t b c)).hops ≤ suc k
-    window row next None = omega arith
-    window row next (Some f) = let s : length (walk k p f.window.to (a - f.window.first + f.window.base) (later before row.latency)).hops ≤ k = next f.window.to (a - f.window.first + f.window.base) (later before row.latency) in omega arith
-
-    go : ((t : Target) (b c : ℕ) → length (walk k p t b c).hops ≤ k) → (row : Option RouterRow) → length (into_router p r row a before (λ t b c. walk k p t b c)).hops ≤ suc k
-    go next None = omega arith
-    go next (Some row) = window row next (window_of 0 row.windows a)
 
 -- the windows of the routers, one after another
 abbrev windows_before : List RouterRow → ℕ → ℕ
@@ -166,73 +145,12 @@ differ_from p free zero (suc k) (Router r) (h ∷ hs) y l m q =
 differ_from p free (suc j) zero (Router r) (h ∷ hs) y l m q = absurd (omega arith)
 differ_from p free (suc j) (suc k) (Router r) (h ∷ hs) y l m q = differ_from p free j k y.2.to hs y.6 (omega arith) (omega arith) q
 
--- the hops of a platform, by their numbers
-get_left : {X : Type 0} (xs ys : List X) (k : ℕ) (d x : X) → slice_get xs k ≡ Some x → get_or (xs ++ ys) k d ≡ x
-get_left [] ys k d x q = cc
-get_left (y ∷ xs) ys zero d x q = some_same y x q
-get_left (y ∷ xs) ys (suc k) d x q = get_left xs ys k d x q
-
-got : {X : Type 0} (ys : List X) (k : ℕ) (d x : X) → slice_get ys k ≡ Some x → get_or ys k d ≡ x
-got [] k d x q = cc
-got (y ∷ ys) zero d x q = some_same y x q
-got (y ∷ ys) (suc k) d x q = got ys k d x q
-
-get_from : {X : Type 0} (xs ys : List X) (k n : ℕ) (d x : X) → slice_get ys k ≡ Some x → n ≡ k + length xs → get_or (xs ++ ys) n d ≡ x
-get_from [] ys k n d x q s = let same : k ≡ n = omega arith in subst (λ (m : ℕ). get_or ys m d ≡ x) same (got ys k d x q)
-get_from (y ∷ xs) ys k zero d x q s = absurd (omega arith)
-get_from (y ∷ xs) ys k (suc n) d x q s = get_from xs ys k n d x q (omega arith)
-
-get_right : {X : Type 0} (xs ys : List X) (k : ℕ) (d x : X) → slice_get ys k ≡ Some x → get_or (xs ++ ys) (length xs + k) d ≡ x
-get_right xs ys k d x q = let n : length xs + k ≡ k + length xs = omega arith in get_from xs ys k (length xs + k) d x q n
-
-get_map : {X Y : Type 0} (f : X → Y) (xs : List X) (k : ℕ) (x : X) → slice_get xs k ≡ Some x → slice_get (map f xs) k ≡ Some (f x)
-get_map f [] k x q = cc
-get_map f (y ∷ xs) zero x q = ap (λ z. Some (f z)) (some_same y x q)
-get_map f (y ∷ xs) (suc k) x q = get_map f xs k x q
-
-slice_from : {X : Type 0} (xs ys : List X) (k n : ℕ) → n ≡ k + length xs → slice_get (xs ++ ys) n ≡ slice_get ys k
-slice_from [] ys k n s = let same : n ≡ k = omega arith in ap (slice_get ys) same
-slice_from (y ∷ xs) ys k zero s = absurd (omega arith)
-slice_from (y ∷ xs) ys k (suc n) s = slice_from xs ys k n (omega arith)
-
-get_after : {X : Type 0} (xs ys : List X) (k : ℕ) → slice_get (xs ++ ys) (length xs + k) ≡ slice_get ys k
-get_after xs ys k = let n : length xs + k ≡ k + length xs = omega arith in slice_from xs ys k (length xs + k) n
-
-get_before : {X : Type 0} (xs ys : List X) (k : ℕ) (x : X) → slice_get xs k ≡ Some x → slice_get (xs ++ ys) k ≡ Some x
-get_before [] ys k x q = cc
-get_before (y ∷ xs) ys zero x q = q
-get_before (y ∷ xs) ys (suc k) x q = get_before xs ys k x q
-
-window_at : (rows : List RouterRow) (r : ℕ) (row : RouterRow) (i : ℕ) (v : WindowRow) → slice_get rows r ≡ Some row → slice_get row.windows i ≡ Some v → slice_get (flat_map (λ (d : RouterRow). d.windows) rows) (windows_before rows r + i) ≡ Some v
-window_at [] r row i v q s = cc
-window_at (x ∷ rows) zero row i v q s =
-    let here : slice_get x.windows i ≡ Some v = subst (λ (d : RouterRow). slice_get d.windows i ≡ Some v) (sym (some_same x row q)) s in
-    subst (λ (n : ℕ). slice_get (x.windows ++ flat_map (λ (d : RouterRow). d.windows) rows) n ≡ Some v) (omega arith) (get_before x.windows (flat_map (λ (d : RouterRow). d.windows) rows) i v here)
-window_at (x ∷ rows) (suc r) row i v q s =
-    let more = window_at rows r row i v q s in
-    let t : windows_before (x ∷ rows) (suc r) ≡ length x.windows + windows_before rows r = before_cons x rows r in
-    let n : length x.windows + (windows_before rows r + i) ≡ windows_before (x ∷ rows) (suc r) + i = omega arith in
-    subst (λ (n : ℕ). slice_get (x.windows ++ flat_map (λ (d : RouterRow). d.windows) rows) n ≡ Some v) n (get_after x.windows (flat_map (λ (d : RouterRow). d.windows) rows) (windows_before rows r + i) ∙ more)
-
-binding_hop : (p : Platform) (n : ℕ) (row : InitiatorRow) → slice_get p.initiators n ≡ Some row → hop_in p n ≡ hop_to p row.response row.bind
-binding_hop p n row q =
-    get_left (map (λ (i : InitiatorRow). hop_to p i.response i.bind) p.initiators) (map (λ (v : WindowRow). hop_to p accept_response v.to) (all_windows p)) n no_hop (hop_to p row.response row.bind)
-    (get_map (λ (i : InitiatorRow). hop_to p i.response i.bind) p.initiators n row q)
-
-window_is : (p : Platform) (r : ℕ) (row : RouterRow) (i : ℕ) (v : WindowRow) → slice_get p.routers r ≡ Some row → slice_get row.windows i ≡ Some v → hop_in p (window_hop p r i) ≡ hop_to p accept_response v.to
-window_is p r row i v q s =
-    let long : length (map (λ (i : InitiatorRow). hop_to p i.response i.bind) p.initiators) ≡ length p.initiators = length-map p.initiators (λ (i : InitiatorRow). hop_to p i.response i.bind) in
-    let n : length (map (λ (i : InitiatorRow). hop_to p i.response i.bind) p.initiators) + (windows_before p.routers r + i) ≡ window_hop p r i = omega arith in
-    subst (λ (n : ℕ). hop_in p n ≡ hop_to p accept_response v.to) n
-    (get_right (map (λ (i : InitiatorRow). hop_to p i.response i.bind) p.initiators) (map (λ (v : WindowRow). hop_to p accept_response v.to) (all_windows p)) (windows_before p.routers r + i) no_hop (hop_to p accept_response v.to)
-    (get_map (λ (v : WindowRow). hop_to p accept_response v.to) (all_windows p) (windows_before p.routers r + i) v (window_at p.routers r row i v q s)))
-
 -- an initiator has its number and its row
 record IsInitiator (p : Platform) (n : ℕ) (i : Initiator) : Type 0 where
   number : i.number ≡ n
   row : slice_get p.initiators n ≡ Some i.row
 
-initiator_from : (m : ℕ) (rows : List InitiatorRow) (scripts : List (List Operation)) (n : ℕ) (i : Initiator) → slice_get (initiators_from m rows scripts) n ≡ Some i → (i.number ≡ m + n) × (slice_get rows n ≡ Some i.row)
+pub initiator_from : (m : ℕ) (rows : List InitiatorRow) (scripts : List (List Operation)) (n : ℕ) (i : Initiator) → slice_get (initiators_from m rows scripts) n ≡ Some i → (i.number ≡ m + n) × (slice_get rows n ≡ Some i.row)
 initiator_from m [] scripts n i q = cc
 initiator_from m (x ∷ rows) [] n i q = cc
 initiator_from m (x ∷ rows) (s ∷ scripts) zero i q =
@@ -244,27 +162,6 @@ initiator_from m (x ∷ rows) (s ∷ scripts) (suc n) i q =
     let k : i.number ≡ (m + 1) + n = r.0 in
     (omega arith, r.1)
 
-mode_of : (p : Platform) → HasRouterModes p → (r : ℕ) (resp : RespMode) (row : RouterRow) → slice_get p.routers r ≡ Some row → IsRouterMode (to_router resp (slice_get p.routers r)).req
-mode_of p modes r resp row q = subst (λ (o : Option RouterRow). IsRouterMode (to_router resp o).req) (sym q) (all_at p.routers r modes q)
-  where
-    all_at : (rows : List RouterRow) (k : ℕ) → AllByRecursion (λ (d : RouterRow). IsRouterMode d.accept) rows → slice_get rows k ≡ Some row → IsRouterMode row.accept
-    all_at [] k a q = cc
-    all_at (x ∷ rows) zero a q = subst (λ (d : RouterRow). IsRouterMode d.accept) (some_same x row q) a.0
-    all_at (x ∷ rows) (suc k) a q = all_at rows k a.1 q
-
--- where a hop leads on, it leads to a router
-leads_on : (p : Platform) → HasRouterModes p → (resp : RespMode) (t : Target) (h : ℕ) (hs : List ℕ) → Way p t (h ∷ hs) → IsRouterMode (hop_to p resp t).req
-leads_on p modes resp (Memory m) h hs y = absurd y
-leads_on p modes resp (Router r) h hs y = mode_of p modes r resp y.0 y.3
-
-router_modes : (p : Platform) → HasRouterModes p → (k : ℕ) (t : Target) (hs : List ℕ) → Way p t hs → k + 1 < length hs → IsRouterMode (hop_in p (get_or hs k 0)).req
-router_modes p modes k t [] y l = absurd (omega arith)
-router_modes p modes k (Memory m) (h ∷ hs) y l = absurd y
-router_modes p modes zero (Router r) (h ∷ []) y l = absurd (omega arith)
-router_modes p modes zero (Router r) (h ∷ i ∷ hs) y l =
-    subst (λ (e : HopEnds). IsRouterMode e.req) (sym (ap (hop_in p) y.5 ∙ window_is p r y.0 y.1 y.2 y.3 y.4)) (leads_on p modes accept_response y.2.to i hs y.6)
-router_modes p modes (suc k) (Router r) (h ∷ hs) y l = router_modes p modes k y.2.to hs y.6 (omega arith)
-
 -- a hop of a way is no binding
 past_bindings : (p : Platform) (k : ℕ) (t : Target) (hs : List ℕ) → Way p t hs → k < length hs → length p.initiators ≤ get_or hs k 0
 past_bindings p k t [] y l = absurd (omega arith)
@@ -272,7 +169,7 @@ past_bindings p k (Memory m) (h ∷ hs) y l = absurd y
 past_bindings p zero (Router r) (h ∷ hs) y l = let q : h ≡ length p.initiators + windows_before p.routers r + y.1 = y.5 in omega arith
 past_bindings p (suc k) (Router r) (h ∷ hs) y l = past_bindings p k y.2.to hs y.6 (omega arith)
 
-module _ (p : Platform) (modes : HasRouterModes p) (free : HasNoCycle p) (n : ℕ) (i : Initiator) (is : IsInitiator p n i) (hs : List ℕ) (y : Way p i.row.bind hs) (short : length hs ≤ 9) (routed : Bool) where
+module _ (p : Platform) (free : HasNoCycle p) (n : ℕ) (i : Initiator) (is : IsInitiator p n i) (hs : List ℕ) (y : Way p i.row.bind hs) (routed : Bool) where
   pass : Passage
   pass = record { hops = i.number ∷ hs; routed = routed }
 
@@ -286,50 +183,29 @@ module _ (p : Platform) (modes : HasRouterModes p) (free : HasNoCycle p) (n : �
   apart (suc j) (suc k) l m q c = differ_from p free j k i.row.bind hs y (omega arith) (omega arith) q
 
   good : IsPassage (record { hops = i.number ∷ hs; routed = routed })
-  good = record {
-    some = omega arith;
-    few = omega arith;
-    distinct = λ j k l m q. one (apart j k l m q) (apart k j m l (sym q));
-  }
+  good = record { distinct = λ j k l m q. one (apart j k l m q) (apart k j m l (sym q)) }
     where
       one : {j k : ℕ} → ¬ (j < k) → ¬ (k < j) → j ≡ k
       one a b = omega arith
 
-  routers : (k : ℕ) → k + 1 < length (i.number ∷ hs) → IsRouterMode (hop_in p (get_or (i.number ∷ hs) k 0)).req
-  routers zero l = first hs y l
+module _ (p : Plan) (free : HasNoCycle p.platform) where
+  good_to : (n : ℕ) (i : Initiator) → IsInitiator p.platform n i → (s : Style) (a : Option (Option ℕ)) (pass : Passage) → passage_to p.platform i s a ≡ Some pass → IsPassage pass
+  good_to n i is Blocking a pass q = cc
+  good_to n i is Direct a pass q = cc
+  good_to n i is FourPhase None pass q = cc
+  good_to n i is FourPhase (Some None) pass q = cc
+  good_to n i is FourPhase (Some (Some a)) pass q =
+      subst IsPassage (some_same _ pass q) (good p.platform free n i is (walk 9 p.platform i.row.bind a 0).hops (walk_way 9 p.platform i.row.bind a 0) _)
+
+  is_good : (x : TxnId) (pass : Passage) → (world_of p).passage x ≡ Some pass → IsPassage pass
+  is_good x pass q = go (slice_get (initiators_of p) x.initiator) refl q
     where
-      bound : hop_in p i.number ≡ hop_to p i.row.response i.row.bind
-      bound = ap (hop_in p) is.number ∙ binding_hop p n i.row is.row
-
-      first : (hs : List ℕ) → Way p i.row.bind hs → 0 + 1 < length (i.number ∷ hs) → IsRouterMode (hop_in p i.number).req
-      first [] y l = absurd (omega arith)
-      first (h ∷ hs) y l = subst (λ (e : HopEnds). IsRouterMode e.req) (sym bound) (leads_on p modes i.row.response i.row.bind h hs y)
-  routers (suc k) l = router_modes p modes k i.row.bind hs y (omega arith)
-
-module _ (p : Plan) (modes : HasRouterModes p.platform) (free : HasNoCycle p.platform) where
-  abbrev Meets : Passage → Type 0
-  Meets pass = IsPassage pass × ((k : ℕ) → k + 1 < hop_count pass → IsRouterMode (hop_in p.platform (hop_at pass k)).req)
-
-  meets_to : (n : ℕ) (i : Initiator) → IsInitiator p.platform n i → (s : Style) (a : Option (Option ℕ)) (pass : Passage) → passage_to p.platform i s a ≡ Some pass → Meets pass
-  meets_to n i is Blocking a pass q = cc
-  meets_to n i is Direct a pass q = cc
-  meets_to n i is FourPhase None pass q = cc
-  meets_to n i is FourPhase (Some None) pass q = cc
-  meets_to n i is FourPhase (Some (Some a)) pass q =
-      subst Meets (some_same _ pass q) (
-        good p.platform modes free n i is (walk 9 p.platform i.row.bind a 0).hops (walk_way 9 p.platform i.row.bind a 0) (walk_short 9 p.platform i.row.bind a 0) _,
-        routers p.platform modes free n i is (walk 9 p.platform i.row.bind a 0).hops (walk_way 9 p.platform i.row.bind a 0) (walk_short 9 p.platform i.row.bind a 0) false,
-      )
-
-  meets : (x : TxnId) (pass : Passage) → (world_of p).passage x ≡ Some pass → Meets pass
-  meets x pass q = go (slice_get (initiators_of p) x.initiator) refl q
-    where
-      go : (i : Option Initiator) → slice_get (initiators_of p) x.initiator ≡ i → passage_by p.platform i x.seq ≡ Some pass → Meets pass
+      go : (i : Option Initiator) → slice_get (initiators_of p) x.initiator ≡ i → passage_by p.platform i x.seq ≡ Some pass → IsPassage pass
       go None r q = cc
       go (Some i) r q =
           let f = initiator_from 0 p.platform.initiators p.scripts x.initiator i r in
           let m : i.number ≡ 0 + x.initiator = f.0 in
-          meets_to x.initiator i (record { number = omega arith; row = f.1 }) i.row.style (slice_get (addresses_of i.script) x.seq) pass q
+          good_to x.initiator i (record { number = omega arith; row = f.1 }) i.row.style (slice_get (addresses_of i.script) x.seq) pass q
 
 pub world_law : WorldLaw
-world_law p modes free = record { passages = λ x pass q. (meets p modes free x pass q).0; routers = λ x pass q k l. (meets p modes free x pass q).1 k l }
+world_law p free = record { passages = is_good p free }

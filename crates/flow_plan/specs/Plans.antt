@@ -15,7 +15,7 @@ use Rattle.flow_model.specs.World.{Passage}
 use Rattle.flow_model.specs.Events.{Among, Event, Finds, entries}
 use Rattle.flow_model.specs.Issue.{issue_time}
 use Rattle.flow_model.specs.Platform.{world_of}
-use Rattle.flow_model.specs.Traffic.{FollowsPhases, HasFreedPayloads, HasPhaseTimes, HasReleaseTimes, HasWholeSequences, IsExclusive, KeepsPools, PassesHops, slots_of}
+use Rattle.flow_model.specs.Traffic.{FollowsPhases, HasFreedPayloads, HasPhaseTimes, HasReleaseTimes, HasWholeSequences, IsExclusive, IssuesInTime, KeepsPools, PassesHops, WaitsForEnds, slots_of}
 use Rattle.flow_model.specs.Points.{IsFreed, IsTimed}
 use Rattle.flow_model.specs.Events.{numbered}
 use Rattle.flow_law.specs.Law.{Premises}
@@ -56,8 +56,8 @@ IsAsked p h = AtEach (λ before e. OfRequest p before e (λ i r. Unit {0})) h
 abbrev pub DecoupledTraffic : Type 0
 DecoupledTraffic = (p : Plan) (h : List Entry) → HasNoFourPhase p → IsAsked p h → AllByRecursion (λ e. IsDecoupled e.object e.what) h → KeepsTraffic p h × EndsTraffic p h
 
--- the points that backed entries and the logs of hops and pools give: all but those of the times of debug reads, invalidations
--- and closings, and that an initiator waits
+-- The points that backed entries and the logs of hops and pools give: all but two of the times. Each list of entries backs a debug
+-- read at any time, and the Take of an access for which its initiator should have waited: a run sees to both itself.
 pub record HasBackedTraffic (p : Plan) (h : List Entry) : Type 0 where
   pub phases : FollowsPhases p h
   pub exclusive : IsExclusive p h
@@ -67,6 +67,10 @@ pub record HasBackedTraffic (p : Plan) (h : List Entry) : Type 0 where
 
 abbrev pub TrafficLaw : Type 0
 TrafficLaw = (p : Plan) (h : List Event) → Premises (world_of p) (slots_of p) (issue_time p) h → HasBackedTraffic p (entries h)
+
+-- with these two the points are all
+abbrev pub IssueLaw : Type 0
+IssueLaw = (p : Plan) (h : List Entry) → HasBackedTraffic p h → IssuesInTime p h → WaitsForEnds p h → KeepsTraffic p h
 
 -- where each access is back in its pool, the points of the end hold
 abbrev pub EndedLaw : Type 0

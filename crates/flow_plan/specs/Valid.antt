@@ -1,17 +1,12 @@
 -- What a platform has to keep that four-phase traffic passes its hops as it may.
 use Rattle.std.specs.Prelude.{ℕ, zero, suc, ◌≡◌, Some, slice_get}
-use Rattle.std.specs.List.{AllByRecursion}
 use Rattle.tlm_model.specs.declared.platform.Platform.{Platform}
 use Rattle.tlm_model.specs.declared.platform.RouterRow.{RouterRow}
 use Rattle.tlm_model.specs.declared.platform.Target.TheVariants.{Router}
 use Rattle.tlm_model.specs.declared.platform.WindowRow.{WindowRow}
 use Rattle.tlm_model.specs.Plan.{Plan}
-use Rattle.flow_model.specs.World.{IsRouterMode, IsWorld}
+use Rattle.flow_model.specs.World.{IsWorld}
 use Rattle.flow_model.specs.Platform.{world_of}
-
--- each router answers BEGIN_REQ as a router may
-abbrev pub HasRouterModes : Platform → Type 0
-HasRouterModes p = AllByRecursion (λ (r : RouterRow). IsRouterMode r.accept) p.routers
 
 -- a window of router r leads to router s
 pub record LeadsTo (p : Platform) (r s : ℕ) : Type 0 where
@@ -31,6 +26,6 @@ LeadsOver p (suc n) r s = (q : ℕ) × LeadsTo p r q × LeadsOver p n q s
 abbrev pub HasNoCycle : Platform → Type 0
 HasNoCycle p = (n r : ℕ) → ¬ LeadsOver p (suc n) r r
 
--- on such a platform no access passes a hop twice, and each hop that leads on leads to a router
+-- on such a platform no access passes a hop twice
 abbrev pub WorldLaw : Type 0
-WorldLaw = (p : Plan) → HasRouterModes p.platform → HasNoCycle p.platform → IsWorld (world_of p)
+WorldLaw = (p : Plan) → HasNoCycle p.platform → IsWorld (world_of p)

@@ -7,7 +7,7 @@
 #![tactic(auto)]
 
 ghost use Rattle.flow_plan.specs.Valid.{WorldLaw};
-ghost use Rattle.flow_plan.specs.Plans.{DecoupledTraffic, EndedLaw, HasTrafficBeginnings, TrafficLaw};
+ghost use Rattle.flow_plan.specs.Plans.{DecoupledTraffic, EndedLaw, HasTrafficBeginnings, IssueLaw, TrafficLaw};
 
 /// Each beginning of a history that has the points has them.
 pub fn beginnings_keep_traffic()
@@ -21,13 +21,18 @@ pub fn decoupled_histories_keep_traffic()
 {}
 
 /// A history whose entries are backed by those before them, on hops and pools that made their logs, has the
-/// points.
+/// points, but for the times at which requests are issued.
 pub fn backed_histories_keep_traffic()
     ensures { TrafficLaw }
 {}
 
-/// On a platform without a cycle, whose routers answer as routers may, no access passes a hop twice or more than
-/// 15 hops, and each hop that leads on leads to a router.
+/// Where debug reads, invalidations and closings have the current time of their initiator too, and it waits for its
+/// accesses, the history has all the points.
+pub fn timely_histories_keep_traffic()
+    ensures { IssueLaw }
+{}
+
+/// On a platform without a cycle no access passes a hop twice.
 pub fn platforms_without_cycles_are_worlds()
     ensures { WorldLaw }
 {}

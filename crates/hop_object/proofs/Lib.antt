@@ -8,3 +8,4 @@ pub mod Meanings
 pub mod Carried
 pub mod LegLaws
 pub mod Benches
+pub mod SeatedHops

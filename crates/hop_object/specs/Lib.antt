@@ -6,3 +6,4 @@ pub mod Inside
 pub mod Calls
 pub mod Objects
 pub mod Laws
+pub mod Seated

@@ -25,6 +25,8 @@ mod legs;
 mod object;
 mod respond;
 #[cfg(test)]
+mod shared_tests;
+#[cfg(test)]
 mod tests;
 
 pub use call::{Begun, HopCall, HopReply, HopTraits, Leg, Responded};

@@ -93,6 +93,7 @@ impl<T> Object for Hop<T> {
     }
 
     fn admits(&self, call: &HopCall<T>) -> bool {
+        // Here and after a call, the clauses of `log` say that the lanes are those of the log.
         let _ = Hop::log(self);
         match call {
             HopCall::BeginReq { .. } => self.can_begin(),

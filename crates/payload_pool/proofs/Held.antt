@@ -4,7 +4,8 @@ use Rattle.std.specs.Prelude.{◌/◌, ◌%◌}
 use Rattle.std.proofs.lemmas.Bool.{ltb-true}
 use Rattle.tlm_types.specs.declared.words.TxnId.{TxnId}
 use Rattle.flow_model.specs.Events.{Among}
-use Rattle.flow_model.specs.Pools.{Life, no_slots, slots_after}
+use Rattle.flow_model.specs.Pools.{Life, slots_after}
+use Rattle.flow_model.specs.Slots.{no_slots}
 use Rattle.payload_pool.specs.Slots.{SlotView, blank_slot, slot_at, tally, has_name, number_of, place_of}
 use Rattle.payload_pool.specs.Lives.{FitsLog, no_takes, takes_after}
 use Rattle.payload_pool.specs.Pool.{PoolView}

@@ -13,7 +13,8 @@ use Rattle.tlm_types.specs.declared.entry.What.TheVariants.{Take, Acquire, Relea
 use Rattle.token_book.specs.Account.{Account, Slip, out_of, issued, retired}
 use Rattle.token_book.proofs.Amounts.{out_of-put_out, out_of-struck_off}
 use Rattle.flow_model.specs.Events.{Event}
-use Rattle.flow_model.specs.Pools.{Life, no_slots, slots_after}
+use Rattle.flow_model.specs.Pools.{Life, slots_after}
+use Rattle.flow_model.specs.Slots.{no_slots}
 use Rattle.payload_pool.specs.declared.slot.Kept.{Kept}
 use Rattle.payload_pool.specs.Slots.{SlotView, slot_at, blank_slot, tally, is_free, has_name, names_out, all_out, name_of, number_of, acquired_of, begun, acquired_more, given_back, without}
 use Rattle.payload_pool.specs.Lives.{IsOfLog, FitsLog, no_takes, takes_after}

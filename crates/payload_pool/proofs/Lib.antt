@@ -7,3 +7,4 @@ pub mod Keeps
 pub mod Written
 pub mod Held
 pub mod Bench
+pub mod SeatedPools

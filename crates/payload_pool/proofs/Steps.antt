@@ -10,7 +10,8 @@ use Rattle.tlm_types.specs.declared.entry.What.{What}
 use Rattle.tlm_types.specs.declared.entry.What.TheVariants.{Take, Acquire, Release}
 use Rattle.tlm_model.proofs.EachLemmas.{AtEach-push}
 use Rattle.flow_model.specs.Events.{Event}
-use Rattle.flow_model.specs.Pools.{Life, Slots, PoolStepBy, IsPoolLog, no_slots, slots_after, slots_by, fewer, more}
+use Rattle.flow_model.specs.Pools.{Life, Slots, PoolStepBy, IsPoolLog, slots_after, slots_by, fewer, more}
+use Rattle.flow_model.specs.Slots.{no_slots}
 use Rattle.payload_pool.specs.Logged.{event_of}
 use Rattle.payload_pool.specs.Slots.{SlotView, slot_at, tally, without, begun, acquired_more, given_back}
 use Rattle.payload_pool.specs.Lives.{IsOfLife, IsOfLog, FitsLog, no_takes, takes_after, takes_by}

@@ -5,3 +5,4 @@ pub mod Pool
 pub mod Inside
 pub mod Calls
 pub mod Bench
+pub mod Seated

@@ -3,7 +3,8 @@ use Rattle.std.specs.Prelude.{ℕ, ◌≡◌, ◌+◌, ◌<◌, ◌≤◌, ◌==
 use Rattle.tlm_types.specs.declared.entry.What.{What}
 use Rattle.tlm_types.specs.declared.entry.What.TheVariants.{Take}
 use Rattle.flow_model.specs.Events.{Event}
-use Rattle.flow_model.specs.Pools.{Life, IsPoolLog, no_slots, slots_after}
+use Rattle.flow_model.specs.Pools.{Life, IsPoolLog, slots_after}
+use Rattle.flow_model.specs.Slots.{no_slots}
 use Rattle.payload_pool.specs.Slots.{SlotView, slot_at, tally}
 
 -- the position of each slot's latest Take

@@ -17,6 +17,8 @@ mod log;
 mod object;
 mod pool;
 mod release;
+#[cfg(test)]
+mod shared_tests;
 mod slot;
 mod take;
 #[cfg(test)]

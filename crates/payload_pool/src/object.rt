@@ -59,6 +59,7 @@ impl Object for Pool {
     }
 
     fn admits(&self, call: &PoolCall) -> bool {
+        // Here and after a call, the clauses of `log` say that the slots are those of the log.
         let _ = Pool::log(self);
         match call {
             PoolCall::Take { .. } => self.has_free(),

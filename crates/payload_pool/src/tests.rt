@@ -122,10 +122,10 @@ impl Bench {
             return None;
         }
         match log.what(index) {
-            Some(What::Take { slot }) => Some(*slot),
+            Some(What::Take { slot }) => Some(slot),
             Some(What::Acquire { slot }) => slot.checked_add(100),
             Some(What::Release { slot, freed }) => {
-                slot.checked_add(if *freed { 300 } else { 200 })
+                slot.checked_add(if freed { 300 } else { 200 })
             }
             _ => None,
         }

@@ -25,6 +25,7 @@ use Rattle.plat_core.proofs.ComeLemmas.{HasMade-unrouted, HasMade-answered}
 use Rattle.plat_core.proofs.CountLemmas.{Leaves, HasCounted-moved, time_stepped}
 use Rattle.plat_core.proofs.MoveLemmas.{come_by, passed_initiator, passed_served, told_at_initiator, told_served}
 use Rattle.plat_core.proofs.NextLemmas.{seq_of_request}
+use Rattle.plat_core.proofs.RoundLemmas.{rounds_after}
 
 -- an access asks for its request alone
 asks_one : (op : Op) (payload : PayloadView) (t g : ℕ) → IsAccessOp op → asked_by op payload t g ≡ request_for op payload t g ∷ []
@@ -103,6 +104,8 @@ leaves_after laws p i r by got is latency = record {
   time = arrived_time p i (op_of r.engine) by r.keeper is latency;
   end = after_end laws p i (current_time r.keeper) r.engine got (is_fenced (op_of r.engine)) refl;
   syncs = after_syncs laws p i r.keeper.last_sync (current_time r.keeper) r.engine got (is_fenced (op_of r.engine)) refl is;
+  seq = omega (arith, after_seq laws r.engine got 0 0 0 (is_fenced (op_of r.engine)) refl);
+  rounds = λ s. rounds_after p i r.keeper.last_sync (current_time r.keeper) s r.engine got (is_fenced (op_of r.engine)) refl (access_is_not_done (op_of r.engine) is);
   numbers = after_numbers laws r.engine got (is_fenced (op_of r.engine)) refl;
 }
 
@@ -191,6 +194,7 @@ HasCome-unrouted laws p i h r by room got is latency nowhere answers told come =
       quantum = come.counted.quantum;
       end = come.counted.end;
       syncs = come.counted.syncs;
+      rounds = come.counted.rounds;
       numbers = come.counted.numbers;
       few = come.counted.few;
       roomy = come.counted.roomy;

@@ -11,10 +11,11 @@ use Rattle.tlm_model.specs.declared.operation.Operation.{Operation}
 use Rattle.tlm_model.specs.declared.operation.Operation.TheVariants.{Write, Read, Ignore, Debug, Copy, Add, Wait, Sync, Fence, Invalidate}
 use Rattle.tlm_model.specs.declared.platform.InitiatorRow.{InitiatorRow}
 use Rattle.tlm_model.specs.declared.platform.Platform.{Platform}
-use Rattle.tlm_model.specs.Good.{IsSound}
 use Rattle.tlm_model.specs.Plan.{Plan, Initiator, initiators_from, initiators_of}
 use Rattle.tlm_model.specs.Requests.{numbers_of, numbers_in, time_after}
 use Rattle.tlm_model.specs.Rounds.{syncs_after, syncs_from}
+use Rattle.good_history.specs.Good.{IsSound}
+use Rattle.good_history.proofs.Decoupled.{sound_empty}
 use Rattle.region_object.specs.Region.{LoggedMemory}
 use Rattle.route_plan.specs.Planned.{AnAccess, ADebugRead, AnInvalidation, asks_of, at_memory, planned_at, share_of}
 use Rattle.script_engine.proofs.Steps.{begins}
@@ -26,6 +27,7 @@ use Rattle.plat_core.specs.Merge.{by_position, entries_in}
 use Rattle.plat_core.specs.Run.{Run, begun}
 use Rattle.plat_core.proofs.EndLemmas.{HasCome-begun}
 use Rattle.plat_core.proofs.ListLemmas.{at_push}
+use Rattle.plat_core.proofs.SoundLemmas.{no_fourphase}
 
 few_numbers : (op : Operation) → numbers_of op ≤ 2
 few_numbers (Write a bytes enables width) = omega arith
@@ -89,7 +91,7 @@ unfolding planned_at
 planned_bound p m = total_bound p m (initiators_of p)
 
 -- the script of an initiator
-record HasScript (p : Plan) (i : Initiator) : Type 0 where
+pub record HasScript (p : Plan) (i : Initiator) : Type 0 where
   pub served : AllByRecursion IsServed i.script
   pub few : length i.script ≤ 100000
 
@@ -100,6 +102,9 @@ script_from p k zero (row ∷ rows) (script ∷ scripts) i served few is =
     let same : record { number = k; row = row; script = script } ≡ i = cc in
     subst (HasScript p) same (record { served = served.0; few = few.0 })
 script_from p k (suc n) (row ∷ rows) (script ∷ scripts) i served few is = script_from p (k + 1) n rows scripts i served.1 few.1 is
+
+pub script_at : (p : Plan) → IsServable p → (k : ℕ) (i : Initiator) → slice_get (initiators_of p) k ≡ Some i → HasScript p i
+script_at p servable k i mine = script_from p 0 k p.platform.initiators p.scripts i servable.served servable.few mine
 
 begun_at : (p : Plan) (is : List Initiator) (k : ℕ) (i : Initiator) (r : Run) → slice_get is k ≡ Some i → slice_get (map (begun_run p) is) k ≡ Some r → begun_run p i ≡ r
 begun_at p [] k i r mine run = cc
@@ -117,25 +122,17 @@ empty_logs (m ∷ regions) each = ap (λ (l : List Entry). l ++ entries_in (logs
 pub no_history : (p : Plan) (regions : List LoggedMemory) (n : ℕ) → AreFresh p regions n → history_of regions ≡ []
 no_history p regions n fresh = ap by_position (empty_logs regions (λ k m is. (fresh.each k m is).empty))
 
-sound_empty : (p : Plan) → IsSound p []
-sound_empty p = record {
-  numbered = tt;
-  legal = tt;
-  scripts = record { replies = tt; ways = tt; order = tt; places = tt };
-  times = tt;
-}
-
 -- a core before its first step
 pub core_begun : (p : Plan) (runs : List Run) (regions : List LoggedMemory) → IsServable p → runs ≡ no_runs p → AreFresh p regions (length p.platform.memories) → length (initiators_of p) ≡ length p.platform.initiators → IsCore p runs regions 0
 core_begun p runs regions servable same fresh count =
     let none : history_of regions ≡ [] = no_history p regions (length p.platform.memories) fresh in
     subst (λ (r : List Run). IsCore p r regions 0) (sym same) (record {
       servable = servable;
-      sound = subst (IsSound p) (sym none) (sound_empty p);
+      sound = subst (IsSound p) (sym none) (sound_empty p (no_fourphase p servable));
       count = sym (ap length none);
       run_count = length-map (initiators_of p) (begun_run p) ∙ count;
       region_count = fresh.count;
-      each_run = λ k i r mine run. subst (λ (h : List Entry). IsRunOf p h i r) (sym none) (subst (IsRunOf p [] i) (begun_at p (initiators_of p) k i r mine run) (run_begun i (script_from p 0 k p.platform.initiators p.scripts i servable.served servable.few mine)));
+      each_run = λ k i r mine run. subst (λ (h : List Entry). IsRunOf p h i r) (sym none) (subst (IsRunOf p [] i) (begun_at p (initiators_of p) k i r mine run) (run_begun i (script_at p servable k i mine)));
       each_region = λ k m is. subst (λ (h : List Entry). IsMemoryAt p (no_runs p) h k m) (sym none) (memory_begun k m (fresh.each k m is));
     })
   where

@@ -4,6 +4,7 @@ use Rattle.std.proofs.Math.Seq.{take-append_seam}
 use Rattle.std.specs.List.{AllByRecursion}
 use Rattle.std.specs.Prelude.{slice_get, MatchOption, IsSomeAnd}
 use Rattle.std.proofs.Math.ListN.{set}
+use Rattle.std.proofs.lemmas.Bool.{false≢true}
 use Rattle.std.proofs.lemmas.Bool.Decides.{nat_tests}
 use Rattle.std.proofs.lemmas.List.Elements.{filter-append}
 use Rattle.std.proofs.lemmas.Option.{MatchOption-at_some, slice_get_read, slice_get_past}
@@ -15,7 +16,6 @@ use Rattle.tlm_model.specs.declared.operation.Operation.{Operation}
 use Rattle.tlm_model.specs.declared.platform.InitiatorRow.{InitiatorRow}
 use Rattle.tlm_model.specs.declared.platform.MemoryRow.{MemoryRow}
 use Rattle.tlm_model.specs.declared.platform.Style.TheVariants.{Blocking as blocking_style}
-use Rattle.tlm_model.specs.Good.{IsSound}
 use Rattle.tlm_model.specs.History.{IsNumbered, entries_at, is_object}
 use Rattle.tlm_model.specs.Plan.{Plan, Initiator, initiators_from, initiators_of}
 use Rattle.tlm_model.specs.Route.{Route as RouteOfModel, Walk, Found, into_memory, into_router, into_window, later, route_of, walk, window_of}
@@ -23,29 +23,32 @@ use Rattle.tlm_model.specs.declared.platform.RouterRow.{RouterRow}
 use Rattle.tlm_model.specs.declared.platform.Target.{Target}
 use Rattle.tlm_model.specs.declared.platform.Target.TheVariants.{Router as RouterTarget, Memory as MemoryTarget}
 use Rattle.tlm_model.proofs.EachLemmas.{append_nil}
+use Rattle.good_history.specs.Good.{IsSound}
+use Rattle.good_history.proofs.Decoupled.{sound_grows}
 use Rattle.region_object.specs.Region.{LoggedMemory}
+use Rattle.time_board.specs.declared.rounds.Member.{Member}
 use Rattle.route_plan.specs.declared.step.Route.{Route}
 use Rattle.script_engine.specs.State.{State, op_of}
 use Rattle.script_engine.proofs.Steps.{ends}
 use Rattle.plat_core.specs.Access.{HasLog, IsRouteOf, entry_made, place_of}
 use Rattle.plat_core.specs.Come.{HasCome, has_ended}
-use Rattle.plat_core.specs.Core.{CoreView, IsCore, IsInitiatorStep, IsMemoryAt, IsNodeStep, IsRunOf, IsOwnStep, IsStep, are_finished, history_of, logs_of}
+use Rattle.plat_core.specs.Core.{CoreView, IsCore, IsInitiatorStep, IsMemoryAt, IsNodeStep, IsRunOf, IsStep, are_finished, history_of, logs_of}
 use Rattle.plat_core.specs.declared.steps.CoreStep.{CoreStep}
-use Rattle.plat_core.specs.declared.steps.CoreStep.TheVariants.{Made, Finished}
 use Rattle.plat_core.specs.Left.{asks_left, leads, total_left}
 use Rattle.plat_core.specs.Merge.{put_in, by_position, entries_in, merged}
 use Rattle.plat_core.specs.Moves.{HasReached, IsUnderWay, Keeps}
 use Rattle.plat_core.specs.Run.{Run, address_of, arrived, engine_after}
 use Rattle.plat_core.specs.declared.turn.Turn.{Turn}
-use Rattle.plat_core.specs.declared.turn.Turn.TheVariants.{Made as turn_made, Ended as turn_ended, NoMemory as no_memory}
-use Rattle.plat_core.specs.Turns.{IsTurn, HasLogAt, HasMadeAccess, HasMoved, HasMovedToEnd, HasRoomAt}
+use Rattle.plat_core.specs.declared.turn.Turn.TheVariants.{Made as turn_made, Waits as turn_waits, Ended as turn_ended, NoMemory as no_memory}
+use Rattle.plat_core.specs.Turns.{IsTurn, HasLogAt, HasMadeAccess, HasMoved, HasMovedToEnd, HasMovedToWait, HasRoomAt}
 use Rattle.plat_core.proofs.CountLemmas.{with_sync_finished}
 use Rattle.plat_core.proofs.EndLemmas.{HasCome-other, HasCome-ended, HasCome-open}
-use Rattle.plat_core.proofs.EntryLemmas.{IsAtMemory, IsSound-turn, HasCome-turn}
+use Rattle.plat_core.proofs.EntryLemmas.{IsAtMemory, KeepsRequests-turn, HasCome-turn}
 use Rattle.plat_core.proofs.LeftLemmas.{left_after, leads_there, total_left-set, total_left-at}
 use Rattle.plat_core.proofs.ListLemmas.{HasElement, at_map, at_set, has_element, length-set', map-set, set-same, within}
 use Rattle.plat_core.proofs.MergeLemmas.{merged-push}
 use Rattle.plat_core.proofs.RunLemmas.{accessed_step, initiator_number}
+use Rattle.plat_core.proofs.SoundLemmas.{no_fourphase}
 
 -- the rows and scripts of an initiator
 pub blocking_from : (k n : ℕ) (rows : List InitiatorRow) (scripts : List (List Operation)) (i : Initiator) → AllByRecursion (λ (row : InitiatorRow). row.style ≡ blocking_style) rows → slice_get (initiators_from k rows scripts) n ≡ Some i → i.row.style ≡ blocking_style
@@ -146,6 +149,20 @@ core_ended p runs regions after made k old new core at moved =
       each_region = λ j m is. memory_moved p runs (set runs k new) (history_of regions) j m (same_total p runs k j turn.initiator old new turn.at at moved.keeps) (core.each_region j m is);
     })
 
+-- a core whose run has moved to a sync that isn't let through
+pub core_waited : (p : Plan) (runs : List Run) (regions after : List LoggedMemory) (members : List Member) (made k : ℕ) (old new : Run) → IsCore p runs regions made → slice_get runs k ≡ Some old → old.finished ≡ false → HasMovedToWait p old new members regions after → IsCore p (set runs k new) after made
+core_waited p runs regions after members made k old new core at going moved =
+    let turn = has_turn p runs regions made k old core at in
+    subst (λ (x : List LoggedMemory). IsCore p (set runs k new) x made) (sym moved.same) (record {
+      servable = core.servable;
+      sound = core.sound;
+      count = core.count;
+      run_count = length-set' runs k new ∙ core.run_count;
+      region_count = core.region_count;
+      each_run = runs_moved p runs (history_of regions) k turn.initiator new turn.at (record { come = moved.keeps.come turn.initiator (history_of regions) turn.mine turn.own.come; finished = λ f. absurd (false≢true (sym (moved.finished ∙ going) ∙ f)) }) core.each_run;
+      each_region = λ j m is. memory_moved p runs (set runs k new) (history_of regions) j m (same_total p runs k j turn.initiator old new turn.at at moved.keeps) (core.each_region j m is);
+    })
+
 same_history : (regions after : List LoggedMemory) (j : ℕ) (m next : LoggedMemory) → HasLogAt regions after j m next → HasLog m next m.log.entries → history_of after ≡ history_of regions
 same_history regions after j m next memory logged =
     ap history_of memory.now
@@ -236,7 +253,7 @@ memory_of p runs regions made i a route core leads =
     let found = has_element regions route.memory (omega (arith, is_within p.platform.memories route.memory there, core.region_count)) in
     record { region = found.element; at = found.at; is = core.each_region route.memory found.element found.at }
 
-route_at : (p : Plan) (i : Initiator) (old middle : Run) (route : Route) → slice_get (initiators_of p) old.engine.initiator ≡ Some i → Keeps p old middle → HasReached p middle route → IsRouteOf p i (address_of (op_of middle.engine)) route
+pub route_at : (p : Plan) (i : Initiator) (old middle : Run) (route : Route) → slice_get (initiators_of p) old.engine.initiator ≡ Some i → Keeps p old middle → HasReached p middle route → IsRouteOf p i (address_of (op_of middle.engine)) route
 route_at p i old middle route mine keeps reached = MatchOption-at_some ⊥ (λ (x : Initiator). IsRouteOf p x (address_of (op_of middle.engine)) route) i (ap (slice_get (initiators_of p)) keeps.initiator ∙ mine) reached.leads
 
 one_asked : (p : Plan) (i : Initiator) (old middle : Run) (got : List ℕ) (route : Route) → Keeps p old middle → HasReached p middle route → IsRouteOf p i (address_of (op_of middle.engine)) route → asks_left p i route.memory (engine_after middle.engine got) + 1 ≤ asks_left p i route.memory old.engine
@@ -286,7 +303,7 @@ few_made p runs regions made core =
 entries_at-push : (o : ObjectNo) (h : List Entry) (e : Entry) → entries_at o (h ++ e ∷ []) ≡ entries_at o h ++ cond (is_object o e.object) (e ∷ []) []
 entries_at-push o h e = filter-append (λ (x : Entry). is_object o x.object) h (e ∷ [])
 
-history_made : (p : Plan) (old new : Run) (regions after : List LoggedMemory) (made : ℕ) → IsNumbered (history_of regions) → made ≡ length (history_of regions) → (is : HasMadeAccess p old new regions after made) → history_of after ≡ history_of regions ++ entry_made is.middle is.region is.route made ∷ []
+pub history_made : (p : Plan) (old new : Run) (regions after : List LoggedMemory) (made : ℕ) → IsNumbered (history_of regions) → made ≡ length (history_of regions) → (is : HasMadeAccess p old new regions after made) → history_of after ≡ history_of regions ++ entry_made is.middle is.region is.route made ∷ []
 history_made p old new regions after made numbered count is =
     let e = entry_made is.middle is.region is.route made in
     ap history_of is.memory.now
@@ -378,7 +395,7 @@ core_made p runs regions after made k old new core at is =
     let leads = route_at p i old is.middle is.route turn.mine is.keeps is.reached in
     let memory = core.each_region is.route.memory is.region is.memory.was in
     let come = is.keeps.come i h turn.mine turn.own.come in
-    let same : history_of after ≡ h ++ e ∷ [] = history_made p old new regions after made core.sound.numbered core.count is in
+    let same : history_of after ≡ h ++ e ∷ [] = history_made p old new regions after made core.sound.requests.numbered core.count is in
     let mine : slice_get (initiators_of p) i.number ≡ Some i = ap (slice_get (initiators_of p)) turn.number ∙ turn.at in
     let engine : new.engine ≡ engine_after is.middle.engine is.got = ap (λ (r : Run). r.engine) is.run ∙ accessed_step (op_of is.middle.engine) is.route.latency is.got is.middle in
     let own : IsRunOf p (h ++ e ∷ []) i new = record {
@@ -387,7 +404,7 @@ core_made p runs regions after made k old new core at is =
     } in
     record {
       servable = core.servable;
-      sound = subst (IsSound p) (sym same) (IsSound-turn p i h is.middle is.region is.route made core.sound mine turn.blocking come is.reached.access leads (at_memory p runs h is.route is.region memory) core.count);
+      sound = subst (IsSound p) (sym same) (sound_grows p h e (no_fourphase p core.servable) core.sound tt (KeepsRequests-turn p i h is.middle is.region is.route made core.sound.requests mine turn.blocking come is.reached.access leads (at_memory p runs h is.route is.region memory) core.count));
       count = sym (ap length same ∙ (length-append h (e ∷ []) ∙ ap (λ (n : ℕ). n + 1) (sym core.count)));
       run_count = length-set' runs k new ∙ core.run_count;
       region_count = ap length is.memory.now ∙ (length-set' regions is.route.memory is.next ∙ core.region_count);
@@ -412,55 +429,13 @@ core_made p runs regions after made k old new core at is =
         ]
 
 -- the finished flags of the runs
-finished_same : (runs : List Run) (k : ℕ) (old new : Run) → slice_get runs k ≡ Some old → new.finished ≡ old.finished → are_finished (set runs k new) ≡ are_finished runs
+pub finished_same : (runs : List Run) (k : ℕ) (old new : Run) → slice_get runs k ≡ Some old → new.finished ≡ old.finished → are_finished (set runs k new) ≡ are_finished runs
 finished_same runs k old new at same =
     map-set (λ (r : Run). r.finished) runs k new
     ∙ (ap (set (are_finished runs) k) same ∙ set-same (are_finished runs) k old.finished (at_map (λ (r : Run). r.finished) runs k old at))
 
-step_of : (old : CoreView) (k : ℕ) (i : Initiator) (new : CoreView) (step : CoreStep) → slice_get (initiators_of old.plan) k ≡ Some i → IsInitiatorStep old k i new step → IsStep old k new step
+pub step_of : (old : CoreView) (k : ℕ) (i : Initiator) (new : CoreView) (step : CoreStep) → slice_get (initiators_of old.plan) k ≡ Some i → IsInitiatorStep old k i new step → IsStep old k new step
 step_of old k i new step at is = subst (λ (o : Option Initiator). MatchOption o (IsNodeStep old new step) (λ x. IsInitiatorStep old k x new step)) (sym at) is
-
--- the step of an initiator that has made an entry
-pub step_made : (p : Plan) (runs : List Run) (regions after : List LoggedMemory) (made k : ℕ) (old new : Run) → IsCore p runs regions made → slice_get runs k ≡ Some old → HasMadeAccess p old new regions after made
-    → IsStep (record { plan = p; history = history_of regions; finished = are_finished runs }) k (record { plan = p; history = history_of after; finished = are_finished (set runs k new) }) (Made made)
-step_made p runs regions after made k old new core at is =
-    let turn = has_turn p runs regions made k old core at in
-    let same : history_of after ≡ history_of regions ++ entry_made is.middle is.region is.route made ∷ [] = history_made p old new regions after made core.sound.numbered core.count is in
-    let flag : new.finished ≡ old.finished = ap (λ (r : Run). r.finished) is.run ∙ (with_sync_finished (op_of is.middle.engine) (record is.middle { engine = engine_after is.middle.engine is.got; keeper = arrived (op_of is.middle.engine) is.route.latency is.middle.keeper }) ∙ is.finished) in
-    let come = is.keeps.come turn.initiator (history_of regions) turn.mine turn.own.come in
-    let leads = route_at p turn.initiator old is.middle is.route turn.mine is.keeps is.reached in
-    step_of (record { plan = p; history = history_of regions; finished = are_finished runs }) k turn.initiator (record { plan = p; history = history_of after; finished = are_finished (set runs k new) }) (Made made) turn.at (record {
-      unended = HasCome-open p.platform turn.initiator (history_of regions) is.middle (place_of is.route) is.reached.access leads.leads come;
-      entry = entry_made is.middle is.region is.route made;
-      after = view_is p (history_of after) (history_of regions ++ entry_made is.middle is.region is.route made ∷ []) (are_finished (set runs k new)) (are_finished runs) same (finished_same runs k old new at flag);
-      mine = come.counted.number;
-      at_end = core.count;
-      sound = (core_made p runs regions after made k old new core at is).sound;
-    })
-  where
-    view_is : (p : Plan) (h g : List Entry) (a b : List Bool) → h ≡ g → a ≡ b → ◌≡◌ {A = CoreView} (record { plan = p; history = h; finished = a }) (record { plan = p; history = g; finished = b })
-    view_is p h g a b x y = ap (λ (l : List Entry). record { plan = p; history = l; finished = a }) x ∙ ap (λ (l : List Bool). record { plan = p; history = g; finished = l }) y
-
--- the step of an initiator that has finished
-pub step_ended : (p : Plan) (runs : List Run) (regions after : List LoggedMemory) (made k : ℕ) (old new : Run) → IsCore p runs regions made → slice_get runs k ≡ Some old → HasMovedToEnd p old new regions after
-    → IsStep (record { plan = p; history = history_of regions; finished = are_finished runs }) k (record { plan = p; history = history_of after; finished = are_finished (set runs k new) }) Finished
-step_ended p runs regions after made k old new core at is =
-    let turn = has_turn p runs regions made k old core at in
-    let come = is.keeps.come turn.initiator (history_of regions) turn.mine turn.own.come in
-    step_of (record { plan = p; history = history_of regions; finished = are_finished runs }) k turn.initiator (record { plan = p; history = history_of after; finished = are_finished (set runs k new) }) Finished turn.at (record {
-      ended = (HasCome-ended ends p.platform turn.initiator (history_of regions) new come is.ended.done).ended;
-      after = view_is p (history_of after) (history_of regions) (are_finished (set runs k new)) (set (are_finished runs) k true) (ap history_of is.same) (map-set (λ (r : Run). r.finished) runs k new ∙ ap (set (are_finished runs) k) is.ended.finished);
-    })
-  where
-    view_is : (p : Plan) (h g : List Entry) (a b : List Bool) → h ≡ g → a ≡ b → ◌≡◌ {A = CoreView} (record { plan = p; history = h; finished = a }) (record { plan = p; history = g; finished = b })
-    view_is p h g a b x y = ap (λ (l : List Entry). record { plan = p; history = l; finished = a }) x ∙ ap (λ (l : List Bool). record { plan = p; history = g; finished = l }) y
-
--- a core that has moved to an access that wasn't made is seen as before
-pub view_moved : (p : Plan) (runs : List Run) (regions after : List LoggedMemory) (k : ℕ) (old new : Run) → slice_get runs k ≡ Some old → HasMoved p old new regions after
-    → ◌≡◌ {A = CoreView} (record { plan = p; history = history_of after; finished = are_finished (set runs k new) }) (record { plan = p; history = history_of regions; finished = are_finished runs })
-view_moved p runs regions after k old new at is =
-    ap (λ (l : List Entry). record { plan = p; history = l; finished = are_finished (set runs k new) }) (history_moved p old new regions after is)
-    ∙ ap (λ (l : List Bool). record { plan = p; history = history_of regions; finished = l }) (finished_same runs k old new at is.finished)
 
 -- all that a slice's write leaves of a vector
 pub whole_write : {X : Type 0} (n : ℕ) (xs ys : List X) → length xs ≡ n → take n (xs ++ drop (length xs) ys) ≡ xs
@@ -474,14 +449,17 @@ written len after regions = take len (after ++ drop (length after) regions)
 pub run_at : (runs : List Run) (k : ℕ) (old : Run) (finished : List Bool) → are_finished runs ≡ finished → k < length finished → old ≡ get_or runs k old → slice_get runs k ≡ Some old
 run_at runs k old finished same below is = slice_get_read runs (length runs) k old refl (omega (arith, ap length same, length-map runs (λ (r : Run). r.finished))) is
 
-pub made_access : (p : Plan) (old new : Run) (before regions after : List LoggedMemory) (made : ℕ) (turn : Turn) → before ≡ regions → IsTurn p old new before after made turn → turn ≡ turn_made → HasMadeAccess p old new regions after made
-made_access p old new before regions after made turn same is how = subst (λ (x : List LoggedMemory). HasMadeAccess p old new x after made) same (subst (IsTurn p old new before after made) how is)
+pub made_access : (p : Plan) (old new : Run) (members : List Member) (before regions after : List LoggedMemory) (made : ℕ) (turn : Turn) → before ≡ regions → IsTurn p old new members before after made turn → turn ≡ turn_made → HasMadeAccess p old new regions after made
+made_access p old new members before regions after made turn same is how = subst (λ (x : List LoggedMemory). HasMadeAccess p old new x after made) same (subst (IsTurn p old new members before after made) how is)
 
-pub moved_to_end : (p : Plan) (old new : Run) (before regions after : List LoggedMemory) (made : ℕ) (turn : Turn) → before ≡ regions → IsTurn p old new before after made turn → turn ≡ turn_ended → HasMovedToEnd p old new regions after
-moved_to_end p old new before regions after made turn same is how = subst (λ (x : List LoggedMemory). HasMovedToEnd p old new x after) same (subst (IsTurn p old new before after made) how is)
+pub moved_to_end : (p : Plan) (old new : Run) (members : List Member) (before regions after : List LoggedMemory) (made : ℕ) (turn : Turn) → before ≡ regions → IsTurn p old new members before after made turn → turn ≡ turn_ended → HasMovedToEnd p old new regions after
+moved_to_end p old new members before regions after made turn same is how = subst (λ (x : List LoggedMemory). HasMovedToEnd p old new x after) same (subst (IsTurn p old new members before after made) how is)
 
-pub moved_on : (p : Plan) (old new : Run) (before regions after : List LoggedMemory) (made : ℕ) (turn : Turn) → before ≡ regions → IsTurn p old new before after made turn → turn ≡ no_memory → HasMoved p old new regions after
-moved_on p old new before regions after made turn same is how = subst (λ (x : List LoggedMemory). HasMoved p old new x after) same (subst (IsTurn p old new before after made) how is)
+pub moved_to_wait : (p : Plan) (old new : Run) (members : List Member) (before regions after : List LoggedMemory) (made : ℕ) (turn : Turn) → before ≡ regions → IsTurn p old new members before after made turn → turn ≡ turn_waits → HasMovedToWait p old new members regions after
+moved_to_wait p old new members before regions after made turn same is how = subst (λ (x : List LoggedMemory). HasMovedToWait p old new members x after) same (subst (IsTurn p old new members before after made) how is)
+
+pub moved_on : (p : Plan) (old new : Run) (members : List Member) (before regions after : List LoggedMemory) (made : ℕ) (turn : Turn) → before ≡ regions → IsTurn p old new members before after made turn → turn ≡ no_memory → HasMoved p old new regions after
+moved_on p old new members before regions after made turn same is how = subst (λ (x : List LoggedMemory). HasMoved p old new x after) same (subst (IsTurn p old new members before after made) how is)
 
 -- an actor that is no initiator
 pub node_at : (p : Plan) (runs : List Run) (regions : List LoggedMemory) (made k : ℕ) → IsCore p runs regions made → length runs ≤ k → slice_get (initiators_of p) k ≡ None
@@ -493,15 +471,3 @@ node_steps v w k step same none is =
 
 pub few_history : (p : Plan) (runs : List Run) (regions : List LoggedMemory) (made : ℕ) → IsCore p runs regions made → length (history_of regions) ≤ 16000000
 few_history p runs regions made core = omega (arith, few_made p runs regions made core, core.count)
-
-pub own_made : (p : Plan) (runs : List Run) (regions after : List LoggedMemory) (made k : ℕ) (old new : Run) → IsCore p runs regions made → slice_get runs k ≡ Some old → HasMadeAccess p old new regions after made
-    → IsOwnStep (record { plan = p; history = history_of regions; finished = are_finished runs }) k (record { plan = p; history = history_of after; finished = are_finished (set runs k new) }) (Made made)
-own_made p runs regions after made k old new core at is = (
-  refl,
-  finished_same runs k old new at (ap (λ (r : Run). r.finished) is.run ∙ (with_sync_finished (op_of is.middle.engine) (record is.middle { engine = engine_after is.middle.engine is.got; keeper = arrived (op_of is.middle.engine) is.route.latency is.middle.keeper }) ∙ is.finished)),
-  ap length (history_made p old new regions after made core.sound.numbered core.count is) ∙ length-append (history_of regions) (entry_made is.middle is.region is.route made ∷ []),
-)
-
-pub own_ended : (p : Plan) (runs : List Run) (regions after : List LoggedMemory) (made k : ℕ) (old new : Run) → IsCore p runs regions made → slice_get runs k ≡ Some old → HasMovedToEnd p old new regions after
-    → IsOwnStep (record { plan = p; history = history_of regions; finished = are_finished runs }) k (record { plan = p; history = history_of after; finished = are_finished (set runs k new) }) Finished
-own_ended p runs regions after made k old new core at is = (refl, map-set (λ (r : Run). r.finished) runs k new ∙ ap (set (are_finished runs) k) is.ended.finished)

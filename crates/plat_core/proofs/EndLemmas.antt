@@ -1,14 +1,16 @@
 -- The end of a run.
 use Rattle.std.proofs.Math.Nat.{zero-add}
-use Rattle.std.proofs.Common.{◌≡◌, ℕ, ◌+◌, ◌^◌, ◌<◌, ◌≤◌, List, [], ◌∷◌, ◌++◌, map, Option, Some, Bool, true, false, ◌||◌, ◌&&◌, nat_eq, is_none, refl, ap, sym, ◌∙◌, arith, add-zero}
+use Rattle.std.proofs.Common.{◌≡◌, ℕ, ◌+◌, ◌-◌, ◌^◌, ◌<◌, ◌≤◌, List, [], ◌∷◌, ◌++◌, map, Option, Some, Bool, true, false, ◌||◌, ◌&&◌, nat_eq, is_none, refl, ap, sym, ◌∙◌, arith, add-zero}
 use Rattle.std.specs.List.{AllByRecursion, filter, list_all}
 use Rattle.std.proofs.lemmas.List.Folds.{list_all-append}
 use Rattle.tlm_types.specs.declared.entry.Entry.{Entry}
 use Rattle.tlm_model.specs.declared.platform.Platform.{Platform}
+use Rattle.tlm_model.specs.declared.platform.Style.{Style}
+use Rattle.tlm_model.specs.declared.platform.Style.TheVariants.{Blocking as blocking_style}
 use Rattle.tlm_model.specs.Plan.{Initiator}
 use Rattle.tlm_model.specs.Report.{has_no_route, refused_of}
 use Rattle.tlm_model.specs.Requests.{Request, requests_of, numbers_in, end_of}
-use Rattle.tlm_model.specs.Rounds.{syncs_from}
+use Rattle.tlm_model.specs.Rounds.{round_of, syncs_by, syncs_from}
 use Rattle.tlm_model.specs.Route.{Route, route_of}
 use Rattle.tlm_model.specs.Scripts.{has_answer, is_settled}
 use Rattle.tlm_model.proofs.EachLemmas.{append_nil}
@@ -17,7 +19,7 @@ use Rattle.script_engine.specs.declared.op.Op.TheVariants as next
 use Rattle.script_engine.specs.Laws.{BeginsAtTheStart, EndsWithNothingLeft}
 use Rattle.script_engine.specs.State.{begun as begun_engine, op_of, payload_of}
 use Rattle.script_engine.specs.Asking.{requests_at, syncs_at}
-use Rattle.plat_core.specs.Come.{HasCome, IsServed, has_ended}
+use Rattle.plat_core.specs.Come.{HasCome, IsServed, has_ended, rounds_at}
 use Rattle.plat_core.specs.Run.{Run, begun, refused_item, request_for, IsAccessOp, address_of}
 use Rattle.plat_core.proofs.ComeLemmas.{HasMade-other}
 use Rattle.plat_core.proofs.NextLemmas.{request_is_first, seq_of_request}
@@ -48,6 +50,28 @@ HasCome-finished p i h r b come = record {
     quantum = come.counted.quantum;
     end = come.counted.end;
     syncs = come.counted.syncs;
+    rounds = come.counted.rounds;
+    numbers = come.counted.numbers;
+    few = come.counted.few;
+    roomy = come.counted.roomy;
+  };
+  served = come.served;
+}
+
+-- so is one that is let into another round
+pub HasCome-round : (p : Platform) (i : Initiator) (h : List Entry) (r : Run) (n : ℕ) → HasCome p i h r → HasCome p i h (record r { round = n })
+HasCome-round p i h r n come = record {
+  stage = come.stage;
+  made = come.made;
+  asked = come.asked;
+  count = come.count;
+  refused = come.refused;
+  counted = record {
+    number = come.counted.number;
+    quantum = come.counted.quantum;
+    end = come.counted.end;
+    syncs = come.counted.syncs;
+    rounds = come.counted.rounds;
     numbers = come.counted.numbers;
     few = come.counted.few;
     roomy = come.counted.roomy;
@@ -62,7 +86,7 @@ requests_now p i h r come =
     ∙ (come.asked.asked []
     ∙ ap (λ (x : List Entry). come.made ++ requests_at p i x (current_time r.keeper) come.stage r.engine) (append_nil h))
 
-all_made : (ends : EndsWithNothingLeft) (p : Platform) (i : Initiator) (h : List Entry) (r : Run) (come : HasCome p i h r) → op_of r.engine ≡ next.Done → requests_of p i h ≡ come.made
+pub all_made : (ends : EndsWithNothingLeft) (p : Platform) (i : Initiator) (h : List Entry) (r : Run) (come : HasCome p i h r) → op_of r.engine ≡ next.Done → requests_of p i h ≡ come.made
 all_made ends p i h r come done =
     requests_now p i h r come
     ∙ (ap (λ (x : List Request). come.made ++ x) (ends.requests p i h (current_time r.keeper) come.stage r.engine done) ∙ append_nil come.made)
@@ -93,17 +117,26 @@ one_unsettled p i h made more q is =
     and_false true = refl
     and_false false = refl
 
+-- the syncs of a blocking initiator
+pub blocking_syncs : (style : Style) (n : ℕ) → style ≡ blocking_style → syncs_by style n ≡ n
+blocking_syncs style n is = ap (λ (s : Style). syncs_by s n) is
+
+-- a request with a route that is next has no answer yet
+pub request_is_open : (p : Platform) (i : Initiator) (h : List Entry) (r : Run) (route : Route) → IsAccessOp (op_of r.engine) → route_of p i (address_of (op_of r.engine)) ≡ Some route → (come : HasCome p i h r)
+    → is_settled p i h (request_for (op_of r.engine) (payload_of r.engine 0) (current_time r.keeper) come.stage) ≡ false
+request_is_open p i h r route is leads come =
+    let q = request_for (op_of r.engine) (payload_of r.engine 0) (current_time r.keeper) come.stage in
+    ap (λ (o : Option Route). is_none o || has_answer i.number q.seq h) (ap (route_of p i) (request_address (op_of r.engine) (payload_of r.engine 0) (current_time r.keeper) come.stage is) ∙ leads)
+    ∙ (ap (λ (s : ℕ). has_answer i.number s h) (seq_of_request (current_time r.keeper) come.stage 0 r.engine is)
+    ∙ come.asked.fresh r.engine.seq (omega (arith, come.count)))
+
 -- a script has not ended where a request with a route is next
 pub HasCome-open : (p : Platform) (i : Initiator) (h : List Entry) (r : Run) (route : Route) → IsAccessOp (op_of r.engine) → route_of p i (address_of (op_of r.engine)) ≡ Some route → HasCome p i h r → has_ended p i h ≡ false
 HasCome-open p i h r route is leads come =
     let q = request_for (op_of r.engine) (payload_of r.engine 0) (current_time r.keeper) come.stage in
     let first = request_is_first p i h (current_time r.keeper) come.stage 0 r.engine is in
-    let unsettled : is_settled p i h q ≡ false =
-    ap (λ (o : Option Route). is_none o || has_answer i.number q.seq h) (ap (route_of p i) (request_address (op_of r.engine) (payload_of r.engine 0) (current_time r.keeper) come.stage is) ∙ leads)
-    ∙ (ap (λ (s : ℕ). has_answer i.number s h) (seq_of_request (current_time r.keeper) come.stage 0 r.engine is)
-    ∙ come.asked.fresh r.engine.seq (omega (arith, come.count))) in
     ap (list_all (is_settled p i h)) (requests_now p i h r come ∙ ap (λ (x : List Request). come.made ++ x) first.first)
-    ∙ one_unsettled p i h come.made first.more q unsettled
+    ∙ one_unsettled p i h come.made first.more q (request_is_open p i h r route is leads come)
 
 -- a run that has not begun
 pub HasCome-begun : (begins : BeginsAtTheStart) (p : Platform) (i : Initiator) (room : ℕ) → syncs_from p i 0 0 i.script < 2 ^ 64 → numbers_in i.script ≤ room → AllByRecursion IsServed i.script → HasCome p i [] (begun i.number i.script p.quantum room)
@@ -122,9 +155,13 @@ HasCome-begun begins p i room few roomy served = record {
     quantum = refl;
     end = begins.end p i i.number;
     syncs = zero-add (syncs_at p i 0 0 (begun_engine i.number i.script)) ∙ begins.syncs p i i.number;
+    rounds = λ s after. zero-add (rounds_at p i 0 0 (begun_engine i.number i.script) (s - 0)) ∙ ap (round_of p i) (whole s);
     numbers = begins.numbers i i.number;
     few = few;
     roomy = roomy;
   };
   served = served;
 }
+  where
+    whole : (s : ℕ) → s - 0 ≡ s
+    whole s = omega arith

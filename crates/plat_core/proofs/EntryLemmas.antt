@@ -8,8 +8,8 @@ use Rattle.tlm_types.specs.declared.words.ObjectNo.TheVariants.{Memory as memory
 use Rattle.tlm_model.specs.declared.platform.MemoryRow.{MemoryRow}
 use Rattle.tlm_model.specs.declared.platform.Platform.{Platform}
 use Rattle.tlm_model.specs.declared.platform.Style.TheVariants.{Blocking as blocking_style}
-use Rattle.tlm_model.specs.Good.{IsSound}
 use Rattle.tlm_model.specs.History.{entries_at, last_store, opening_store, zeros_of}
+use Rattle.tlm_model.specs.Kept.{KeepsRequests}
 use Rattle.tlm_model.specs.Log.{bytes_from, log_bytes}
 use Rattle.tlm_model.specs.Plan.{Plan, Initiator, initiators_of}
 use Rattle.tlm_model.specs.Requests.{Asked, Request}
@@ -32,7 +32,7 @@ use Rattle.plat_core.proofs.AccessLemmas.{HasCome-answered, request_address}
 use Rattle.plat_core.proofs.NextLemmas.{request_is_first, seq_of_request, numbers_at}
 use Rattle.plat_core.proofs.ReplyLemmas.{routed_answers}
 use Rattle.plat_core.proofs.RunLemmas.{laws}
-use Rattle.plat_core.proofs.StepLemmas.{IsSound-push}
+use Rattle.plat_core.proofs.StepLemmas.{KeepsRequests-push}
 
 -- the stage of a request doesn't show in its entry
 same_stage : (p : Platform) (i : Initiator) (op : Op) (payload : PayloadView) (t g : ℕ) (route : RouteOfModel) (m : MemoryTraits) (bytes : List ℕ) (position : ℕ) → entry_of p i (request_for op payload t 0) route m bytes position ≡ entry_of p i (request_for op payload t g) route m bytes position
@@ -100,9 +100,9 @@ pub record IsAtMemory (p : Plan) (h : List Entry) (route : Route) (m : LoggedMem
   pub number : m.number ≡ route.memory
   pub log : m.log.entries ≡ entries_at (memory_object route.memory) h
 
--- a turn's entry makes a sound history
-pub IsSound-turn : (p : Plan) (i : Initiator) (h : List Entry) (r : Run) (m : LoggedMemory) (route : Route) (position : ℕ) → IsSound p h → slice_get (initiators_of p) i.number ≡ Some i → i.row.style ≡ blocking_style → HasCome p.platform i h r → IsAccessOp (op_of r.engine) → IsRouteOf p i (address_of (op_of r.engine)) route → IsAtMemory p h route m → position ≡ length h → IsSound p (h ++ entry_made r m route position ∷ [])
-IsSound-turn p i h r m route position sound mine blocking come is leads at counted =
+-- a history with a turn's entry has the points of requests
+pub KeepsRequests-turn : (p : Plan) (i : Initiator) (h : List Entry) (r : Run) (m : LoggedMemory) (route : Route) (position : ℕ) → KeepsRequests p h → slice_get (initiators_of p) i.number ≡ Some i → i.row.style ≡ blocking_style → HasCome p.platform i h r → IsAccessOp (op_of r.engine) → IsRouteOf p i (address_of (op_of r.engine)) route → IsAtMemory p h route m → position ≡ length h → KeepsRequests p (h ++ entry_made r m route position ∷ [])
+KeepsRequests-turn p i h r m route position kept mine blocking come is leads at counted =
     let t = current_time r.keeper in
     let q : Request = request_for (op_of r.engine) (payload_of r.engine 4096) t come.stage in
     let first = request_is_first p.platform i h t come.stage 4096 r.engine is in
@@ -112,13 +112,13 @@ IsSound-turn p i h r m route position sound mine blocking come is leads at count
     (subst (AllByRecursion (λ (x : Request). r.engine.seq ≤ x.seq)) first.first (numbers_at p.platform i h t come.stage r.engine)) in
     let route_is : route_of p.platform i q.address ≡ Some (place_of route) = ap (route_of p.platform i) (request_address (op_of r.engine) (payload_of r.engine 4096) t come.stage is) ∙ leads.leads in
     let bytes = log_bytes m.traits m.log.entries in
-    let pushed : IsSound p (h ++ entry_of p.platform i q (place_of route) at.row.traits bytes (length h) ∷ []) =
-    IsSound-push p i h come.made first.more _ q (place_of route) at.row bytes sound mine blocking come.asked first.first (seq ∙ sym come.count) later (is_access (op_of r.engine) (payload_of r.engine 4096) t come.stage is) route_is at.memory
+    let pushed : KeepsRequests p (h ++ entry_of p.platform i q (place_of route) at.row.traits bytes (length h) ∷ []) =
+    KeepsRequests-push p i h come.made first.more _ q (place_of route) at.row bytes kept mine blocking come.asked first.first (seq ∙ sym come.count) later (is_access (op_of r.engine) (payload_of r.engine 4096) t come.stage is) route_is at.memory
     (bytes_are p h m.log.entries route.memory at.row m.traits at.memory at.traits at.log) in
     let same : entry_made r m route position ≡ entry_of p.platform i q (place_of route) at.row.traits bytes (length h) =
     entry_is p i r m route position come.stage is leads at.number come.counted.number
     ∙ (ap (λ (x : MemoryTraits). entry_of p.platform i q (place_of route) x bytes position) at.traits ∙ ap (λ (x : ℕ). entry_of p.platform i q (place_of route) at.row.traits bytes x) counted) in
-    subst (λ (e : Entry). IsSound p (h ++ e ∷ [])) (sym same) pushed
+    subst (λ (e : Entry). KeepsRequests p (h ++ e ∷ [])) (sym same) pushed
 
 -- the run after its turn
 pub HasCome-turn : (p : Plan) (i : Initiator) (h : List Entry) (r : Run) (m : LoggedMemory) (route : Route) (position : ℕ) (got : List ℕ) → HasCome p.platform i h r → IsAccessOp (op_of r.engine) → IsRouteOf p i (address_of (op_of r.engine)) route → m.number ≡ route.memory

@@ -1,5 +1,5 @@
 -- A run after what is next in its script.
-use Rattle.std.proofs.Common.{◌≡◌, ℕ, ◌+◌, List, [], ◌∷◌, ◌++◌, length, map, Option, Some, None, false, refl, ap, sym, subst, ◌∙◌, add-zero}
+use Rattle.std.proofs.Common.{◌≡◌, ℕ, ◌+◌, List, [], ◌∷◌, ◌++◌, length, map, Option, Some, None, false, refl, ap, sym, subst, ◌∙◌, add-zero, arith}
 use Rattle.std.specs.List.{AllByRecursion, filter}
 use Rattle.tlm_types.specs.declared.entry.Entry.{Entry}
 use Rattle.tlm_model.specs.declared.operation.Operation.{Operation}
@@ -17,6 +17,7 @@ use Rattle.script_engine.specs.Asking.{asked_by, requests_at, stage_after, time_
 use Rattle.plat_core.specs.Come.{HasMade, HasCounted, HasCome, IsServed}
 use Rattle.plat_core.specs.Run.{Run, with_sync, waited, passed, refused_item, IsQuiet}
 use Rattle.plat_core.proofs.ComeLemmas.{HasMade-quiet}
+use Rattle.plat_core.proofs.RoundLemmas.{rounds_passed}
 use Rattle.plat_core.proofs.CountLemmas.{HasCounted-moved, time_stepped, with_sync_time, with_sync_engine, with_sync_refused}
 
 pub passed_initiator : (e : State) (ops : List Operation) → (passed_over e ops).initiator ≡ e.initiator
@@ -118,6 +119,8 @@ HasCome-quiet p i h r passes quiet come =
       time = quiet_time p i op r.keeper quiet;
       end = passes.end p i t r.engine unfenced;
       syncs = passes.syncs p i r.keeper.last_sync t r.engine unfenced (quiet_is_not_done op quiet);
+      seq = omega (arith, passes.seq r.engine 0 t 0 unfenced);
+      rounds = λ s. rounds_passed p i r.keeper.last_sync t s r.engine unfenced (quiet_is_not_done op quiet);
       numbers = passes.numbers r.engine unfenced;
     }))
     (passed_served r.engine r.engine.remaining refl come.served)

@@ -1,38 +1,38 @@
 -- The outcome of a core, and of a whole run.
-use Rattle.std.proofs.Common.{◌≡◌, ℕ, zero, suc, ◌+◌, ◌<◌, ◌≤◌, inl, inr, List, [], ◌∷◌, ◌++◌, length, map, take, get_or, Option, Some, Bool, true, false, nat_eq, refl, ap, sym, subst, ◌∙◌, arith}
+use Rattle.std.proofs.Common.{◌≡◌, ℕ, zero, suc, ◌+◌, ◌<◌, ◌≤◌, List, [], ◌∷◌, ◌++◌, length, map, take, get_or, Option, Some, true, refl, ap, sym, subst, ◌∙◌, arith}
 use Rattle.std.specs.List.{AllByRecursion, list_all}
 use Rattle.std.specs.Prelude.{slice_get, IsTrue, IsSomeAnd}
-use Rattle.std.proofs.Math.ListN.{set}
-use Rattle.std.proofs.lemmas.Bool.Decides.{nat_tests}
 use Rattle.std.proofs.lemmas.List.{length-map}
 use Rattle.std.proofs.lemmas.Option.{slice_get-get_or}
 use Rattle.tlm_types.specs.declared.ends.EndOf.{EndOf}
 use Rattle.tlm_types.specs.declared.words.ObjectNo.TheVariants.{Memory as memory_object}
 use Rattle.tlm_model.specs.declared.platform.MemoryRow.{MemoryRow}
-use Rattle.tlm_model.specs.declared.platform.Style.{Style}
-use Rattle.tlm_model.specs.declared.platform.Style.TheVariants.{Blocking as blocking_style}
-use Rattle.tlm_model.specs.Good.{IsGood}
 use Rattle.tlm_model.specs.History.{last_store}
 use Rattle.tlm_model.specs.Log.{log_bytes}
 use Rattle.tlm_model.specs.Plan.{Plan, Initiator, initiators_of}
 use Rattle.tlm_model.specs.Requests.{requests_of}
-use Rattle.tlm_model.specs.Rounds.{syncs_by, syncs_from}
+use Rattle.tlm_model.specs.Rounds.{syncs_from}
 use Rattle.tlm_model.specs.Scripts.{is_settled}
+use Rattle.good_history.specs.Good.{IsGood}
+use Rattle.good_history.proofs.Decoupled.{sound_ends}
 use Rattle.region_object.specs.Region.{LoggedMemory}
 use Rattle.route_plan.specs.Planned.{planned_at}
+use Rattle.time_board.specs.declared.rounds.Member.{Member}
 use Rattle.script_engine.proofs.Steps.{ends}
 use Rattle.plat_core.specs.declared.outcome.Outcome.{Outcome}
+use Rattle.plat_core.specs.Board.{AreInRounds}
 use Rattle.plat_core.specs.Come.{IsEndOf}
 use Rattle.plat_core.specs.Core.{CoreView, IsCore, IsMemoryAt, all_true, are_finished, begun_core, history_of}
 use Rattle.plat_core.specs.Fresh.{AreFresh, IsFresh}
-use Rattle.plat_core.proofs.ReportLemmas.{whole_of}
-use Rattle.plat_core.specs.Outcome.{HasFollowed, IsOutcome, IsScheduled, IsTurnOf, IsWhole}
+use Rattle.plat_core.specs.Outcome.{HasFollowed, IsOutcome, IsScheduled, IsTurnOf}
 use Rattle.plat_core.specs.Run.{Run, end_at}
-use Rattle.plat_core.proofs.AnswerLemmas.{and_left, and_right, and_true}
+use Rattle.plat_core.proofs.AnswerLemmas.{and_left, and_right}
 use Rattle.plat_core.proofs.CoreLemmas.{some_row, blocking_from, initiators_count}
-use Rattle.plat_core.proofs.EndLemmas.{HasCome-ended}
+use Rattle.plat_core.proofs.EndLemmas.{HasCome-ended, blocking_syncs}
 use Rattle.plat_core.proofs.EntryLemmas.{bytes_are}
-use Rattle.plat_core.proofs.ListLemmas.{at_set, has_element, take_all, take_next, within}
+use Rattle.plat_core.proofs.ListLemmas.{has_element, take_all, take_next, within}
+use Rattle.plat_core.proofs.SoundLemmas.{no_fourphase}
+use Rattle.plat_core.proofs.ViewLemmas.{view}
 
 -- an element that was made of another
 record IsMade {X Y : Type 0} (f : X → Y) (xs : List X) (k : ℕ) (y : Y) : Type 0 where
@@ -56,9 +56,6 @@ all_of : (P : Initiator → Type 0) (is : List Initiator) → ((k : ℕ) (i : In
 all_of P [] each = tt
 all_of P (i ∷ is) each = (each 0 i refl, all_of P is (λ k x at. each (suc k) x at))
 
-blocking_syncs : (style : Style) (n : ℕ) → style ≡ blocking_style → syncs_by style n ≡ n
-blocking_syncs style n is = ap (λ (s : Style). syncs_by s n) is
-
 -- how an initiator ended that has finished
 end_of_run : (p : Plan) (runs : List Run) (regions : List LoggedMemory) (made k : ℕ) (i : Initiator) (r : Run) → IsCore p runs regions made → slice_get (initiators_of p) k ≡ Some i → slice_get runs k ≡ Some r → r.finished ≡ true → IsEndOf p.platform i (history_of regions) (end_at r)
 end_of_run p runs regions made k i r core mine run finished =
@@ -72,21 +69,19 @@ end_of_run p runs regions made k i r core mine run finished =
     }
 
 good_core : (p : Plan) (runs : List Run) (regions : List LoggedMemory) (made : ℕ) → IsCore p runs regions made → all_true (are_finished runs) ≡ true → IsGood p (history_of regions)
-good_core p runs regions made core all = record {
-  sound = core.sound;
-  ended = record {
-    answers = all_of (λ (i : Initiator). IsTrue (list_all (is_settled p.platform i (history_of regions)) (requests_of p.platform i (history_of regions)))) (initiators_of p) (λ k i mine.
-        let found = has_element runs k (omega (arith, within (initiators_of p) k i mine, initiators_count 0 p.platform.initiators p.scripts core.servable.scripts, core.run_count)) in
-        let own = core.each_run k i found.element mine found.at in
-        (HasCome-ended ends p.platform i (history_of regions) found.element own.come (own.finished (flag_at runs k found.element all found.at))).ended);
-  };
-}
+good_core p runs regions made core all = sound_ends p (history_of regions) (no_fourphase p core.servable) core.sound (record {
+  answers = all_of (λ (i : Initiator). IsTrue (list_all (is_settled p.platform i (history_of regions)) (requests_of p.platform i (history_of regions)))) (initiators_of p) (λ k i mine.
+      let found = has_element runs k (omega (arith, within (initiators_of p) k i mine, initiators_count 0 p.platform.initiators p.scripts core.servable.scripts, core.run_count)) in
+      let own = core.each_run k i found.element mine found.at in
+      (HasCome-ended ends p.platform i (history_of regions) found.element own.come (own.finished (flag_at runs k found.element all found.at))).ended);
+})
 
 -- the outcome of a core
-outcome_seen : (p : Plan) (runs : List Run) (regions : List LoggedMemory) (made : ℕ) (o : Outcome) → IsCore p runs regions made → o.history.entries ≡ history_of regions → o.stores ≡ map (λ (m : LoggedMemory). log_bytes m.traits m.log.entries) regions → o.ends ≡ map end_at runs → o.complete ≡ all_true (are_finished runs) → IsOutcome (record { plan = p; history = history_of regions; finished = are_finished runs }) o
-outcome_seen p runs regions made o core history stores ended complete = record {
+outcome_seen : (p : Plan) (runs : List Run) (regions : List LoggedMemory) (members : List Member) (made : ℕ) (o : Outcome) → IsCore p runs regions made → AreInRounds p (history_of regions) runs members → o.history.entries ≡ history_of regions → o.stores ≡ map (λ (m : LoggedMemory). log_bytes m.traits m.log.entries) regions → o.ends ≡ map end_at runs → o.complete ≡ all_true (are_finished runs) → IsOutcome (view p regions runs members) o
+outcome_seen p runs regions members made o core are history stores ended complete = record {
   history = history;
   sound = core.sound;
+  rounds = are.kept;
   complete = complete;
   scripts = core.servable.scripts;
   flags = length-map runs (λ (r : Run). r.finished) ∙ core.run_count;
@@ -111,9 +106,9 @@ outcome_seen p runs regions made o core history stores ended complete = record {
         let row = some_row (slice_get p.platform.memories m) (λ (r : MemoryRow). x.traits ≡ r.traits) is.row in
         bytes_are p (history_of regions) x.log.entries m row.row x.traits row.at row.has is.log
 
-pub outcome_is : (p : Plan) (runs : List Run) (regions : List LoggedMemory) (made : ℕ) (v : CoreView) (o : Outcome) → IsCore p runs regions made → record { plan = p; history = history_of regions; finished = are_finished runs } ≡ v → o.history.entries ≡ history_of regions → o.stores ≡ map (λ (m : LoggedMemory). log_bytes m.traits m.log.entries) regions → o.ends ≡ map end_at runs → o.complete ≡ all_true v.finished → IsOutcome v o
-outcome_is p runs regions made v o core seen history stores ended complete =
-    subst (λ (w : CoreView). IsOutcome w o) seen (outcome_seen p runs regions made o core history stores ended (complete ∙ ap (λ (w : CoreView). all_true w.finished) (sym seen)))
+pub outcome_is : (p : Plan) (runs : List Run) (regions : List LoggedMemory) (members : List Member) (made : ℕ) (v : CoreView) (o : Outcome) → IsCore p runs regions made → AreInRounds p (history_of regions) runs members → view p regions runs members ≡ v → o.history.entries ≡ history_of regions → o.stores ≡ map (λ (m : LoggedMemory). log_bytes m.traits m.log.entries) regions → o.ends ≡ map end_at runs → o.complete ≡ all_true v.finished → IsOutcome v o
+outcome_is p runs regions members made v o core are seen history stores ended complete =
+    subst (λ (w : CoreView). IsOutcome w o) seen (outcome_seen p runs regions members made o core are history stores ended (complete ∙ ap (λ (w : CoreView). all_true w.finished) (sym seen)))
 
 -- one more number of a schedule
 pub followed_more : (a b c : CoreView) (ns : List ℕ) (n : ℕ) → HasFollowed a ns b → IsTurnOf b n c → HasFollowed a (ns ++ n ∷ []) c
@@ -130,31 +125,6 @@ scheduled p schedule k core o all followed is = record {
   followed = subst (λ (ns : List ℕ). HasFollowed (begun_core p) ns core) (take_all k schedule all) followed;
   ended = is;
 }
-
--- the first n flags are set
-pub record AreSet (flags : List Bool) (n : ℕ) : Type 0 where
-  pub each : (k : ℕ) (b : Bool) → k < n → slice_get flags k ≡ Some b → b ≡ true
-
-pub none_set : (flags : List Bool) → AreSet flags 0
-none_set flags = record { each = λ k b below is. absurd (omega (arith, below)) }
-
-pub set_more : (flags after : List Bool) (n : ℕ) → AreSet flags n → after ≡ set flags n true → AreSet after (n + 1)
-set_more flags after n are is = subst (λ (l : List Bool). AreSet l (n + 1)) (sym is) (record {
-  each = λ k b below at. elim (at_set flags n k true b at) [
-    | inl same ↦ sym same.1
-    | inr other ↦ are.each k b (fewer k n below other.0) other.1
-  ];
-})
-  where
-    fewer : (a b : ℕ) → a < b + 1 → nat_eq a b ≡ false → a < b
-    fewer a b less apart = grind (arith, nat_tests)
-
-pub all_set : (flags : List Bool) (n : ℕ) → length flags ≤ n → AreSet flags n → all_true flags ≡ true
-all_set [] n all are = refl
-all_set (b ∷ flags) n all are = and_true b (all_true flags) (are.each 0 b (omega arith) refl) (all_set flags n (omega arith) (record { each = λ k x below is. are.each (suc k) x (omega (arith, within flags k x is)) is }))
-
-pub whole_outcome : (p : Plan) (n : ℕ) (core : CoreView) (o : Outcome) → core.plan ≡ p → length core.finished ≤ n → AreSet core.finished n → IsOutcome core o → IsWhole p o
-whole_outcome p n core o plan all are is = whole_of p core o plan is (is.complete ∙ all_set core.finished n all are)
 
 pub fresh_none : (p : Plan) (regions : List LoggedMemory) → regions ≡ [] → AreFresh p regions 0
 fresh_none p regions none = subst (λ (r : List LoggedMemory). AreFresh p r 0) (sym none) (record { count = refl; each = λ k m is. absurd (nothing k m is) })

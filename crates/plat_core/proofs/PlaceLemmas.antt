@@ -1,9 +1,9 @@
 -- The places of a history's entries in its logs.
-use Rattle.std.proofs.Common.{◌≡◌, ℕ, zero, suc, ◌+◌, ◌<◌, ◌≤◌, inl, inr, List, [], ◌∷◌, ◌++◌, length, take, get_or, Option, Some, None, Bool, true, false, nat_eq, refl, ap, sym, subst, ◌∙◌, arith}
+use Rattle.std.proofs.Common.{◌≡◌, ℕ, zero, suc, ◌+◌, ◌<◌, ◌≤◌, inl, inr, List, [], ◌∷◌, ◌++◌, length, get_or, Option, Some, None, Bool, true, false, nat_eq, refl, ap, sym, subst, ◌∙◌, arith}
 use Rattle.std.specs.List.{AllByRecursion}
-use Rattle.std.specs.Option.{option_and_then, option_map, option_to_list}
-use Rattle.std.proofs.lemmas.Option.{get_or_from_slice_get, slice_get-get_or, slice_get_read}
-use Rattle.std.proofs.lemmas.List.{length-map, take_more}
+use Rattle.std.specs.Option.{option_and_then, option_map}
+use Rattle.std.proofs.lemmas.Option.{slice_get-get_or, slice_get_read}
+use Rattle.std.proofs.lemmas.List.{length-map}
 use Rattle.std.specs.Prelude.{slice_get}
 use Rattle.std.proofs.Math.ListN.{set}
 use Rattle.std.proofs.lemmas.Bool.Decides.{nat_tests}
@@ -14,7 +14,7 @@ use Rattle.tlm_model.specs.History.{IsNumbered, IsNumberedFrom}
 use Rattle.tlm_model.proofs.HistoryLemmas.{AllByRecursion-weaker}
 use Rattle.plat_core.specs.declared.merge.Place.{Place}
 use Rattle.plat_core.specs.Merge.{entries_in, merged}
-use Rattle.plat_core.specs.Places.{ArePlaces, HasPlaced, IsBefore, entries_of_logs, entry_at, noted}
+use Rattle.plat_core.specs.Places.{ArePlaces, HasPlaced, IsBefore, MergedView, entries_of_logs, entry_at, noted}
 use Rattle.plat_core.proofs.ListLemmas.{at_map, has_element, length-set', within}
 use Rattle.plat_core.proofs.MergeLemmas.{by_position-all, by_position-of}
 
@@ -239,7 +239,7 @@ pub record IsPlaced (logs : List (List Entry)) (k : ℕ) (place : Place) : Type 
   pub at : slice_get (merged logs) k ≡ Some entry
   pub there : entry_at logs place ≡ Some entry
 
-pub placed_at : (logs : List (List Entry)) (places : List Place) (k : ℕ) (d : Place) → ArePlaces logs places → k < length places → IsPlaced logs k (get_or places k d)
+placed_at : (logs : List (List Entry)) (places : List Place) (k : ℕ) (d : Place) → ArePlaces logs places → k < length places → IsPlaced logs k (get_or places k d)
 placed_at logs places k d are below =
     let found = has_element (merged logs) k (omega (arith, are.count)) in
     record {
@@ -247,6 +247,12 @@ placed_at logs places k d are below =
       at = found.at;
       there = sym (ap (option_and_then (λ (place : Place). entry_at logs place)) (slice_get-get_or places k d below)) ∙ are.each k found.element found.at;
     }
+
+-- the place that is read for a position
+pub place_read : (logs : List LogView) (places : List Place) (k : ℕ) (place : Place) (seen : MergedView) → ArePlaces (entries_of_logs logs) places → record { entries = merged (entries_of_logs logs) } ≡ seen → k < length seen.entries → place ≡ get_or places k place → IsPlaced (entries_of_logs logs) k place
+place_read logs places k place seen are is below read =
+    let count : length (merged (entries_of_logs logs)) ≡ length seen.entries = ap (λ (v : MergedView). length v.entries) is in
+    subst (IsPlaced (entries_of_logs logs) k) (sym read) (placed_at (entries_of_logs logs) places k place are (omega (arith, are.count)))
 
 pub place_log_within : (logs : List LogView) (k : ℕ) (place : Place) → IsPlaced (entries_of_logs logs) k place → place.log < length logs
 place_log_within logs k place is = omega (arith, entry_log_within (entries_of_logs logs) place is.entry is.there, length-map logs (λ (x : LogView). x.entries))
@@ -257,12 +263,6 @@ placed_in logs k place log is below here = sym (ap (option_and_then (λ (l : Lis
 pub place_index_within : (logs : List LogView) (k : ℕ) (place : Place) (log : LogView) → IsPlaced (entries_of_logs logs) k place → place.log < length logs → log ≡ get_or logs place.log log → place.index < length log.entries
 place_index_within logs k place log is below here = within log.entries place.index is.entry (placed_in logs k place log is below here)
 
-take_next : (xs : List Entry) (k : ℕ) (e : Entry) → slice_get xs k ≡ Some e → take (k + 1) xs ≡ take k xs ++ e ∷ []
-take_next xs k e is = take_more xs k e (within xs k e is) ∙ ap (λ (x : Entry). take k xs ++ x ∷ []) (get_or_from_slice_get xs k e e is)
-
--- one more entry is copied
-pub copied_more : (logs : List LogView) (k : ℕ) (place : Place) (log : LogView) (old new : List Entry) → IsPlaced (entries_of_logs logs) k place → place.log < length logs → log ≡ get_or logs place.log log → old ≡ take k (merged (entries_of_logs logs)) → new ≡ old ++ option_to_list (slice_get log.entries place.index) → new ≡ take (k + 1) (merged (entries_of_logs logs))
-copied_more logs k place log old new is below here before now =
-    now
-    ∙ (ap (λ (o : Option Entry). old ++ option_to_list o) (placed_in logs k place log is below here)
-    ∙ (ap (λ (l : List Entry). l ++ is.entry ∷ []) before ∙ sym (take_next (merged (entries_of_logs logs)) k is.entry is.at)))
+-- what stands at the place of a position is the entry of the history there
+pub placed_same : (logs : List LogView) (k : ℕ) (place : Place) (log : LogView) → IsPlaced (entries_of_logs logs) k place → place.log < length logs → log ≡ get_or logs place.log log → slice_get log.entries place.index ≡ slice_get (merged (entries_of_logs logs)) k
+placed_same logs k place log is below here = placed_in logs k place log is below here ∙ sym is.at

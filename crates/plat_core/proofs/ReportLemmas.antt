@@ -2,9 +2,9 @@
 use Rattle.std.proofs.Common.{◌≡◌, ℕ, zero, suc, ◌<◌, List, [], ◌∷◌, length, Some, Bool, true, ap, sym, subst, ◌∙◌, arith}
 use Rattle.std.specs.Prelude.{slice_get}
 use Rattle.tlm_types.specs.declared.entry.Entry.{Entry}
-use Rattle.tlm_model.specs.Good.{IsGood}
 use Rattle.tlm_model.specs.History.{last_store}
 use Rattle.tlm_model.specs.Plan.{Plan}
+use Rattle.good_history.specs.Good.{IsGood}
 use Rattle.plat_core.specs.declared.outcome.Outcome.{Outcome}
 use Rattle.plat_core.specs.Come.{IsEndOf}
 use Rattle.plat_core.specs.Core.{CoreView, all_true}

@@ -1,5 +1,5 @@
 -- Moves of a run without an entry.
-use Rattle.std.proofs.Common.{◌≡◌, ℕ, zero, suc, ◌+◌, ◌<◌, ◌≤◌, List, [], ◌∷◌, length, Option, Some, None, Bool, true, false, cond, refl, ap, sym, subst, ◌∙◌, arith}
+use Rattle.std.proofs.Common.{◌≡◌, ℕ, zero, suc, ◌+◌, ◌^◌, ◌<◌, ◌≤◌, List, [], ◌∷◌, length, Option, Some, None, Bool, true, false, cond, refl, ap, sym, subst, ◌∙◌, arith}
 use Rattle.std.specs.List.{filter}
 use Rattle.std.specs.Prelude.{slice_get, MatchOption}
 use Rattle.std.proofs.lemmas.Option.{MatchOption-at_some}
@@ -17,11 +17,12 @@ use Rattle.script_engine.specs.Asking.{numbers_due}
 use Rattle.script_engine.proofs.Steps.{passes, told}
 use Rattle.plat_core.specs.Left.{asks_left, leads}
 use Rattle.plat_core.proofs.LeftLemmas.{left_passed, left_after}
+use Rattle.plat_core.specs.Board.{SyncsOnce}
 use Rattle.plat_core.specs.Moves.{IsUnderWay, Keeps, steps_left}
-use Rattle.plat_core.specs.Run.{Run, IsAccessOp, IsQuiet, address_of, accessed, passed, engine_after, refused_item, with_refusal, waited, arrived}
+use Rattle.plat_core.specs.Run.{Run, IsAccessOp, IsQuiet, address_of, accessed, passed, engine_after, refused_item, with_refusal, with_sync, waited, arrived}
 use Rattle.plat_core.proofs.AccessLemmas.{Laws, HasCome-unrouted}
-use Rattle.plat_core.proofs.CountLemmas.{with_sync_engine}
-use Rattle.plat_core.proofs.EndLemmas.{HasCome-finished}
+use Rattle.plat_core.proofs.CountLemmas.{with_sync_engine, with_sync_once, with_sync_round}
+use Rattle.plat_core.proofs.EndLemmas.{HasCome-finished, HasCome-round}
 use Rattle.plat_core.proofs.MoveLemmas.{HasCome-quiet, passed_initiator, told_at_initiator}
 use Rattle.plat_core.proofs.ReplyLemmas.{unrouted_answers, refused_is_request}
 
@@ -98,6 +99,32 @@ Keeps-same p r = record { initiator = refl; come = λ i h mine come. come; left 
 
 pub Keeps-finished : (p : Plan) (r : Run) (b : Bool) → Keeps p r (record r { finished = b })
 Keeps-finished p r b = record { initiator = refl; come = λ i h mine come. HasCome-finished p.platform i h r b come; left = λ i m. omega arith }
+
+pub Keeps-round : (p : Plan) (r new : Run) (n : ℕ) → new ≡ record r { round = n } → Keeps p r new
+Keeps-round p r new n is = subst (Keeps p r) (sym is) (record { initiator = refl; come = λ i h mine come. HasCome-round p.platform i h r n come; left = λ i m. omega arith })
+
+-- at most one sync is made
+pub SyncsOnce-same : (r : Run) → SyncsOnce r r
+SyncsOnce-same r = record { round = refl; more = omega arith; once = omega arith }
+
+pub SyncsOnce-finished : (r : Run) (b : Bool) → SyncsOnce r (record r { finished = b })
+SyncsOnce-finished r b = record { round = refl; more = omega arith; once = omega arith }
+
+SyncsOnce-synced : (op : Op) (r : Run) → r.syncs < 2 ^ 64 → SyncsOnce r (with_sync op r)
+SyncsOnce-synced op r few = record { round = with_sync_round op r; more = (with_sync_once op r few).0; once = (with_sync_once op r few).1 }
+
+pub SyncsOnce-by_pass : (r new : Run) (op : Op) → new ≡ passed op r → r.syncs < 2 ^ 64 → SyncsOnce r new
+SyncsOnce-by_pass r new op run few = subst (SyncsOnce r) (sym run) (let next : Run = record r { engine = passed_by r.engine; keeper = waited op r.keeper } in let once = SyncsOnce-synced op next few in record { round = once.round; more = once.more; once = once.once })
+
+pub SyncsOnce-by_access : (r new : Run) (op : Op) (by : ℕ) (got : List ℕ) → new ≡ accessed op by got r → r.syncs < 2 ^ 64 → SyncsOnce r new
+SyncsOnce-by_access r new op by got run few = subst (SyncsOnce r) (sym run) (let next : Run = record r { engine = engine_after r.engine got; keeper = arrived op by r.keeper } in let once = SyncsOnce-synced op next few in record { round = once.round; more = once.more; once = once.once })
+
+pub SyncsOnce-by_refusal : (r new : Run) (op : Op) (by : ℕ) (got : List ℕ) → new ≡ accessed op by got (with_refusal op r) → r.syncs < 2 ^ 64 → SyncsOnce r new
+SyncsOnce-by_refusal r new op by got run few = let once = SyncsOnce-by_access (with_refusal op r) new op by got run few in record { round = once.round; more = once.more; once = once.once }
+
+-- the syncs of a run that is under way are few
+pub few_syncs : (p : Plan) (r : Run) → IsUnderWay p r → r.syncs < 2 ^ 64
+few_syncs p r way = omega (arith, way.come.counted.syncs, way.come.counted.few)
 
 pub Keeps-then : (p : Plan) (a b c : Run) → Keeps p a b → Keeps p b c → Keeps p a c
 Keeps-then p a b c first second = record {

@@ -11,7 +11,7 @@ use Rattle.tlm_model.specs.declared.operation.Operation.TheVariants.{Write, Read
 use Rattle.tlm_model.specs.Log.{log_bytes}
 use Rattle.tlm_model.specs.Store.{zeros, status_of}
 use Rattle.generic_payload.specs.Payload.{PayloadView}
-use Rattle.region_object.specs.Call.{IsFit, payload_of as payload_of_call}
+use Rattle.region_object.specs.Call.{IsFit}
 use Rattle.region_object.specs.declared.call.RegionCall.{RegionCall}
 use Rattle.region_object.specs.Region.{LoggedMemory, answered, entry_of as entry_of_call}
 use Rattle.route_plan.specs.declared.step.Route.{Route}
@@ -19,20 +19,11 @@ use Rattle.script_engine.specs.declared.op.Op.{Op}
 use Rattle.script_engine.specs.declared.op.Op.TheVariants as next
 use Rattle.script_engine.specs.State.{Due, op_at, op_of, is_fenced, length_of, payload_at, payload_of}
 use Rattle.quantum_keeper.specs.Keeper.{current_time}
+use Rattle.plat_core.specs.declared.run.NextAccess.{NextAccess}
 use Rattle.plat_core.specs.Access.{HasLog, call_at, next_call, payload_back, place_of, time_at, entry_made, bytes_back, payload_room}
 use Rattle.plat_core.specs.Entry.{access_at, answered_by, back, got_for, way_of}
 use Rattle.plat_core.specs.Run.{Run, IsAccessOp, request_for}
 use Rattle.plat_core.proofs.ReplyLemmas.{length-got}
-
--- the call has the payload
-pub call_payload : (op : Op) (txn : TxnId) (t before : ℕ) (p : PayloadView) → payload_of_call (call_at op txn t before p) ≡ p
-call_payload (next.Access s a n command plain fenced) txn t before p = refl
-call_payload (next.Debug s a n) txn t before p = refl
-call_payload (next.Wait n) txn t before p = refl
-call_payload next.Sync txn t before p = refl
-call_payload next.Fence txn t before p = refl
-call_payload (next.Invalidate s a n) txn t before p = refl
-call_payload next.Done txn t before p = refl
 
 -- the payload keeps its room
 pub room_back : (m : LoggedMemory) (op : Op) (txn : TxnId) (t before : ℕ) (p : PayloadView) → (payload_back m (call_at op txn t before p)).room ≡ p.room
@@ -159,6 +150,11 @@ fit_at txn s t before offset None (Invalidate a n ∷ ops) is = absurd is
 pub next_call_fits : (r : Run) (route : Route) (call : RegionCall) → call ≡ next_call r route → IsAccessOp (op_of r.engine) → IsFit call
 next_call_fits r route call same is = subst IsFit (sym same) (fit_at (record { initiator = r.engine.initiator; seq = r.engine.seq }) r.engine.seq (current_time r.keeper) route.before route.offset r.engine.due r.engine.remaining is)
 
+-- the call of what is next, from its parts
+pub call_is_next : (r : Run) (next : NextAccess) (txn : TxnId) (t : ℕ) (p : PayloadView) → next.op ≡ op_of r.engine → txn ≡ record { initiator = r.engine.initiator; seq = r.engine.seq } → t ≡ current_time r.keeper → p ≡ record (payload_of r.engine payload_room) { address = next.route.offset }
+    → call_at next.op txn t next.route.before p ≡ next_call r next.route
+call_is_next r next txn t p op mine now filled = rw (op, mine, now, filled) refl
+
 -- what comes back of a call
 pub record IsSent (r : Run) (old new : LoggedMemory) (route : Route) (position : ℕ) (returned : PayloadView) : Type 0 where
   pub logged : HasLog old new (old.log.entries ++ entry_made r old route position ∷ [])
@@ -176,9 +172,3 @@ call_is_sent r old new route position call returned is same logged comes =
       whole = λ fenced. ap (λ (p : PayloadView). length p.bytes) back_is ∙ (ap length (bytes_come_back r old route fenced) ∙ whole_comes_back r old route fenced);
       room = ap (λ (p : PayloadView). p.room) back_is ∙ (room_back old (op_of r.engine) (record { initiator = r.engine.initiator; seq = r.engine.seq }) (current_time r.keeper) route.before (record (payload_of r.engine payload_room) { address = route.offset }) ∙ room_of_payload payload_room r.engine.due r.engine.remaining);
     }
-
--- the payload of a call that wasn't sent
-pub unsent_room : (r : Run) (route : Route) (call : RegionCall) (returned : PayloadView) → call ≡ next_call r route → returned ≡ payload_of_call call → returned.room ≡ payload_room
-unsent_room r route call returned same is =
-    ap (λ (p : PayloadView). p.room) (is ∙ (ap payload_of_call same ∙ call_payload (op_of r.engine) (record { initiator = r.engine.initiator; seq = r.engine.seq }) (current_time r.keeper) route.before (record (payload_of r.engine payload_room) { address = route.offset })))
-    ∙ room_of_payload payload_room r.engine.due r.engine.remaining

@@ -1,4 +1,4 @@
--- One more entry of a sound history: that of the first request that isn't settled.
+-- One more entry of a history that has the points of requests: that of the first request that isn't settled.
 use Rattle.std.proofs.Common.{◌≡◌, ℕ, ◌≤◌, List, [], ◌∷◌, ◌++◌, length, Option, Some, Bool, true, false, not, ◌||◌, nat_lt, refl, ap, sym, subst, ◌∙◌, arith}
 use Rattle.std.specs.List.{AllByRecursion, list_all}
 use Rattle.std.specs.Prelude.{slice_get, MatchOption, IsTrue}
@@ -16,7 +16,7 @@ use Rattle.tlm_model.specs.declared.platform.MemoryRow.{MemoryRow}
 use Rattle.tlm_model.specs.declared.platform.Platform.{Platform}
 use Rattle.tlm_model.specs.declared.platform.Style.{Style}
 use Rattle.tlm_model.specs.declared.platform.Style.TheVariants.{Blocking as blocking_style}
-use Rattle.tlm_model.specs.Good.{IsSound}
+use Rattle.tlm_model.specs.Kept.{KeepsRequests}
 use Rattle.tlm_model.specs.History.{Store, after, IsAnswer, IsLegalEntry, IsLegalFrom, opening_store, store_from, last_store}
 use Rattle.tlm_model.specs.Plan.{Plan, Initiator, initiators_of}
 use Rattle.tlm_model.specs.Requests.{Asked, Transport, DebugRead, Invalidation, Request, requests_of}
@@ -89,13 +89,13 @@ entry_way style (Transport a) access status got q is = subst (λ (x : Style). Ha
 entry_way style (DebugRead a) access status got q is = subst (λ (x : Style). HasWay x (DebugRead a) (Accessed Debug access status got)) (sym q) refl
 entry_way style (Invalidation n) access status got q is = absurd is
 
--- Where an initiator's made requests are settled, the entry of its next one makes a sound history.
-pub IsSound-push : (p : Plan) (i : Initiator) (h : List Entry) (made more : List Request) (left : List Entry → List Request) (r : Request) (route : Route) (row : MemoryRow) (bytes : List ℕ)
-    → IsSound p h → slice_get (initiators_of p) i.number ≡ Some i → i.row.style ≡ blocking_style
+-- Where an initiator's made requests are settled, a history with the entry of its next one has the points of requests.
+pub KeepsRequests-push : (p : Plan) (i : Initiator) (h : List Entry) (made more : List Request) (left : List Entry → List Request) (r : Request) (route : Route) (row : MemoryRow) (bytes : List ℕ)
+    → KeepsRequests p h → slice_get (initiators_of p) i.number ≡ Some i → i.row.style ≡ blocking_style
     → HasMade p.platform i h made left → left h ≡ r ∷ more → r.seq ≡ length made → AllByRecursion (λ (q : Request). r.seq ≤ q.seq) (r ∷ more)
     → IsAccess r.asked → route_of p.platform i r.address ≡ Some route → slice_get p.platform.memories route.memory ≡ Some row → bytes ≡ last_store p.platform h route.memory
-    → IsSound p (h ++ entry_of p.platform i r route row.traits bytes (length h) ∷ [])
-IsSound-push p i h made more left r route row bytes sound mine blocking has first number later asks leads memory bytes_are =
+    → KeepsRequests p (h ++ entry_of p.platform i r route row.traits bytes (length h) ∷ [])
+KeepsRequests-push p i h made more left r route row bytes kept mine blocking has first number later asks leads memory bytes_are =
     let e = entry_of p.platform i r route row.traits bytes (length h) in
     let way = way_of r.asked in
     let access = access_at route r.asked in
@@ -109,13 +109,13 @@ IsSound-push p i h made more left r route row bytes sound mine blocking has firs
     subst (λ (o : Option MemoryRow). IsAnswer o (last_store p.platform h route.memory) way access status got) (sym memory)
     (subst (λ (b : List ℕ). IsAnswer (Some row) b way access status got) bytes_are (refl, refl)) in
     record {
-      numbered = IsNumberedFrom-push 0 h e sound.numbered (omega arith);
-      legal = IsLegalFrom-push p.platform (opening_store p.platform) h e sound.legal legal;
+      numbered = IsNumberedFrom-push 0 h e kept.numbered (omega arith);
+      legal = IsLegalFrom-push p.platform (opening_store p.platform) h e kept.legal legal;
       scripts = record {
-        replies = AtEach-push _ h e sound.scripts.replies (of_request p h e _ i r mine asked (entry_replies p.platform i r route (route_of p.platform i r.address) e.what r.asked 0 asks leads way status got));
-        ways = AtEach-push _ h e sound.scripts.ways (of_request p h e _ i r mine asked (entry_way i.row.style r.asked access status got blocking asks));
-        order = AtEach-push _ h e sound.scripts.order (of_request p h e _ i r mine asked (in_order p.platform i h made more r blocking all has.settled fresh later));
-        places = AtEach-push _ h e sound.scripts.places tt;
+        replies = AtEach-push _ h e kept.scripts.replies (of_request p h e _ i r mine asked (entry_replies p.platform i r route (route_of p.platform i r.address) e.what r.asked 0 asks leads way status got));
+        ways = AtEach-push _ h e kept.scripts.ways (of_request p h e _ i r mine asked (entry_way i.row.style r.asked access status got blocking asks));
+        order = AtEach-push _ h e kept.scripts.order (of_request p h e _ i r mine asked (in_order p.platform i h made more r blocking all has.settled fresh later));
+        places = AtEach-push _ h e kept.scripts.places tt;
       };
-      times = AtEach-push _ h e sound.times (of_request p h e _ i r mine asked (subst (λ (x : Style). HasTime x (access_time p.platform i r (way_of r.asked)) (access_time p.platform i r (way_of r.asked))) (sym blocking) refl));
+      times = AtEach-push _ h e kept.times (of_request p h e _ i r mine asked (subst (λ (x : Style). HasTime x (access_time p.platform i r (way_of r.asked)) (access_time p.platform i r (way_of r.asked))) (sym blocking) refl));
     }

@@ -1,5 +1,7 @@
 pub mod Entry
 pub mod Run
+pub mod Rounds
+pub mod Board
 pub mod Come
 pub mod Access
 pub mod Left

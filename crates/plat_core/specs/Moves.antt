@@ -1,14 +1,18 @@
 -- What a run's moves without an entry lead to.
-use Rattle.std.specs.Prelude.{ℕ, ◌≡◌, ◌+◌, ◌*◌, ◌<◌, ◌≤◌, true, List, length, Option, Some, None, MatchOption, slice_get}
+use Rattle.std.specs.Prelude.{ℕ, ◌≡◌, ◌+◌, ◌*◌, ◌<◌, ◌≤◌, true, List, length, Some, MatchOption, slice_get}
 use Rattle.tlm_types.specs.declared.entry.Entry.{Entry}
 use Rattle.tlm_model.specs.Plan.{Plan, Initiator, initiators_of}
 use Rattle.route_plan.specs.declared.step.Route.{Route}
+use Rattle.time_board.specs.declared.rounds.Member.{Member}
 use Rattle.script_engine.specs.declared.op.Op.TheVariants as next
 use Rattle.script_engine.specs.State.{State, op_of}
 use Rattle.script_engine.specs.Asking.{numbers_due}
 use Rattle.plat_core.specs.declared.run.Move.{Move}
 use Rattle.plat_core.specs.declared.run.Move.TheVariants.{Went, Reached, Ended}
+use Rattle.plat_core.specs.declared.run.Stop.{Stop}
+use Rattle.plat_core.specs.declared.run.Stop.TheVariants as stop
 use Rattle.plat_core.specs.Access.{IsRouteOf}
+use Rattle.plat_core.specs.Board.{IsWaiting}
 use Rattle.plat_core.specs.Come.{HasCome}
 use Rattle.plat_core.specs.Left.{asks_left}
 use Rattle.plat_core.specs.Run.{Run, IsAccessOp, address_of}
@@ -37,13 +41,14 @@ pub record HasEnded (r : Run) : Type 0 where
 -- a move goes on in the script, or stands at an access with a route, or at the end
 abbrev pub IsMove : Plan → Run → Run → Move → Type 0
 IsMove p old new Went = (steps_left new.engine < steps_left old.engine) × (new.finished ≡ old.finished)
-IsMove p old new (Reached route) = HasReached p new route × (new.finished ≡ old.finished)
-IsMove p old new Ended = HasEnded new
+IsMove p old new (Reached access) = HasReached p new access.route × (access.op ≡ op_of new.engine) × (new ≡ old)
+IsMove p old new Ended = HasEnded new × (new ≡ record old { finished = true })
 
--- all moves lead to an access with a route, or to the end
-abbrev pub Advances : Plan → Run → Run → Option Route → Type 0
-Advances p old new (Some route) = HasReached p new route × (new.finished ≡ old.finished)
-Advances p old new None = HasEnded new
+-- all moves lead to an access with a route, to the end, or to a sync that isn't let through
+abbrev pub Advances : Plan → Run → Run → List Member → Stop → Type 0
+Advances p old new members (stop.Reached access) = HasReached p new access.route × (access.op ≡ op_of new.engine) × (new.finished ≡ old.finished) × (new.round ≡ new.syncs)
+Advances p old new members stop.Waits = IsWaiting members new × (new.finished ≡ old.finished)
+Advances p old new members stop.Ended = HasEnded new × (new.round ≡ new.syncs)
 
 -- what a run has come to in a history, the run that follows it has come to as well
 pub record Keeps (p : Plan) (old new : Run) : Type 0 where

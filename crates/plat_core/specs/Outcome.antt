@@ -1,19 +1,21 @@
 -- How a run ended.
 use Rattle.std.specs.Prelude.{ℕ, ◌≡◌, ◌<◌, ◌≤◌, true, List, [], ◌∷◌, length, Some, slice_get}
 use Rattle.tlm_types.specs.declared.ends.EndOf.{EndOf}
-use Rattle.tlm_model.specs.Good.{IsGood, IsSound}
 use Rattle.tlm_model.specs.History.{last_store}
 use Rattle.tlm_model.specs.Plan.{Plan, Initiator, initiators_of}
+use Rattle.good_history.specs.Good.{IsGood, IsSound}
 use Rattle.plat_core.specs.declared.outcome.Outcome.{Outcome}
 use Rattle.plat_core.specs.declared.steps.CoreStep.{CoreStep}
 use Rattle.plat_core.specs.Come.{IsEndOf}
+use Rattle.plat_core.specs.Rounds.{KeepsRounds}
 use Rattle.plat_core.specs.Core.{CoreView, IsStep, actors_of, all_true, begun_core}
 
--- An outcome is that of a core: its history, which is sound, the bytes of each memory, and how each initiator
+-- An outcome is that of a core: its history, which is sound and keeps the rounds, the bytes of each memory, and how each initiator
 -- ended that has finished. Where all have finished it is complete, and the history is good.
 pub record IsOutcome (core : CoreView) (outcome : Outcome) : Type 0 where
   pub history : outcome.history.entries ≡ core.history
   pub sound : IsSound core.plan core.history
+  pub rounds : KeepsRounds core.plan core.history
   pub complete : outcome.complete ≡ all_true core.finished
   pub scripts : length core.plan.scripts ≡ length core.plan.platform.initiators
   pub flags : length core.finished ≡ length core.plan.platform.initiators

@@ -6,6 +6,10 @@ use Rattle.tlm_types.specs.Log.{LogView}
 use Rattle.plat_core.specs.declared.merge.Place.{Place}
 use Rattle.plat_core.specs.Merge.{merged}
 
+-- what is seen of a merged log: its entries in order
+pub record MergedView : Type 0 where
+  pub entries : List Entry
+
 abbrev pub entries_of_logs : List LogView → List (List Entry)
 entries_of_logs logs = map (λ (log : LogView). log.entries) logs
 

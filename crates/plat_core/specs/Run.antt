@@ -14,11 +14,13 @@ use Rattle.script_engine.specs.declared.op.Op.TheVariants as next
 use Rattle.script_engine.specs.State.{State, begun as begun_engine, op_of, is_fenced, told_by, passed_by}
 use Rattle.script_engine.specs.Asking.{asked_access, is_sync_op, stage_of}
 
--- where its script stands, its local time, its syncs, what had no route, and whether it has finished
+-- where its script stands, its local time, its syncs, the round that it has been let into, what had no route, and
+-- whether it has finished
 pub record Run : Type 0 where
   pub engine : State
   pub keeper : Keeper
   pub syncs : ℕ
+  pub round : ℕ
   pub refused : Refusals
   pub finished : Bool
 
@@ -28,6 +30,7 @@ begun initiator script quantum room = record {
   engine = begun_engine initiator script;
   keeper = begun_keeper quantum;
   syncs = 0;
+  round = 0;
   refused = record { items = []; room = room };
   finished = false;
 }

@@ -3,10 +3,12 @@ use Rattle.std.specs.Prelude.{ℕ, ◌≡◌, ◌<◌, true, List, [], ◌∷◌
 use Rattle.tlm_model.specs.Plan.{Plan}
 use Rattle.region_object.specs.Region.{LoggedMemory}
 use Rattle.route_plan.specs.declared.step.Route.{Route}
+use Rattle.time_board.specs.declared.rounds.Member.{Member}
 use Rattle.script_engine.specs.State.{op_of, is_fenced}
 use Rattle.plat_core.specs.declared.turn.Turn.{Turn}
-use Rattle.plat_core.specs.declared.turn.Turn.TheVariants.{Made, Ended, NoMemory}
+use Rattle.plat_core.specs.declared.turn.Turn.TheVariants.{Made, Waits, Ended, NoMemory}
 use Rattle.plat_core.specs.Access.{HasLog, bytes_back, entry_made}
+use Rattle.plat_core.specs.Board.{IsWaiting}
 use Rattle.plat_core.specs.Moves.{HasEnded, HasReached, Keeps}
 use Rattle.plat_core.specs.Run.{Run, accessed}
 
@@ -29,6 +31,7 @@ pub record HasMadeAccess (p : Plan) (old new : Run) (before after : List LoggedM
   pub keeps : Keeps p old middle
   pub finished : middle.finished ≡ old.finished
   pub reached : HasReached p middle route
+  pub through : middle.round ≡ middle.syncs
   pub memory : HasLogAt before after route.memory region next
   pub logged : HasLog region next (region.log.entries ++ entry_made middle region route position ∷ [])
   pub told : is_fenced (op_of middle.engine) ≡ true → got ≡ bytes_back middle region route
@@ -50,9 +53,18 @@ pub record HasMoved (p : Plan) (old new : Run) (before after : List LoggedMemory
 pub record HasMovedToEnd (p : Plan) (old new : Run) (before after : List LoggedMemory) : Type 0 where
   pub keeps : Keeps p old new
   pub ended : HasEnded new
+  pub through : new.round ≡ new.syncs
   pub same : after ≡ before
 
-abbrev pub IsTurn : Plan → Run → Run → List LoggedMemory → List LoggedMemory → ℕ → Turn → Type 0
-IsTurn p old new before after position Made = HasMadeAccess p old new before after position
-IsTurn p old new before after position Ended = HasMovedToEnd p old new before after
-IsTurn p old new before after position NoMemory = HasMoved p old new before after
+-- the run has moved to a sync that isn't let through
+pub record HasMovedToWait (p : Plan) (old new : Run) (members : List Member) (before after : List LoggedMemory) : Type 0 where
+  pub keeps : Keeps p old new
+  pub finished : new.finished ≡ old.finished
+  pub waiting : IsWaiting members new
+  pub same : after ≡ before
+
+abbrev pub IsTurn : Plan → Run → Run → List Member → List LoggedMemory → List LoggedMemory → ℕ → Turn → Type 0
+IsTurn p old new members before after position Made = HasMadeAccess p old new before after position
+IsTurn p old new members before after position Waits = HasMovedToWait p old new members before after
+IsTurn p old new members before after position Ended = HasMovedToEnd p old new before after
+IsTurn p old new members before after position NoMemory = HasMoved p old new before after

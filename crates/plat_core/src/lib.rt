@@ -2,12 +2,16 @@
 //!
 //! - `Core` holds the initiators' runs and the memories. `step` makes one event of an actor: its moves
 //!   that add no entry, up to and with its next entry.
-//! - `run_schedule` steps the actors that a schedule names, `run_in_order` one initiator after the other.
-//! - `Outcome` is how a run ended; `merge_by_position` makes one log of the logs of its objects.
+//! - `run_schedule` steps the actors that a schedule names. In `run_in_order` each initiator in order goes
+//!   on until it has finished or waits for one that is behind.
+//! - `Outcome` is how a run ended; `MergedLog` makes one history of the logs of its objects.
 //!
 //! Promises: after every step the history is sound for the plan, and has one more entry, which is the
 //! actor's, or as many as before. An initiator finishes exactly where all that its script asks for is
-//! settled. Once all have finished, the history is good, and the stores and ends are those of the
+//! settled. Each sync of an initiator begins a round (IEEE 1666-2011, clause 16.2), and it is let into that
+//! round only where every other one that hasn't finished has reached the round before: a step waits exactly
+//! where its initiator is held back, and an entry of round r stands after every entry whose round is at most
+//! r - 2. Once all have finished, the history is good, and the stores and ends are those of the
 //! definitions. Each plan is served: its initiators are blocking, and no script has an `invalidate`.
 //! The only error is want of memory, after which the history is as before.
 #![tactic(auto)]
@@ -21,7 +25,7 @@ mod steps;
 mod tests;
 mod turn;
 
-pub use merge::merge_by_position;
+pub use merge::MergedLog;
 pub use outcome::Outcome;
 pub use schedule::{run_in_order, run_schedule};
 pub use steps::{Core, CoreStep};

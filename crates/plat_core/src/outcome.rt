@@ -1,12 +1,13 @@
 // How a run ended.
+use crate::merge::MergedLog;
 use tlm_model::Rows;
-use tlm_types::{Bytes, EndOf, Log};
+use tlm_types::{Bytes, EndOf};
 
 /// How a run ended: its history, the bytes of each memory, how each initiator ended, and whether all
 /// initiators have finished. The end of one that hasn't is told as far as it has come.
 #[derive(Drop)]
 pub struct Outcome {
-    pub history: Log,
+    pub history: MergedLog,
     pub stores: Rows<Bytes>,
     pub ends: Rows<EndOf>,
     pub complete: bool,

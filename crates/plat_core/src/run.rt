@@ -1,22 +1,25 @@
 // The run of one initiator: its script, its local time, and what is counted of it.
-ghost use Rattle.std.specs.Prelude.{◌≡◌, ◌+◌, ◌*◌, ◌<◌, ◌≤◌, [], ◌∷◌, ◌++◌, length, IfOk, IfErr, true};
+ghost use Rattle.std.specs.Prelude.{◌≡◌, ◌+◌, ◌*◌, ◌^◌, ◌<◌, ◌≤◌, [], ◌∷◌, ◌++◌, length, IfOk, OnOk, OnErr, true, false};
 ghost use Rattle.tlm_model.specs.Plan.{Plan as PlanView};
-ghost use Rattle.region_object.specs.Call.{IsFit, payload_of as payload_of_call};
+ghost use Rattle.region_object.specs.Call.{IsFit};
 ghost use Rattle.region_object.specs.Region.{entry_of as entry_of_call};
 ghost use Rattle.traffic_script.specs.Proper.{AreProper};
 ghost use Rattle.script_engine.specs.State.{is_fenced, length_of, op_of, payload_of};
-ghost use Rattle.plat_core.specs.Access.{HasLog, bytes_back, call_at, entry_made, next_call, payload_back, payload_in_reply};
+ghost use Rattle.time_board.specs.Rounds.{AreClose};
+ghost use Rattle.plat_core.specs.Access.{HasLog, bytes_back, call_at, entry_made, payload_back};
+ghost use Rattle.plat_core.specs.Board.{HasGoneOn, IsInRound, IsLet, SyncsOnce};
 ghost use Rattle.plat_core.specs.Moves.{Advances, IsMove, IsUnderWay, Keeps, steps_left};
 ghost use Rattle.plat_core.specs.Run.{IsAccessOp, IsQuiet, accessed, address_of, begun, end_at, engine_after, passed, refused_op, with_refusal, with_sync};
 
 use generic_payload::Payload;
 use outside::Pace;
 use quantum_keeper::QuantumKeeper;
-use region_object::{Region, RegionCall, RegionReply};
+use region_object::Region;
 use route_plan::{Plan, Route};
 use script_engine::{Engine, Op};
 use std::alloc::Global;
 use std::marker::Model;
+use time_board::{Advance, Rounds};
 use tlm_types::{Command, EndOf, Memory, Ps, RefusedItem, RefusedList, TxnId, Way};
 use traffic_script::Script;
 
@@ -26,6 +29,7 @@ pub(crate) struct InitiatorRun {
     engine: Engine,
     keeper: QuantumKeeper,
     syncs: u64,
+    round: u64,
     refused: RefusedList,
     finished: bool,
 }
@@ -39,23 +43,35 @@ impl Model for InitiatorRun {
       engine = r.engine;
       keeper = r.keeper;
       syncs = r.syncs;
+      round = r.round;
       refused = r.refused;
       finished = r.finished;
     } };
 }
 
-/// Want of memory, with the payload that wasn't sent.
+/// An access or a debug read that is next, with its route.
 #[derive(Drop)]
-pub(crate) struct NoRoom {
-    pub payload: Payload,
+pub(crate) struct NextAccess {
+    pub op: Op,
+    pub route: Route,
 }
 
 /// What a run does next.
 pub(crate) enum Move {
     /// It has moved on, and made no entry.
     Went,
-    /// The access or debug read that is next has this route.
-    Reached(Route),
+    /// The access or debug read that is next has a route.
+    Reached(NextAccess),
+    /// Its script has ended.
+    Ended,
+}
+
+/// Where the moves of a run have led to.
+pub(crate) enum Stop {
+    /// The access or debug read that is next has a route.
+    Reached(NextAccess),
+    /// Others have to move before its last sync is let through.
+    Waits,
     /// Its script has ended.
     Ended,
 }
@@ -78,6 +94,7 @@ impl InitiatorRun {
             engine: Engine::new(initiator, script),
             keeper: QuantumKeeper::new(quantum),
             syncs: 0,
+            round: 0,
             refused,
             finished: false,
         })
@@ -103,25 +120,57 @@ impl InitiatorRun {
     }
 
     /// Makes all moves without an entry, up to the next access or debug read that has a route, which is
-    /// answered, or to the end of the script. The pace is told of each access and debug read.
+    /// answered, to the end of the script, or to a sync that the rounds don't let through. The pace is
+    /// told of each access and debug read.
     pub fn advance<P: Pace>(
         &mut self,
         plan: &Plan,
+        rounds: &mut Rounds,
         payload: &mut Payload,
         pace: &P,
-    ) -> Option<Route>
+    ) -> Stop
         requires way { IsUnderWay plan.now self.old }
+        requires going { self.old.finished ≡ false }
+        requires round { IsInRound rounds.old self.old.engine.initiator self.old }
+        requires close { AreClose rounds.old }
         requires roomy { payload.old.room ≡ 4096 }
         ensures keeps { Keeps plan.now self.old self.new }
-        ensures cases { Advances plan.now self.old self.new result }
+        ensures cases { Advances plan.now self.old self.new rounds.new result }
+        ensures rounds { HasGoneOn self.old self.new rounds.old rounds.new }
         ensures roomy { payload.new.room ≡ payload.old.room }
     {
-        loop {
+        while self.is_let_through(rounds) {
             match self.step(plan, payload, pace) {
                 Move::Went => {}
-                Move::Reached(route) => return Some(route),
-                Move::Ended => return None,
+                Move::Reached(next) => return Stop::Reached(next),
+                Move::Ended => {
+                    rounds.finish(self.engine.initiator());
+                    return Stop::Ended;
+                }
             }
+        }
+        Stop::Waits
+    }
+
+    // Whether its last sync is let through the rounds, now or earlier.
+    fn is_let_through(&mut self, rounds: &mut Rounds) -> bool
+        requires few { self.old.syncs < 2 ^ 64 }
+        requires going { self.old.finished ≡ false }
+        requires round { IsInRound rounds.old self.old.engine.initiator self.old }
+        requires close { AreClose rounds.old }
+        ensures run { self.new ≡ record self.old { round = self.new.round } }
+        ensures rounds { HasGoneOn self.old self.new rounds.old rounds.new }
+        ensures through { IsLet rounds.new self.new result }
+    {
+        if self.round == self.syncs {
+            return true;
+        }
+        match rounds.advance(self.engine.initiator()) {
+            Advance::Advanced { round } => {
+                self.round = round;
+                true
+            }
+            Advance::NotYet { .. } => false,
         }
     }
 
@@ -130,6 +179,7 @@ impl InitiatorRun {
         requires way { IsUnderWay plan.now self.old }
         requires roomy { payload.old.room ≡ 4096 }
         ensures keeps { Keeps plan.now self.old self.new }
+        ensures syncs { SyncsOnce self.old self.new }
         ensures cases { IsMove plan.now self.old self.new result }
         ensures roomy { payload.new.room ≡ payload.old.room }
     {
@@ -159,12 +209,13 @@ impl InitiatorRun {
         requires address { address ≡ address_of op.now }
         requires roomy { payload.old.room ≡ 4096 }
         ensures keeps { Keeps plan.now self.old self.new }
+        ensures syncs { SyncsOnce self.old self.new }
         ensures cases { IsMove plan.now self.old self.new result }
         ensures roomy { payload.new.room ≡ payload.old.room }
     {
         let initiator = self.engine.initiator();
         match plan.route(initiator, address) {
-            Some(route) => Move::Reached(route),
+            Some(route) => Move::Reached(NextAccess { op: *op, route }),
             None => {
                 self.refuse(op, plan.latency(initiator, address), payload);
                 Move::Went
@@ -192,6 +243,7 @@ impl InitiatorRun {
         requires quiet { IsQuiet op.now }
         ensures run { self.new ≡ passed op.now self.old }
         ensures keeps { (p : PlanView) → Keeps p self.old self.new }
+        ensures syncs { self.old.syncs < 2 ^ 64 → SyncsOnce self.old self.new }
         ensures fewer { steps_left self.new.engine < steps_left self.old.engine }
     {
         if let Op::Wait(time) = op {
@@ -238,44 +290,56 @@ impl InitiatorRun {
     }
 
     /// Makes the access or debug read that is next at its memory, as the entry at this position, and goes
-    /// on after it. Its only error is want of memory, after which nothing has changed.
+    /// on after it. Its only error is want of memory, after which nothing has changed but the payload.
     pub fn access(
         &mut self,
         region: &mut Region,
-        route: &Route,
+        next: &NextAccess,
         position: u64,
-        payload: Payload,
-    ) -> Result<Payload, NoRoom>
+        payload: &mut Payload,
+    ) -> Result<(), Memory>
+        requires next { next.now.op ≡ op_of self.old.engine }
         requires access { IsAccessOp (op_of self.old.engine) }
         requires room { length region.old.log.entries < region.old.log.room }
-        requires roomy { payload.room ≡ 4096 }
-        ensures ok { IfOk result (λ back. (self.new ≡ accessed (op_of self.old.engine) route.now.latency back.bytes self.old)
-            × HasLog region.old region.new (region.old.log.entries ++ entry_made self.old region.old route.now position ∷ [])
-            × (is_fenced (op_of self.old.engine) ≡ true → back.bytes ≡ bytes_back self.old region.old route.now)
-            × (back.room ≡ 4096)) }
-        ensures err { IfErr result (λ e. (self.new ≡ self.old) × HasLog region.old region.new region.old.log.entries × (e.payload.room ≡ 4096)) }
+        requires roomy { payload.old.room ≡ 4096 }
+        ensures ok { OnOk result ((self.new ≡ accessed (op_of self.old.engine) next.now.route.latency payload.new.bytes self.old)
+            × HasLog region.old region.new (region.old.log.entries ++ entry_made self.old region.old next.now.route position ∷ [])
+            × (is_fenced (op_of self.old.engine) ≡ true → payload.new.bytes ≡ bytes_back self.old region.old next.now.route)) }
+        ensures err { OnErr result ((self.new ≡ self.old) × HasLog region.old region.new region.old.log.entries) }
+        ensures roomy { payload.new.room ≡ 4096 }
     {
-        let op = self.engine.next();
-        let call = self.call(&op, route, payload);
-        let payload = send(region, position, call)?;
-        self.complete(&op, route.latency, &payload);
-        Ok(payload)
+        self.fill(&next.route, payload);
+        let txn = self.next_txn();
+        let time = self.keeper.current();
+        send(
+            region,
+            position,
+            &next.op,
+            txn,
+            time,
+            next.route.before,
+            payload,
+        )?;
+        self.complete(&next.op, next.route.latency, payload);
+        Ok(())
     }
 
-    // The call of the access or debug read that is next, along its route.
-    fn call(&self, op: &Op, route: &Route, mut payload: Payload) -> RegionCall
-        requires next { op.now ≡ op_of self.now.engine }
-        requires access { IsAccessOp op.now }
-        requires roomy { payload.room ≡ 4096 }
-        ensures { result ≡ next_call self.now route.now }
+    // Makes it the payload of the access or debug read that is next, at the end of its route.
+    fn fill(&self, route: &Route, payload: &mut Payload)
+        requires { payload.old.room ≡ 4096 }
+        ensures { payload.new ≡ record (payload_of self.now.engine 4096) { address = route.now.offset } }
     {
-        let txn = TxnId {
+        self.engine.fill(payload);
+        payload.set_address(route.offset);
+    }
+
+    fn next_txn(&self) -> TxnId
+        ensures { result ≡ record { initiator = self.now.engine.initiator; seq = self.now.engine.seq } }
+    {
+        TxnId {
             initiator: self.engine.initiator(),
             seq: self.engine.transactions(),
-        };
-        self.engine.fill(&mut payload);
-        payload.set_address(route.offset);
-        call_of(op, txn, self.keeper.current(), route.before, payload)
+        }
     }
 }
 
@@ -308,53 +372,34 @@ fn refused_item(op: &Op, time: Ps) -> RefusedItem
     }
 }
 
-// The call of an access or a debug read that was issued at this time: an access arrives after the
-// routers.
-fn call_of(op: &Op, txn: TxnId, time: Ps, before: Ps, payload: Payload) -> RegionCall
-    requires { IsAccessOp op.now }
-    ensures { result ≡ call_at op.now txn time before payload }
-{
-    match op {
-        Op::Debug { .. } => RegionCall::Debug { txn, time, payload },
-        _ => RegionCall::Access {
-            txn,
-            time: time.saturating_add(before),
-            way: Way::Blocking,
-            payload,
-        },
-    }
-}
-
-// Makes a call, as the entry at this position.
-fn send(region: &mut Region, position: u64, call: RegionCall) -> Result<Payload, NoRoom>
-    requires fit { IsFit call }
+// Makes the call of an access or a debug read that was issued at this time, as the entry at this
+// position: an access arrives after the routers.
+fn send(
+    region: &mut Region,
+    position: u64,
+    op: &Op,
+    txn: TxnId,
+    time: Ps,
+    before: Ps,
+    payload: &mut Payload,
+) -> Result<(), Memory>
+    requires access { IsAccessOp op.now }
+    requires fit { IsFit (call_at op.now txn time before payload.old) }
     requires room { length region.old.log.entries < region.old.log.room }
-    ensures ok { IfOk result (λ back. HasLog region.old region.new (region.old.log.entries ++ entry_of_call region.old position call ∷ [])
-        × (back ≡ payload_back region.old call)) }
-    ensures err { IfErr result (λ e. HasLog region.old region.new region.old.log.entries × (e.payload ≡ payload_of_call call)) }
+    ensures ok { let call = call_at op.now txn time before payload.old in
+        OnOk result (HasLog region.old region.new (region.old.log.entries ++ entry_of_call region.old position call ∷ [])
+        × (payload.new ≡ payload_back region.old call)) }
+    ensures err { OnErr result (HasLog region.old region.new region.old.log.entries × (payload.new ≡ payload.old)) }
 {
-    if region.make_room(&call).is_err() {
-        return Err(NoRoom {
-            payload: unsent(call),
-        });
+    region.make_room_for(payload)?;
+    match op {
+        Op::Debug { .. } => {
+            region.debug(position, txn, time, payload);
+        }
+        _ => {
+            let arrival = time.saturating_add(before);
+            region.transport(position, txn, arrival, Way::Blocking, payload);
+        }
     }
-    Ok(returned(region.apply(position, call)))
-}
-
-fn unsent(call: RegionCall) -> Payload
-    ensures { result ≡ payload_of_call call }
-{
-    match call {
-        RegionCall::Access { payload, .. } => payload,
-        RegionCall::Debug { payload, .. } => payload,
-    }
-}
-
-fn returned(reply: RegionReply) -> Payload
-    ensures { result ≡ payload_in_reply reply }
-{
-    match reply {
-        RegionReply::Accessed { payload } => payload,
-        RegionReply::Moved { payload, .. } => payload,
-    }
+    Ok(())
 }

@@ -1,6 +1,5 @@
 // Whole runs on one thread.
-ghost use Rattle.std.specs.Prelude.{◌≡◌, ◌<◌, ◌≤◌, length, slice_get, slice_set, true, Some, IfOk, OnOk};
-ghost use Rattle.plat_core.specs.Core.{CoreView, actors_of, begun_core};
+ghost use Rattle.std.specs.Prelude.{IfOk, OnOk};
 ghost use Rattle.plat_core.specs.Outcome.{IsScheduled, IsTurnOf, IsWhole};
 
 use crate::outcome::Outcome;
@@ -33,14 +32,15 @@ fn take_number(core: &mut Core<'_>, number: u32) -> Result<(), Memory>
     Ok(())
 }
 
-/// Runs a plan to its end: initiator 0 until it has finished, then initiator 1, and so on. The pace is
-/// told of each access and debug read that a script asks for.
+/// Runs a plan to its end: each initiator in order goes on until it has finished or waits for one that is
+/// behind, and again from the first one, until all have finished. The pace is told of each access and
+/// debug read that a script asks for.
 pub fn run_in_order<P: Pace>(alloc: Global, plan: &Plan, pace: &P) -> Result<Outcome, Memory>
     ensures { IfOk result (IsWhole plan.now) }
 {
     let mut core = Core::new(alloc, plan)?;
-    for initiator in 0..core.initiators() {
-        core.finish(initiator, pace)?;
+    while !core.has_finished() {
+        core.go_round(pace)?;
     }
     core.into_outcome()
 }

@@ -1,14 +1,15 @@
 // The core.
-ghost use Rattle.std.specs.Prelude.{◌≡◌, ◌<◌, ◌≤◌, length, map, slice_set, true, IfOk, OnOk, OnErr};
+ghost use Rattle.std.specs.Prelude.{◌≡◌, ◌<◌, ◌≤◌, length, map, true, false, IfOk, OnOk, OnErr};
 ghost use Rattle.tlm_model.specs.Log.{log_bytes};
 ghost use Rattle.region_object.specs.Region.{LoggedMemory};
+ghost use Rattle.time_board.specs.declared.rounds.Member.{Member};
 ghost use Rattle.plat_core.specs.Fresh.{AreFresh};
 ghost use Rattle.plat_core.specs.Outcome.{IsOutcome};
 ghost use Rattle.plat_core.specs.Places.{entries_of_logs};
 ghost use Rattle.plat_core.specs.Run.{end_at};
-ghost use Rattle.plat_core.specs.Core.{IsOwnStep, IsServable, IsStep, actors_of, all_true, are_finished, begun_core, logs_of, no_runs};
+ghost use Rattle.plat_core.specs.Core.{GoesOn, HasRisen, HasStopped, IsServable, IsStep, IsStuck, actors_of, all_true, are_finished, begun_core, logs_of, no_runs, progress};
 
-use crate::merge::merge_by_position;
+use crate::merge::MergedLog;
 use crate::outcome::Outcome;
 use crate::run::InitiatorRun;
 use crate::turn::{Turn, take_turn};
@@ -18,19 +19,24 @@ use region_object::Region;
 use route_plan::Plan;
 use std::alloc::Global;
 use std::marker::Model;
+use time_board::Rounds;
 use tlm_model::Rows;
 use tlm_types::{Bytes, EndOf, Log, Memory, ObjectNo};
 
 /// A platform with its scripts on one thread: its actors move one at a time, as its caller picks them.
 /// The actors are the initiators, the routers and the memories, numbered in this order. Contracts see
-/// the plan, the history so far, and for each initiator whether it has finished.
+/// the plan, the history so far, for each initiator whether it has finished, and the rounds.
+///
+/// Each sync of an initiator begins a round. By its own next step the initiator is let into that round, if
+/// every other one that hasn't finished has reached the round before.
 #[derive(Drop)]
 pub struct Core<'a> {
     alloc: Global,
     plan: &'a Plan,
     runs: Vec<InitiatorRun>,
+    rounds: Rounds,
     regions: Vec<Region>,
-    payload: Option<Payload>,
+    payload: Payload,
     made: u64,
 }
 
@@ -46,7 +52,9 @@ pub enum CoreStep {
 }
 
 impl<'a> Model for Core<'a> {
-    ghost use Rattle.plat_core.specs.Core.{CoreView, HasPayload, IsCore, are_finished, history_of};
+    ghost use Rattle.std.specs.Prelude.{◌≡◌};
+    ghost use Rattle.plat_core.specs.Board.{AreInRounds};
+    ghost use Rattle.plat_core.specs.Core.{CoreView, IsCore, are_finished, history_of};
 
     ghost Value = { CoreView };
 
@@ -54,9 +62,10 @@ impl<'a> Model for Core<'a> {
       plan = c.plan.now;
       history = history_of c.regions.items;
       finished = are_finished c.runs.items;
+      rounds = c.rounds;
     } };
 
-    ghost invariant = { λ c. IsCore c.plan.now c.runs.items c.regions.items c.made × HasPayload c.payload };
+    ghost invariant = { λ c. IsCore c.plan.now c.runs.items c.regions.items c.made × AreInRounds c.plan.now (history_of c.regions.items) c.runs.items c.rounds × (c.payload.room ≡ 4096) };
 }
 
 impl<'a> Core<'a> {
@@ -65,14 +74,17 @@ impl<'a> Core<'a> {
         ensures { IfOk result (λ core. core ≡ begun_core plan.now) }
     {
         let runs = begin_runs(alloc, plan)?;
+        let initiators = plan.platform().initiators.as_slice().len() as u32;
+        let rounds = Rounds::new(alloc, initiators)?;
         let regions = begin_regions(alloc, plan)?;
         let payload = Payload::with_room(alloc, 4096)?;
         Ok(Core {
             alloc,
             plan,
             runs,
+            rounds,
             regions,
-            payload: Some(payload),
+            payload,
             made: 0,
         })
     }
@@ -90,18 +102,20 @@ impl<'a> Core<'a> {
     pub fn initiators(&self) -> u32
         ensures count { result ≡ length self.now.plan.platform.initiators }
         ensures flags { result ≡ length self.now.finished }
+        ensures rounds { map (λ (m : Member). m.finished) self.now.rounds ≡ self.now.finished }
     {
         self.runs.len() as u32
     }
 
     /// Makes one event of an actor: its moves that add no entry, up to and with its next entry. A
-    /// blocking initiator that has finished stays so; a router or a memory has no work of its own, and
-    /// has finished once all initiators have. Its only error is want of memory, after which the history
-    /// is as before.
+    /// blocking initiator waits where that entry, or its end, is more than one round after the round of
+    /// another one that hasn't finished. One that has finished stays so; a router or a memory has no work
+    /// of its own, and has finished once all initiators have. Its only error is want of memory, after
+    /// which the history is as before, and the initiator may have been let into a later round.
     pub fn step(&mut self, actor: u32) -> Result<CoreStep, Memory>
         requires { actor < actors_of self.old.plan.platform }
         ensures ok { IfOk result (λ step. IsStep self.old actor self.new step) }
-        ensures err { OnErr result (self.new ≡ self.old) }
+        ensures err { OnErr result (HasRisen self.old actor self.new) }
     {
         let index = actor as usize;
         if index < self.runs.len() {
@@ -115,23 +129,33 @@ impl<'a> Core<'a> {
 
     /// Whether every initiator has finished.
     pub fn has_finished(&self) -> bool
-        ensures { result ≡ all_true self.now.finished }
+        ensures all { result ≡ all_true self.now.finished }
+        ensures few { progress self.now ≤ 20000000 }
     {
         all_finished(&self.runs)
     }
 
-    /// Steps an initiator until it has finished. The pace is told of each access and debug read that its
-    /// script asks for. Its only error is want of memory.
-    pub fn finish<P: Pace>(&mut self, initiator: u32, pace: &P) -> Result<(), Memory>
+    /// Steps an initiator until it has finished or waits. The pace is told of each access and debug read
+    /// that its script asks for. Its only error is want of memory.
+    pub fn go_on<P: Pace>(&mut self, initiator: u32, pace: &P) -> Result<(), Memory>
         requires { initiator < length self.old.finished }
-        ensures plan { self.new.plan ≡ self.old.plan }
-        ensures finished { OnOk result (self.new.finished ≡ slice_set self.old.finished initiator true) }
+        ensures goes { GoesOn self.old self.new }
+        ensures stuck { OnOk result (progress self.new ≤ progress self.old → (self.new ≡ self.old) × IsStuck self.old.rounds initiator) }
     {
-        loop {
-            if let CoreStep::Finished = self.step_initiator(initiator as usize, pace)? {
-                return Ok(());
-            }
+        while let CoreStep::Made(_) = self.step_initiator(initiator as usize, pace)? {}
+        Ok(())
+    }
+
+    /// Lets each initiator in order go on until it has finished or waits. Where not all have finished,
+    /// there is progress. Its only error is want of memory.
+    pub fn go_round<P: Pace>(&mut self, pace: &P) -> Result<(), Memory>
+        ensures plan { self.new.plan ≡ self.old.plan }
+        ensures progress { OnOk result (all_true self.old.finished ≡ false → progress self.old < progress self.new) }
+    {
+        for initiator in 0..self.initiators() {
+            self.go_on(initiator, pace)?;
         }
+        Ok(())
     }
 
     /// How the run ended, as far as it has come. Its only error is want of memory.
@@ -140,7 +164,7 @@ impl<'a> Core<'a> {
     {
         let complete = self.has_finished();
         let (logs, stores) = into_parts(self.alloc, self.regions)?;
-        let history = merge_by_position(self.alloc, &logs, self.made)?;
+        let history = MergedLog::of_logs(self.alloc, logs, self.made)?;
         let ends = into_ends(self.alloc, self.runs)?;
         Ok(Outcome {
             history,
@@ -153,29 +177,31 @@ impl<'a> Core<'a> {
     fn step_initiator<P: Pace>(&mut self, index: usize, pace: &P) -> Result<CoreStep, Memory>
         requires { index < length self.old.finished }
         ensures ok { IfOk result (λ step. IsStep self.old index self.new step) }
-        ensures own { IfOk result (λ step. IsOwnStep self.old index self.new step) }
-        ensures err { OnErr result (self.new ≡ self.old) }
-        ensures few { length self.new.history ≤ 16000000 }
+        ensures goes { GoesOn self.old self.new }
+        ensures stops { IfOk result (λ step. HasStopped self.old index self.new step) }
+        ensures err { OnErr result (HasRisen self.old index self.new) }
+        ensures few { progress self.new ≤ 20000000 }
     {
-        let Some(payload) = self.payload.take() else {
-            unreachable!()
-        };
+        if self.runs[index].has_finished() {
+            return Ok(CoreStep::Finished);
+        }
         let run = &mut self.runs[index];
-        let (payload, turn) = take_turn(
+        let turn = take_turn(
             self.plan,
             run,
+            &mut self.rounds,
             &mut self.regions,
             self.made,
-            payload,
+            &mut self.payload,
             pace,
         );
-        self.payload = Some(payload);
         match turn {
             Turn::Made => {
                 let position = self.made;
                 self.made += 1;
                 Ok(CoreStep::Made(position))
             }
+            Turn::Waits => Ok(CoreStep::Waits),
             Turn::Ended => Ok(CoreStep::Finished),
             Turn::NoMemory => Err(Memory),
         }

@@ -43,7 +43,8 @@ fn plan_of(
 /// Each entry as `TIME INITIATOR.NUMBER OBJECT`.
 fn add_entries(alloc: Global, text: &mut String, outcome: &Outcome) -> Result<(), Fail> {
     for index in 0..outcome.history.len() {
-        let head = outcome.history.head(index);
+        let (log, place) = outcome.history.at(index);
+        let head = log.head(place);
         let (time, txn) = (head.time, head.txn);
         let ObjectNo::Memory(memory) = head.object else {
             continue;
@@ -150,28 +151,29 @@ const BOTH: [&str; 2] = ["add 0x0 1\nread 0x100 1\n", "add 0x0 1\nread 0x200 1\n
 const ENDS: &str = "transactions 3 syncs 2 end 55, transactions 3 syncs 2 end 35 refused 2 at 30";
 
 /// Schedules of two initiators, the router, the two memories and nobody: the entries, whether the run
-/// is complete, and the byte at 0.
+/// is complete, and the byte at 0. Each operation ends in a sync. So an initiator ends in round 2, and
+/// only once the other one has gone on after its `add`, to round 1.
 const SCHEDULES: [(&[u32], &str, &str, u8); 4] = [
     (
-        &[0, 0, 0, 0, 1, 1, 1],
+        &[0, 0, 0, 0, 1, 1, 1, 0],
         "5 0.0 m0, 20 0.1 m0, 35 0.2 m1, 5 1.0 m0, 20 1.1 m0",
         "complete",
         2,
     ),
     (
-        &[1, 2, 0, 9, 1, 0, 3, 0, 4, 0, 1, 1],
+        &[1, 2, 0, 9, 1, 0, 3, 0, 4, 0, 1, 1, 0],
         "5 1.0 m0, 5 0.0 m0, 20 1.1 m0, 20 0.1 m0, 35 0.2 m1",
         "complete",
         1,
     ),
     (
-        &[0, 0, 0, 1, 1, 1],
+        &[0, 0, 0, 0, 1, 1, 1],
         "5 0.0 m0, 20 0.1 m0, 35 0.2 m1, 5 1.0 m0, 20 1.1 m0",
         "open",
         2,
     ),
     (
-        &[1, 1, 1, 0, 0, 0, 0],
+        &[1, 1, 1, 0, 0, 0, 0, 1],
         "5 1.0 m0, 20 1.1 m0, 5 0.0 m0, 20 0.1 m0, 35 0.2 m1",
         "complete",
         2,
@@ -202,6 +204,81 @@ fn schedules_pick_who_moves(rt: HostRuntime) -> Result<(), Fail> {
         let found = expect_schedule(&rt, alloc, &plan, schedule, want.as_str())?;
         assert_eq!(rt; found, Some(sum), "{schedule:?}");
     }
+    Ok(())
+}
+
+/// Two initiators that each read three times, and sync after each read: the read of number n is in
+/// round n.
+const READS: [&str; 2] = ["repeat 3\nread 0x0 1\nend\n", "repeat 3\nread 0x0 1\nend\n"];
+
+/// Schedules of them, and the entries: one that is two rounds ahead waits.
+const TURNS: [(&[u32], &str); 4] = [
+    (&[0, 0, 0, 0], "0 0.0 m0, 10 0.1 m0, "),
+    (
+        &[0, 0, 0, 1, 1, 0, 0],
+        "0 0.0 m0, 10 0.1 m0, 0 1.0 m0, 10 1.1 m0, 20 0.2 m0, ",
+    ),
+    (
+        &[1, 0, 1, 1, 0, 1],
+        "0 1.0 m0, 0 0.0 m0, 10 1.1 m0, 10 0.1 m0, 20 1.2 m0, ",
+    ),
+    (
+        &[0, 0, 0, 1, 0, 1, 0, 1, 0, 1, 0],
+        "0 0.0 m0, 10 0.1 m0, 0 1.0 m0, 10 1.1 m0, 20 0.2 m0, 20 1.2 m0, ",
+    ),
+];
+
+#[test]
+fn nobody_runs_two_rounds_ahead(rt: HostRuntime) -> Result<(), Fail> {
+    let alloc = rt.alloc();
+    let plan = plan_of(&rt, alloc, 0, "ram", RAM, &READS)?;
+    for (schedule, want) in TURNS {
+        let outcome = run_schedule(alloc, &plan, schedule)?;
+        let mut entries = String::new(alloc);
+        add_entries(alloc, &mut entries, &outcome)?;
+        assert_eq!(rt; entries.as_str(), want, "{schedule:?}");
+    }
+    Ok(())
+}
+
+#[test]
+fn a_step_tells_who_waits(rt: HostRuntime) -> Result<(), Fail> {
+    let plan = plan_of(&rt, rt.alloc(), 0, "ram", RAM, &READS)?;
+    let mut core = Core::new(rt.alloc(), &plan)?;
+    assert_eq!(rt; core.actors(), 3);
+    let steps = [
+        (0, CoreStep::Made(0)),
+        (0, CoreStep::Made(1)),
+        (0, CoreStep::Waits),
+        (1, CoreStep::Made(2)),
+        (0, CoreStep::Waits),
+        (1, CoreStep::Made(3)),
+        (0, CoreStep::Made(4)),
+        (0, CoreStep::Waits),
+        (1, CoreStep::Made(5)),
+        (0, CoreStep::Finished),
+        (1, CoreStep::Finished),
+    ];
+    for (actor, want) in steps {
+        assert!(rt; actor < core.actors());
+        assert_eq!(rt; core.step(actor)?, want);
+    }
+    assert!(rt; core.has_finished());
+    Ok(())
+}
+
+/// In order: initiator 0 until it waits, then initiator 1, and so on. Each round of turns makes an
+/// initiator wait for the other one.
+#[test]
+fn a_whole_run_takes_turns(rt: HostRuntime) -> Result<(), Fail> {
+    let alloc = rt.alloc();
+    let plan = plan_of(&rt, alloc, 0, "ram", RAM, &READS)?;
+    let outcome = run_in_order(alloc, &plan, &NoPace)?;
+    let said = shown(alloc, &outcome)?;
+    let end = "transactions 3 syncs 3 end 30";
+    let entries = "0 0.0 m0, 10 0.1 m0, 0 1.0 m0, 10 1.1 m0, 20 1.2 m0, 20 0.2 m0";
+    let want = format!(in alloc; "{entries}, {end}, {end}, complete")?;
+    assert_eq!(rt; said.as_str(), want.as_str());
     Ok(())
 }
 

@@ -1,6 +1,7 @@
 -- A platform that a file describes is bounded.
-use Rattle.std.proofs.Common.{◌≡◌, ℕ, zero, suc, ◌+◌, ◌*◌, ◌^◌, ◌<◌, ◌≤◌, Bool, true, false, ◌||◌, List, [], ◌∷◌, ◌++◌, length, get_or, Option, Some, None, Result, Ok, Err, refl, sym, ap, subst, ◌∙◌, arith, ltb, leb, sum_by, lit≤}
-use Rattle.std.specs.Prelude.{All, IfOk, codes, if◌then◌else◌}
+use Rattle.std.proofs.Common.{◌≡◌, ◌≢◌, ℕ, zero, suc, ◌+◌, ◌*◌, ◌^◌, ◌<◌, ◌≤◌, Bool, true, false, ◌||◌, List, [], ◌∷◌, ◌++◌, length, map, get_or, Option, Some, None, Result, Ok, Err, refl, sym, ap, subst, ◌∙◌, arith, ltb, leb, sum_by, lit≤}
+use Rattle.std.specs.Prelude.{All, IfOk, IsTrue, codes, if◌then◌else◌}
+use Rattle.std.specs.List.{AllPairs}
 use Rattle.std.specs.Str.{bytes_eq}
 use Rattle.std.proofs.lemmas.Bool.{lt-ltb, ltb-false}
 use Rattle.std.proofs.lemmas.List.Elements.{All-nil, All-cons, All-same, All-push, All-tail, All-head, All-weaker}
@@ -28,13 +29,14 @@ use Rattle.platform_file.specs.declared.routers.RouterKeys.{RouterKeys}
 use Rattle.platform_file.specs.declared.top.PlatformKeys.{PlatformKeys}
 use Rattle.platform_file.specs.Reading.{Refusal, Gives, ◌>>=◌, rows_from}
 use Rattle.platform_file.specs.Keys.{known_keys, required_key, optional_key}
-use Rattle.platform_file.specs.Kinds.{number, truth, name, text, sized_text, word, tables}
+use Rattle.platform_file.specs.Kinds.{number, truth, is_name, name, text, sized_text, word, tables}
 use Rattle.platform_file.specs.Words.{styles, responses, router_modes, memory_modes}
 use Rattle.platform_file.specs.Names.{Names, Bearer, find_name, named_after, with_name, with_names, initiator_bears, router_bears, memory_bears, names_of, found_target, target_of}
 use Rattle.platform_file.specs.Tables.{initiator_key_names, router_key_names, memory_key_names, top_key_names, initiator_keys, window_keys, router_keys, memory_traits, memory_row, platform_keys}
 use Rattle.platform_file.specs.Platform.{bound_initiator, bound_window, bound_router, refused_windows, checked_windows, checked_sums, windows_of, platform_of_table}
-use Rattle.platform_file.specs.Bounded.{is_there, IsBoundedInitiator, IsBoundedRouter, IsBoundedMemory, IsBounded}
-use Rattle.platform_file.proofs.ReadLemmas.{no_ok, ok_same, bind_ok, if_ok, unless_ok, required_number, optional_number, required_tables, optional_tables, rows_all, rows_count, rows_passed}
+use Rattle.platform_file.specs.Bounded.{is_there, names_in, IsBoundedInitiator, IsBoundedRouter, IsBoundedMemory, IsBounded}
+use Rattle.platform_file.proofs.OwnNames.{key_names, own_key_names, rows_named}
+use Rattle.platform_file.proofs.ReadLemmas.{no_ok, ok_same, bind_ok, if_ok, unless_ok, required_name, required_number, optional_number, required_tables, optional_tables, rows_all, rows_count, rows_passed}
 
 record TraitsAreBounded (t : MemoryTraits) : Type 0 where
   some_bytes : 1 ≤ t.size
@@ -70,9 +72,11 @@ memory_is_bounded i t m h =
     let b = traits_are_bounded (place.Memory i) t traits traits_read in
     let l = optional_number 1 16 4 (place.Memory i) (codes "lanes") (get_member (codes "lanes") t) lanes (lit≤ tt) (lit≤ tt) lanes_read in
     let p = if_ok (traits.readable || traits.writable) (record { name = n; traits = traits; reply = reply; lanes = lanes }) _ m h5 in
-    subst IsBoundedMemory p.1 (record { some_bytes = b.some_bytes; size = b.size; latency = b.latency; access = p.0; some_gates = b.some_gates; gates = b.gates; some_lanes = l.0; lanes = l.1 }))))))
+    let named = required_name (place.Memory i) (codes "name") (get_member (codes "name") t) n name_read in
+    subst IsBoundedMemory p.1 (record { named = named; some_bytes = b.some_bytes; size = b.size; latency = b.latency; access = p.0; some_gates = b.some_gates; gates = b.gates; some_lanes = l.0; lanes = l.1 }))))))
 
 record InitiatorKeysAreBounded (i : InitiatorKeys) : Type 0 where
+  named : IsTrue (is_name i.name)
   some_slots : 1 ≤ i.pool
   slots : i.pool ≤ 16
 
@@ -87,9 +91,11 @@ initiator_keys_are_bounded i t k h =
     bind_ok (optional_key (number 1 16) 4 (place.Initiator i) (codes "pool") t) _ _ h5 (λ pool pool_read h6.
     bind_ok (optional_key (word responses) resp.Accept (place.Initiator i) (codes "response") t) _ _ h6 (λ response response_read h7.
     let p = optional_number 1 16 4 (place.Initiator i) (codes "pool") (get_member (codes "pool") t) pool (lit≤ tt) (lit≤ tt) pool_read in
-    subst InitiatorKeysAreBounded (ok_same (record { name = n; style = style; script = script; bind = bind; pool = pool; response = response }) k h7) (record { some_slots = p.0; slots = p.1 }))))))))
+    let named = required_name (place.Initiator i) (codes "name") (get_member (codes "name") t) n name_read in
+    subst InitiatorKeysAreBounded (ok_same (record { name = n; style = style; script = script; bind = bind; pool = pool; response = response }) k h7) (record { named = named; some_slots = p.0; slots = p.1 }))))))))
 
 record RouterKeysAreBounded (r : RouterKeys) : Type 0 where
+  named : IsTrue (is_name r.name)
   latency : r.latency ≤ 10 ^ 12
   some_lanes : 1 ≤ r.lanes
   lanes : r.lanes ≤ 16
@@ -109,7 +115,8 @@ router_keys_are_bounded i t r h =
     let l = optional_number 1 16 4 (place.Router i) (codes "lanes") (get_member (codes "lanes") t) lanes (lit≤ tt) (lit≤ tt) lanes_read in
     let w = optional_tables 16 (place.Router i) (codes "window") (get_member (codes "window") t) ts ts_read in
     let count = rows_count (window_keys i) 0 ts windows windows_read in
-    subst RouterKeysAreBounded (ok_same (record { name = n; latency = latency; accept = accept; lanes = lanes; windows = windows }) r h7) (record { latency = y.1; some_lanes = l.0; lanes = l.1; windows = omega arith }))))))))
+    let named = required_name (place.Router i) (codes "name") (get_member (codes "name") t) n name_read in
+    subst RouterKeysAreBounded (ok_same (record { name = n; latency = latency; accept = accept; lanes = lanes; windows = windows }) r h7) (record { named = named; latency = y.1; some_lanes = l.0; lanes = l.1; windows = omega arith }))))))))
 
 record KeysAreBounded (k : PlatformKeys) : Type 0 where
   quantum : k.quantum ≤ 10 ^ 15
@@ -222,6 +229,7 @@ target_is_there rs ms names at key name t all h = found_is_there rs ms name name
 
 -- a row with what its name leads to
 record InitiatorIsBound (rs ms : ℕ) (k : InitiatorKeys) (i : InitiatorRow) : Type 0 where
+  name : i.name ≡ k.name
   pool : i.pool ≡ k.pool
   bind : there rs ms i.bind ≡ true
 
@@ -229,7 +237,7 @@ initiator_is_bound : (rs ms : ℕ) (names : Names) → All (NameIsThere rs ms) n
 unfolding bound_initiator
 initiator_is_bound rs ms names all n k i h =
     bind_ok (target_of names (place.Initiator n) (codes "bind") k.bind) _ _ h (λ target target_read h1.
-    subst (InitiatorIsBound rs ms k) (ok_same _ i h1) (record { pool = refl; bind = target_is_there rs ms names (place.Initiator n) (codes "bind") k.bind target all target_read }))
+    subst (InitiatorIsBound rs ms k) (ok_same _ i h1) (record { name = refl; pool = refl; bind = target_is_there rs ms names (place.Initiator n) (codes "bind") k.bind target all target_read }))
 
 window_leads : (rs ms : ℕ) (names : Names) → All (NameIsThere rs ms) names → (router n : ℕ) (k : WindowKeys) (w : WindowRow) → bound_window names router n k ≡ Ok w → there rs ms w.to ≡ true
 unfolding bound_window
@@ -238,6 +246,7 @@ window_leads rs ms names all router n k w h =
     subst (λ (w : WindowRow). there rs ms w.to ≡ true) (ok_same _ w h1) (target_is_there rs ms names (place.Window router n) (codes "to") k.to target all target_read))
 
 record RouterIsBound (rs ms : ℕ) (k : RouterKeys) (r : RouterRow) : Type 0 where
+  name : r.name ≡ k.name
   latency : r.latency ≡ k.latency
   lanes : r.lanes ≡ k.lanes
   windows : length r.windows ≡ length k.windows
@@ -248,6 +257,7 @@ unfolding bound_router
 router_is_bound rs ms names all n k r h =
     bind_ok (rows_from (bound_window names n) 0 k.windows) _ _ h (λ windows windows_read h1.
     subst (RouterIsBound rs ms k) (ok_same _ r h1) (record {
+      name = refl;
       latency = refl;
       lanes = refl;
       windows = rows_count (bound_window names n) 0 k.windows windows windows_read;
@@ -289,6 +299,7 @@ rows_made P R Q read each made i (x ∷ xs) rows all h =
 
 -- a router of a platform whose routers have passed the test of windows
 record RouterParts (rs ms : ℕ) (r : RouterRow) : Type 0 where
+  named : IsTrue (is_name r.name)
   latency : r.latency ≤ 10 ^ 12
   some_lanes : 1 ≤ r.lanes
   lanes : r.lanes ≤ 16
@@ -297,6 +308,7 @@ record RouterParts (rs ms : ℕ) (r : RouterRow) : Type 0 where
 
 router_parts : (rs ms : ℕ) (k : RouterKeys) (r : RouterRow) → RouterKeysAreBounded k → RouterIsBound rs ms k r → RouterParts rs ms r
 router_parts rs ms k r keys bound = record {
+  named = subst (λ (n : List ℕ). IsTrue (is_name n)) (sym bound.name) keys.named;
   latency = omega (arith, keys.latency, bound.latency);
   some_lanes = omega (arith, keys.some_lanes, bound.lanes);
   lanes = omega (arith, keys.lanes, bound.lanes);
@@ -307,13 +319,27 @@ router_parts rs ms k r keys bound = record {
 both : {X : Type 0} (P Q R : X → Type 0) → ((x : X) → P x → Q x → R x) → (xs : List X) → All P xs → All Q xs → All R xs
 both P Q R h xs p q k d below = h (get_or xs k d) (p k d below) (q k d below)
 
+-- a platform has the names of its keys
+same_names : (k : PlatformKeys) (names : Names) (initiators : List InitiatorRow) (routers : List RouterRow) → All (NameIsThere (length k.routers) (length k.memories)) names
+    → rows_from (bound_initiator names) 0 k.initiators ≡ Ok initiators → rows_from (bound_router names) 0 k.routers ≡ Ok routers
+    → names_in (record { quantum = k.quantum; initiators = initiators; routers = routers; memories = k.memories }) ≡ key_names k
+unfolding key_names
+same_names k names initiators routers all initiators_read routers_read =
+    let rs : ℕ = length k.routers in
+    let ms : ℕ = length k.memories in
+    let memories : List (List ℕ) = map (λ (m : MemoryRow). m.name) k.memories in
+    let first = rows_named (λ (i : InitiatorRow). i.name) (λ (i : InitiatorKeys). i.name) (bound_initiator names) (λ i x a read. let b = initiator_is_bound rs ms names all i x a read in b.name) 0 k.initiators initiators initiators_read in
+    let second = rows_named (λ (r : RouterRow). r.name) (λ (r : RouterKeys). r.name) (bound_router names) (λ i x a read. let b = router_is_bound rs ms names all i x a read in b.name) 0 k.routers routers routers_read in
+    λ i. (first i ++ second i) ++ memories
+
 platform_is_bounded : (k : PlatformKeys) (names : Names) (initiators : List InitiatorRow) (routers : List RouterRow)
     → KeysAreBounded k → All (NameIsThere (length k.routers) (length k.memories)) names
     → rows_from (bound_initiator names) 0 k.initiators ≡ Ok initiators → rows_from (bound_router names) 0 k.routers ≡ Ok routers
     → All (λ (r : RouterRow). IsValid (windows_of r)) routers
     → (sum_by (λ (m : MemoryRow). m.traits.size) k.memories ≤ 67108864) × (sum_by (λ (m : MemoryRow). m.traits.gates) k.memories ≤ 1024)
+    → AllPairs (λ x y. x ≢ y) (key_names k)
     → IsBounded (record { quantum = k.quantum; initiators = initiators; routers = routers; memories = k.memories })
-platform_is_bounded k names initiators routers keys all initiators_read routers_read valid sums =
+platform_is_bounded k names initiators routers keys all initiators_read routers_read valid sums own =
     let rs : ℕ = length k.routers in
     let ms : ℕ = length k.memories in
     let p : Platform = record { quantum = k.quantum; initiators = initiators; routers = routers; memories = k.memories } in
@@ -328,10 +354,11 @@ platform_is_bounded k names initiators routers keys all initiators_read routers_
       some_memory = keys.some_memory;
       memory_count = keys.memory_count;
       initiators = rows_made InitiatorKeysAreBounded (InitiatorIsBound rs ms) (IsBoundedInitiator p) (bound_initiator names) (initiator_is_bound rs ms names all)
-          (λ x a keys bound. record { bind = reach a.bind bound.bind; some_slots = omega (arith, keys.some_slots, bound.pool); slots = omega (arith, keys.slots, bound.pool) })
+          (λ x a keys bound. record { named = subst (λ (n : List ℕ). IsTrue (is_name n)) (sym bound.name) keys.named; bind = reach a.bind bound.bind; some_slots = omega (arith, keys.some_slots, bound.pool); slots = omega (arith, keys.slots, bound.pool) })
           0 k.initiators initiators keys.initiators initiators_read;
       routers = both (RouterParts rs ms) (λ (r : RouterRow). IsValid (windows_of r)) (IsBoundedRouter p)
           (λ r parts windows. record {
+            named = parts.named;
             latency = parts.latency;
             some_lanes = parts.some_lanes;
             lanes = parts.lanes;
@@ -345,6 +372,7 @@ platform_is_bounded k names initiators routers keys all initiators_read routers_
       memories = keys.memories;
       bytes = sums.0;
       gates = sums.1;
+      own_names = subst (AllPairs (λ x y. x ≢ y)) (sym (same_names k names initiators routers all initiators_read routers_read)) own;
     }
 
 table_is_bounded : (t : Members) (p : Platform) → platform_of_table t ≡ Ok p → IsBounded p
@@ -359,7 +387,7 @@ table_is_bounded t p h =
     subst IsBounded (ok_same (record { quantum = keys.quantum; initiators = initiators; routers = routers; memories = keys.memories }) p h6)
     (platform_is_bounded keys names initiators routers (keys_are_bounded t keys keys_read) (names_are_there keys names names_read) initiators_read routers_read
     (rows_passed (λ (r : RouterRow). IsValid (windows_of r)) checked_windows windows_are_valid 0 routers done done_read)
-    (sums_are_bounded keys.memories u sums_read))))))))
+    (sums_are_bounded keys.memories u sums_read) (own_key_names keys names names_read))))))))
 
 -- what was given of a table is bounded
 pub given_is_bounded : (r : Result Platform PlatformFault) (t : Members) → Gives r (platform_of_table t) → IfOk r IsBounded

@@ -5,4 +5,5 @@ pub mod NameLemmas
 pub mod Documents
 pub mod ReadLemmas
 pub mod WorkedDocuments
+pub mod OwnNames
 pub mod BoundLemmas

@@ -1,13 +1,13 @@
 -- What is known of a reading that gave a value.
-use Rattle.std.proofs.Common.{◌≡◌, ℕ, ◌+◌, ◌≤◌, Bool, true, false, ◌&&◌, List, [], ◌∷◌, length, Option, Some, None, Result, Ok, Err, refl, sym, ap, ◌∙◌, arith, leb}
-use Rattle.std.specs.Prelude.{pos, negsuc, All, if◌then◌else◌}
+use Rattle.std.proofs.Common.{◌≡◌, ℕ, ◌+◌, ◌≤◌, Bool, true, false, ◌&&◌, List, [], ◌∷◌, length, Option, Some, None, Result, Ok, Err, refl, sym, ap, subst, ◌∙◌, arith, leb}
+use Rattle.std.specs.Prelude.{pos, negsuc, All, IsTrue, if◌then◌else◌}
 use Rattle.std.proofs.lemmas.Bool.{and_parts, leb-true}
 use Rattle.std.proofs.lemmas.List.Elements.{All-nil, All-cons, All-same}
-use Rattle.toml.specs.Data.{Data, integer, array, Members}
+use Rattle.toml.specs.Data.{Data, integer, string, array, Members}
 use Rattle.platform_file.specs.declared.fault.PlatformCode.{PlatformCode}
-use Rattle.platform_file.specs.declared.fault.PlatformCode.TheVariants.{OutOfRange, WrongType}
+use Rattle.platform_file.specs.declared.fault.PlatformCode.TheVariants.{BadName, OutOfRange, WrongType}
 use Rattle.platform_file.specs.declared.place.Place.{Place}
-use Rattle.platform_file.specs.Kinds.{number, tables, all_tables, limited_tables}
+use Rattle.platform_file.specs.Kinds.{number, is_name, name, tables, all_tables, limited_tables}
 use Rattle.platform_file.specs.Keys.{required_value, optional_value}
 use Rattle.platform_file.specs.Reading.{Refusal, ◌>>=◌, placed_at, rows_from}
 
@@ -62,6 +62,17 @@ optional_number least most default at key None n low high h =
     let same : default ≡ n = ok_same default n h in
     (omega arith, omega arith)
 optional_number least most default at key (Some d) n low high h = number_between least most d n (placed_ok at key (number least most d) n h)
+
+name_is : (d : Data) (n : List ℕ) → name d ≡ Ok n → IsTrue (is_name n)
+name_is (string s) n h =
+    let p = if_ok (is_name s) s BadName n h in
+    subst (λ (m : List ℕ). IsTrue (is_name m)) p.1 p.0
+name_is _ n h = absurd (no_ok WrongType n h)
+
+pub required_name : (at : Place) (key : List ℕ) (o : Option Data) (n : List ℕ) → required_value name at key o ≡ Ok n → IsTrue (is_name n)
+required_name at key o n h =
+    let p = required_ok name at key o n h in
+    name_is p.0 n p.1
 
 limited_between : (least most : ℕ) (r : Result (List Members) PlatformCode) (ts : List Members) → limited_tables least most r ≡ Ok ts → (least ≤ length ts) × (length ts ≤ most)
 limited_between least most (Ok us) ts h =

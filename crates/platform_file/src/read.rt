@@ -56,8 +56,8 @@ fn document(alloc: Global, bytes: &[u8]) -> Result<Option<Table>, AllocError>
 /// of tables and keys, of names, of targets, of windows, and of the sums over the memories. The only
 /// other error is want of memory.
 ///
-/// Each platform that is read keeps the limits of the format, its targets are there, and its windows
-/// are those of routers.
+/// Each platform that is read keeps the limits of the format, its targets are there, its windows are
+/// those of routers, and its components have names, of which no two are the same.
 pub fn read_platform(alloc: Global, bytes: &[u8]) -> Result<Platform, PlatformFault>
     ensures read { Gives result (platform_of bytes.now) }
     ensures bounded { IfOk result IsBounded }

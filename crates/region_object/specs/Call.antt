@@ -35,8 +35,11 @@ asked_by (Access txn time way p) = access_of p
 asked_by (Debug txn time p) = debug_access p.address (length p.bytes)
 
 -- how many bytes of the room of its log a call may take
+abbrev pub payload_cost : PayloadView → ℕ
+payload_cost p = length p.bytes + length p.enables
+
 abbrev pub cost_of : RegionCall → ℕ
-cost_of call = length (payload_of call).bytes + length (payload_of call).enables
+cost_of call = payload_cost (payload_of call)
 
 -- an access of a call comes by blocking transport or with four phases
 abbrev pub IsTransport : Way → Type 0

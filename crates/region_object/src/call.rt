@@ -1,6 +1,6 @@
 // The calls of a memory, and its replies.
 ghost use Rattle.std.specs.Prelude.{◌≡◌};
-ghost use Rattle.region_object.specs.Call.{cost_of, payload_of};
+ghost use Rattle.region_object.specs.Call.{cost_of, payload_cost, payload_of};
 
 use generic_payload::Payload;
 use tlm_types::{Ps, TxnId, Way};
@@ -49,7 +49,13 @@ impl RegionCall {
     pub fn cost(&self) -> u64
         ensures { result ≡ cost_of self.now }
     {
-        let payload = self.payload();
-        payload.bytes().len() as u64 + payload.enables().len() as u64
+        payload_cost(self.payload())
     }
+}
+
+/// The same of a call with this payload.
+pub fn payload_cost(payload: &Payload) -> u64
+    ensures { result ≡ payload_cost payload.now }
+{
+    payload.bytes().len() as u64 + payload.enables().len() as u64
 }

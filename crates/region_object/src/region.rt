@@ -6,10 +6,10 @@ ghost use Rattle.tlm_types.specs.Log.{entry_at, kept_sent, with_entry};
 ghost use Rattle.tlm_model.specs.Log.{IsLog, log_bytes};
 ghost use Rattle.tlm_model.specs.Store.{zeros, got_by, stored_by};
 ghost use Rattle.generic_payload.specs.Payload.{access_of, HasPlaces};
-ghost use Rattle.region_object.specs.Call.{IsFit, IsTransport, cost_of, debug_access};
+ghost use Rattle.region_object.specs.Call.{IsFit, IsTransport, cost_of, debug_access, payload_cost};
 ghost use Rattle.region_object.specs.Region.{accessed, after_call, answered, buffer_after, debugged, got_told, head_at, reply_of, told_by, with_logged};
 
-use crate::call::{RegionCall, RegionReply};
+use crate::call::{RegionCall, RegionReply, payload_cost};
 use generic_payload::Payload;
 use std::alloc::Global;
 use std::marker::Model;
@@ -130,7 +130,18 @@ impl Region {
         ensures err { OnErr result (self.new ≡ self.old) }
         ensures roomy { cost_of call.now ≤ self.old.log.room_bytes → IsOk result }
     {
-        self.log.make_room(call.cost())
+        self.make_room_for(call.payload())
+    }
+
+    /// Makes room in the log for the bytes of a call with this payload, as `make_room` does.
+    pub fn make_room_for(&mut self, payload: &Payload) -> Result<(), Memory>
+        ensures ok { OnOk result (self.new ≡ record self.old {
+          log = record self.old.log { room_bytes = max self.old.log.room_bytes (payload_cost payload.now) };
+        }) }
+        ensures err { OnErr result (self.new ≡ self.old) }
+        ensures roomy { payload_cost payload.now ≤ self.old.log.room_bytes → IsOk result }
+    {
+        self.log.make_room(payload_cost(payload))
     }
 
     /// Makes this call, and takes no memory: there has to be room for its entry, and for its bytes. The
@@ -157,17 +168,52 @@ impl Region {
                 txn,
                 time,
                 way,
-                payload,
+                mut payload,
             } => {
-                let head = self.head(position, txn, time);
-                let payload = self.access(head, way, payload);
+                self.transport(position, txn, time, way, &mut payload);
                 RegionReply::Accessed { payload }
             }
-            RegionCall::Debug { txn, time, payload } => {
-                let head = self.head(position, txn, time);
-                self.debug_read(head, payload)
+            RegionCall::Debug {
+                txn,
+                time,
+                mut payload,
+            } => {
+                let moved = self.debug(position, txn, time, &mut payload);
+                RegionReply::Moved { payload, moved }
             }
         }
+    }
+
+    /// Makes the access of a `RegionCall::Access` on a payload that stays where it is.
+    pub fn transport(
+        &mut self,
+        position: u64,
+        txn: TxnId,
+        time: Ps,
+        way: Way,
+        payload: &mut Payload,
+    )
+        requires fit { IsFit (RegionCall.Access txn time way payload.old) }
+        requires room { length self.old.log.entries < self.old.log.room }
+        requires room_bytes { cost_of (RegionCall.Access txn time way payload.old) ≤ self.old.log.room_bytes }
+        ensures memory { self.new ≡ after_call self.old position (RegionCall.Access txn time way payload.old) }
+        ensures payload { payload.new ≡ accessed self.old way payload.old }
+    {
+        let head = self.head(position, txn, time);
+        self.access(head, way, payload);
+    }
+
+    /// Makes the debug read of a `RegionCall::Debug` on a payload that stays where it is, and answers how
+    /// many bytes were moved.
+    pub fn debug(&mut self, position: u64, txn: TxnId, time: Ps, payload: &mut Payload) -> u64
+        requires fit { IsFit (RegionCall.Debug txn time payload.old) }
+        requires room { length self.old.log.entries < self.old.log.room }
+        requires room_bytes { cost_of (RegionCall.Debug txn time payload.old) ≤ self.old.log.room_bytes }
+        ensures memory { self.new ≡ after_call self.old position (RegionCall.Debug txn time payload.old) }
+        ensures reply { RegionReply.Moved payload.new result ≡ debugged self.old payload.old }
+    {
+        let head = self.head(position, txn, time);
+        self.debug_read(head, payload)
     }
 
     fn head(&self, position: u64, txn: TxnId, time: Ps) -> Head
@@ -181,37 +227,36 @@ impl Region {
         }
     }
 
-    fn access(&mut self, head: Head, way: Way, mut payload: Payload) -> Payload
+    fn access(&mut self, head: Head, way: Way, payload: &mut Payload)
         requires head { head.object ≡ ObjectNo.Memory self.old.number }
         requires way { IsTransport way }
-        requires zeros { payload.command ≡ Read → payload.bytes ≡ zeros (length payload.bytes) }
+        requires zeros { payload.old.command ≡ Read → payload.old.bytes ≡ zeros (length payload.old.bytes) }
         requires room { length self.old.log.entries < self.old.log.room }
-        requires room_bytes { length payload.bytes + length payload.enables ≤ self.old.log.room_bytes }
+        requires room_bytes { length payload.old.bytes + length payload.old.enables ≤ self.old.log.room_bytes }
         ensures memory { self.new ≡ with_logged self.old
-            (entry_at head (answered self.old.traits self.old.log.entries way (access_of payload))) }
-        ensures payload { result ≡ accessed self.old way payload }
+            (entry_at head (answered self.old.traits self.old.log.entries way (access_of payload.old))) }
+        ensures payload { payload.new ≡ accessed self.old way payload.old }
     {
         let status = payload.check(&self.traits);
-        move_bytes(&mut payload, &mut self.store, status);
+        move_bytes(payload, &mut self.store, status);
         payload.set_status(status);
         payload.set_hint(self.traits.dmi && status == Response::Ok);
-        log_access(&mut self.log, head, way, &payload);
-        payload
+        log_access(&mut self.log, head, way, payload);
     }
 
-    fn debug_read(&mut self, head: Head, mut payload: Payload) -> RegionReply
+    fn debug_read(&mut self, head: Head, payload: &mut Payload) -> u64
         requires head { head.object ≡ ObjectNo.Memory self.old.number }
-        requires read { payload.command ≡ Read }
+        requires read { payload.old.command ≡ Read }
         requires room { length self.old.log.entries < self.old.log.room }
-        requires room_bytes { length payload.bytes ≤ self.old.log.room_bytes }
+        requires room_bytes { length payload.old.bytes ≤ self.old.log.room_bytes }
         ensures memory { self.new ≡ with_logged self.old (entry_at head
-            (answered self.old.traits self.old.log.entries Way.Debug (debug_access payload.address (length payload.bytes)))) }
-        ensures reply { result ≡ debugged self.old payload }
+            (answered self.old.traits self.old.log.entries Way.Debug (debug_access payload.old.address (length payload.old.bytes)))) }
+        ensures reply { RegionReply.Moved payload.new result ≡ debugged self.old payload.old }
     {
         let moved = payload.debug_from(&self.store);
         payload.set_status(Response::Ok);
-        log_debug(&mut self.log, head, &payload, moved);
-        RegionReply::Moved { payload, moved }
+        log_debug(&mut self.log, head, payload, moved);
+        moved
     }
 }
 

@@ -3,7 +3,7 @@ ghost use Rattle.one_history.specs.Moves.{fresh};
 ghost use Rattle.one_history.specs.Seats.{AreFresh};
 ghost use Rattle.token_book.specs.Account.{fresh as fresh_book, with_amount, amount_of};
 ghost use Rattle.token_book.specs.Ticket.{IsTicket};
-ghost use Rattle.shared_object.specs.Standing.{gates_of, IsBook};
+ghost use Rattle.shared_object.specs.Standing.{HasGates, IsBook};
 ghost use Rattle.shared_object.specs.Steps.{IsNote};
 ghost use Rattle.region_object.specs.Call.{IsFit, cost_of};
 ghost use Rattle.region_object.specs.Blank.{blank_region, rights};
@@ -176,7 +176,7 @@ fn seated<N: Naming<(), NoLaw>>(desk: Desk) -> (Place<N>, Token, Token)
     requires book { IsBook N.tokens desk.book.owner desk.region.log.room desk.region.log.room_bytes desk.book }
     requires empty { desk.region.log.entries ≡ [] }
     requires room { desk.region.log.room ≡ slice_index_or N.frame.planned desk.book.owner 0 }
-    requires gates { (desk.region.first_gate, desk.region.traits.gates) ≡ gates_of N.frame desk.book.owner }
+    requires gates { HasGates N.frame desk.book.owner (desk.region.first_gate, desk.region.traits.gates) }
     ensures number { result.0.number ≡ desk.book.owner }
     ensures rights { (result.1 ≡ desk.entries) × (result.2 ≡ desk.bytes) }
 {

@@ -9,3 +9,4 @@ pub mod ShareLemmas
 pub mod TotalLemmas
 pub mod KeptLemmas
 pub mod LatencyLemmas
+pub mod SinglePaths

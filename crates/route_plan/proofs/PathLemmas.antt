@@ -70,7 +70,7 @@ any-same : {X : Type 0} (f g : X → Bool) → ((x : X) → f x ≡ g x) → (xs
 any-same f g h [] = refl
 any-same f g h (x ∷ xs) = ap (λ b. b || list_any f xs) (h x) ∙ ap (λ b. g x || b) (any-same f g h xs)
 
-along : (p : Platform) (r : ℕ) (row : RouterRow) → slice_get p.routers r ≡ Some row → targets_of p (Router r) ≡ map (λ (v : WindowRow). v.to) row.windows
+pub along : (p : Platform) (r : ℕ) (row : RouterRow) → slice_get p.routers r ≡ Some row → targets_of p (Router r) ≡ map (λ (v : WindowRow). v.to) row.windows
 along p r row e = rw e refl
 
 -- a router is on a cycle where its windows lead on to it

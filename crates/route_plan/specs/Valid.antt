@@ -1,6 +1,6 @@
 -- Which plans are valid.
 use Rattle.std.specs.Prelude.{ℕ, ◌≡◌, ◌+◌, ◌<◌, length, sum_by, Result, Ok, Err, if◌then◌else◌, nat_lt, codes}
-use Rattle.std.specs.List.{range_with_len}
+use Rattle.std.specs.List.{range_with_len, AllByRecursion}
 use Rattle.platform_file.specs.declared.fault.PlatformCode.TheVariants.{TooManyEntries, TooMuchData}
 use Rattle.platform_file.specs.declared.place.Place.TheVariants as place
 use Rattle.platform_file.specs.Reading.{Refusal, refusal, ◌>>=◌}
@@ -9,6 +9,7 @@ use Rattle.tlm_types.specs.declared.words.ObjectNo.TheVariants.{Memory, Hop, Poo
 use Rattle.tlm_model.specs.declared.platform.Platform.{Platform}
 use Rattle.tlm_model.specs.declared.platform.RouterRow.{RouterRow}
 use Rattle.tlm_model.specs.Plan.{Plan}
+use Rattle.traffic_script.specs.Proper.{AreProper}
 use Rattle.route_plan.specs.Planned.{planned_at, logged_bytes}
 use Rattle.route_plan.specs.Shape.{IsShape}
 
@@ -49,8 +50,10 @@ checked_plan p =
 unfoldable pub planned : Plan → Result Plan Refusal
 planned p = checked_plan p >>= λ _. Ok p
 
--- a valid plan: a platform of a good shape, a script for each of its initiators, and counts within the limits
+-- A valid plan: a platform of a good shape, a script for each of its initiators, and counts within the limits. Each
+-- script is as a text gives one: numbers in their ranges, lengths of 1 to 4,096, and no `invalidate`.
 pub record IsValid (p : Plan) : Type 0 where
   pub shape : IsShape p.platform
   pub scripts : length p.scripts ≡ length p.platform.initiators
+  pub proper : AllByRecursion AreProper p.scripts
   pub limits : checked_plan p ≡ Ok tt

@@ -63,7 +63,7 @@ const NINE: [(&str, &str); 9] = [
 
 #[test]
 fn shapes_are_answered(rt: HostRuntime) -> Result<(), Fail> {
-    let rows: [(&str, &[(&str, &str)], &str); 10] = [
+    let rows: [(&str, &[(&str, &str)], &str); 11] = [
         ("a", &[("a", "ram")], "ok"),
         ("a", &[("a", "b"), ("b", "a")], "unbound memory[0] name"),
         ("a", &[("a", "b"), ("b", "a ram")], "cycle router[0] window"),
@@ -72,6 +72,11 @@ fn shapes_are_answered(rt: HostRuntime) -> Result<(), Fail> {
         (
             "a",
             &[("a", "b c"), ("b", "ram"), ("c", "ram")],
+            "two_paths initiator[0] bind",
+        ),
+        (
+            "a",
+            &[("a", "b b"), ("b", "ram")],
             "two_paths initiator[0] bind",
         ),
         ("ram", &[("a", "")], "unbound router[0] window"),

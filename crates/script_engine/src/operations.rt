@@ -1,8 +1,10 @@
 // What one operation asks for.
-ghost use Rattle.std.specs.Prelude.{◌≡◌, ◌≤◌, length, true, false};
+ghost use Rattle.std.specs.Prelude.{◌≡◌, ◌≤◌, [], length, IsTrue, true, false};
+ghost use Rattle.std.specs.List.{list_all};
 ghost use Rattle.tlm_types.specs.declared.words.Command.{Command};
 ghost use Rattle.tlm_model.specs.Requests.{added, numbers_of};
 ghost use Rattle.traffic_script.specs.Proper.{IsProper};
+ghost use Rattle.generic_payload.specs.Payload.{is_enable};
 ghost use Rattle.script_engine.specs.State.{due_after, due_at, is_plain, length_of, op_for, payload_for};
 
 use crate::buffer::Buffer;
@@ -90,6 +92,19 @@ pub fn op_for(seq: u64, operation: &Operation) -> Op
     }
 }
 
+// Sets the byte enables of a payload that has none.
+fn enable(enables: &Bytes, payload: &mut Payload)
+    requires none { payload.old.enables ≡ [] }
+    requires roomy { length enables.now ≤ payload.old.room }
+    requires legal { IsTrue (list_all is_enable enables.now) }
+    ensures { payload.new ≡ record payload.old { enables = enables.now } }
+{
+    let enables = enables.as_slice();
+    if !enables.is_empty() {
+        payload.set_enables(enables);
+    }
+}
+
 /// Makes it the payload of an operation's first access, or of its debug read.
 pub fn fill_for(operation: &Operation, payload: &mut Payload)
     requires proper { IsProper operation.now }
@@ -105,7 +120,7 @@ pub fn fill_for(operation: &Operation, payload: &mut Payload)
         } => {
             let bytes = bytes.as_slice();
             payload.set_write(*address, bytes, width.unwrap_or(bytes.len() as u64));
-            payload.set_enables(enables.as_slice());
+            enable(enables, payload);
         }
         Operation::Read {
             address,
@@ -114,7 +129,7 @@ pub fn fill_for(operation: &Operation, payload: &mut Payload)
             width,
         } => {
             payload.set_read(*address, *length as u32, width.unwrap_or(*length));
-            payload.set_enables(enables.as_slice());
+            enable(enables, payload);
         }
         Operation::Ignore { address } => payload.set_ignore(*address),
         Operation::Debug { address, length } => {

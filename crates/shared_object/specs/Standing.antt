@@ -32,9 +32,11 @@ module _ {G : Type 0} where
   abbrev pub place : Frame G → TableId → ℕ → ℕ → Place G
   place frame tokens number own = record { frame = frame; tokens = tokens; numbers = record { number = number; own = own } }
 
-  -- the gates of an object: the first, and how many
-  abbrev pub gates_of : Frame G → ℕ → ℕ × ℕ
-  gates_of frame number = (sum (take number frame.gates), slice_index_or frame.gates number 0)
+  -- an object has these gates, the first and how many: they are as many as the history counts for it, and if there are any,
+  -- the first comes after those of all objects before it
+  pub record HasGates (frame : Frame G) (number : ℕ) (gates : ℕ × ℕ) : Type 0 where
+    pub count : gates.1 ≡ slice_index_or frame.gates number 0
+    pub first : 0 < gates.1 → gates.0 ≡ sum (take number frame.gates)
 
   -- the second book of an object, if it has one: its owner comes after the owners of all objects
   abbrev pub IsSecondBook : Place G → Option (TableId × ℕ) → Type 0
@@ -46,7 +48,7 @@ module _ {G M : Type 0} where
   pub record IsBuiltFor (builds : G → ℕ → Built M → Type 0) (at : Place G) (b : Built M) : Type 0 where
     pub own : own_number b.object ≡ at.numbers.own
     pub world : builds at.frame.world at.numbers.number b
-    pub gates : b.gates ≡ gates_of at.frame at.numbers.number
+    pub gates : HasGates at.frame at.numbers.number b.gates
     pub book : IsSecondBook at b.book
 
   -- an object that a call may meet there, where these entries are known: its state is one that its log gives, and its log has what is known of it

@@ -3,7 +3,7 @@ ghost use Rattle.one_history.specs.Moves.{fresh};
 ghost use Rattle.one_history.specs.Seats.{AreFresh};
 ghost use Rattle.token_book.specs.Account.{fresh as fresh_book, with_amount};
 ghost use Rattle.token_book.specs.Ticket.{IsTicket};
-ghost use Rattle.shared_object.specs.Standing.{gates_of, IsBook};
+ghost use Rattle.shared_object.specs.Standing.{HasGates, IsBook};
 ghost use Rattle.shared_object.specs.Steps.{IsNote};
 
 mod counter;
@@ -241,7 +241,7 @@ fn seated<N: Naming<(), NoLaw>>(desk: Desk) -> (Place<N>, Token)
     requires book { IsBook N.tokens desk.book.owner desk.counter.left 0 desk.book }
     requires empty { desk.counter.log.entries ≡ [] }
     requires room { desk.counter.left ≡ slice_index_or N.frame.planned desk.book.owner 0 }
-    requires gates { gates_of N.frame desk.book.owner ≡ (0, 0) }
+    requires gates { HasGates N.frame desk.book.owner (0, 0) }
     ensures number { result.0.number ≡ desk.book.owner }
     ensures rights { result.1 ≡ desk.rights }
 {

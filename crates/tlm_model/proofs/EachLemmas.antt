@@ -14,6 +14,10 @@ EachFrom-push P before (y ∷ xs) x h p =
 pub AtEach-push : {X : Type 0} (P : List X → X → Type 0) (xs : List X) (x : X) → AtEach P xs → P xs x → AtEach P (xs ++ x ∷ [])
 AtEach-push P xs x h p = EachFrom-push P [] xs x h p
 
+pub EachFrom-weaker : {X : Type 0} (P Q : List X → X → Type 0) → ((before : List X) (x : X) → P before x → Q before x) → (before xs : List X) → EachFrom P before xs → EachFrom Q before xs
+EachFrom-weaker P Q f before [] e = tt
+EachFrom-weaker P Q f before (x ∷ xs) e = (f before x e.0, EachFrom-weaker P Q f (before ++ x ∷ []) xs e.1)
+
 pub EachFrom-front : {X : Type 0} (P : List X → X → Type 0) (before xs ys : List X) → EachFrom P before (xs ++ ys) → EachFrom P before xs
 EachFrom-front P before [] ys h = tt
 EachFrom-front P before (x ∷ xs) ys h = (h.0, EachFrom-front P (before ++ x ∷ []) xs ys h.1)

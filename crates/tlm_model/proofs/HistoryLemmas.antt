@@ -3,7 +3,7 @@ use Rattle.std.proofs.Common.{◌≡◌, ℕ, ◌+◌, List, [], ◌∷◌, ◌+
 use Rattle.std.specs.List.{AllByRecursion}
 use Rattle.tlm_types.specs.declared.entry.Entry.{Entry}
 use Rattle.tlm_model.specs.declared.platform.Platform.{Platform}
-use Rattle.tlm_model.specs.Good.{IsSound}
+use Rattle.tlm_model.specs.Kept.{KeepsRequests}
 use Rattle.tlm_model.specs.History.{Store, after, IsNumberedFrom, IsLegalFrom, opening_store}
 use Rattle.tlm_model.specs.Plan.{Plan}
 use Rattle.tlm_model.proofs.EachLemmas.{AtEach-front}
@@ -28,9 +28,9 @@ IsLegalFrom-front : (p : Platform) (s : Store) (h m : List Entry) → IsLegalFro
 IsLegalFrom-front p s [] m l = tt
 IsLegalFrom-front p s (e ∷ h) m l = (l.0, IsLegalFrom-front p (after e.object e.what s) h m l.1)
 
--- each beginning of a sound history is sound
-pub IsSound-front : (p : Plan) (h m : List Entry) → IsSound p (h ++ m) → IsSound p h
-IsSound-front p h m s = record {
+-- each beginning of a history that has the points of requests has them
+pub KeepsRequests-front : (p : Plan) (h m : List Entry) → KeepsRequests p (h ++ m) → KeepsRequests p h
+KeepsRequests-front p h m s = record {
   numbered = IsNumberedFrom-front 0 h m s.numbered;
   legal = IsLegalFrom-front p.platform (opening_store p.platform) h m s.legal;
   scripts = record {

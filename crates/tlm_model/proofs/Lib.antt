@@ -1,4 +1,4 @@
-mod WorkedRuns
+pub mod WorkedRuns
 pub mod EachLemmas
 pub mod LogLemmas
 pub mod HistoryLemmas

@@ -8,7 +8,7 @@ pub mod History
 pub mod Log
 pub mod Scripts
 pub mod Times
-pub mod Good
+pub mod Kept
 pub mod Text
 pub mod Report
 pub mod Laws

@@ -56,9 +56,23 @@ IsWay fourphase_style (Transport a) way = way ≡ FourPhase
 IsWay style (DebugRead a) way = way ≡ Debug
 IsWay style (Invalidation n) way = ⊥
 
--- an access came by a way of its initiator's style
+-- a grant goes to an access of a direct initiator
+abbrev pub IsGrantee : Style → Asked → Type 0
+IsGrantee direct_style (Transport a) = Unit {0}
+IsGrantee style asked = ⊥
+
+-- a gate is closed by an invalidation
+abbrev pub IsCloser : Asked → Type 0
+IsCloser (Transport a) = ⊥
+IsCloser (DebugRead a) = ⊥
+IsCloser (Invalidation n) = Unit {0}
+
+-- an access came by a way of its initiator's style, and a grant or a closing belongs to a request that can have one
+-- (IEEE 1666-2011, clause 11.2)
 abbrev pub HasWay : Style → Asked → What → Type 0
 HasWay style asked (Accessed way access status got) = IsWay style asked way
+HasWay style asked (Granted g f l k) = IsGrantee style asked
+HasWay style asked (Closed g) = IsCloser asked
 HasWay style asked w = Unit {0}
 
 -- an access or an invalidation, by which a history answers a request
@@ -117,7 +131,7 @@ IsPlaced p i o w = ⊥
 pub record RunsScripts (p : Plan) (h : List Entry) : Type 0 where
   -- each access and each invalidation is that of a request of its initiator
   pub replies : AtEach (λ before e. OfRequest p before e (λ i r. IsEntryOf (route_of p.platform i r.address) r.asked e.object e.what)) h
-  -- each access came by a way of its initiator's style
+  -- each access came by a way of its initiator's style; grants and closings belong to requests that can have them
   pub ways : AtEach (λ before e. OfRequest p before e (λ i r. HasWay i.row.style r.asked e.what)) h
   -- no request is answered twice, and none before those that its initiator waits for: for a blocking or a
   -- direct initiator all earlier ones

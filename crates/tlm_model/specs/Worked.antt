@@ -19,14 +19,15 @@ use Rattle.tlm_model.specs.declared.platform.Style.TheVariants.{Blocking as bloc
 use Rattle.tlm_model.specs.declared.platform.Target.{Target}
 use Rattle.tlm_model.specs.declared.platform.Target.TheVariants.{Router, Memory}
 use Rattle.tlm_model.specs.declared.trace.Trace.TheVariants.{All as all_entries}
-use Rattle.tlm_model.specs.Good.{IsGood}
+use Rattle.tlm_model.specs.Kept.{KeepsRequests, EndsRequests}
 use Rattle.tlm_model.specs.Plan.{Plan}
 use Rattle.tlm_model.specs.Report.{report_of}
 use Rattle.tlm_model.specs.Store.{zeros}
 
--- the history is good for the plan, and its report is this text
+-- the history has the points of requests, also those of its end, and its report is this text
 pub record IsWorked (p : Plan) (h : List Entry) (text : List ℕ) : Type 0 where
-  pub good : IsGood p h
+  pub kept : KeepsRequests p h
+  pub ended : EndsRequests p h
   pub report : report_of all_entries p h ≡ text
 
 -- one blocking initiator `cpu`, and a memory `ram` of 256 bytes

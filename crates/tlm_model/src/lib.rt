@@ -4,10 +4,10 @@
 //!   definitions share them.
 //! - `specs/` has the definitions that contracts cite, one file a subject: `Store` what an access
 //!   does, `Route` where an address leads, `Requests` what an initiator asks for, `Rounds` its
-//!   syncs, `History` and `Log` the store of a history and of one memory, `Scripts` and `Good` which
-//!   histories are right, `Report` their text.
-//! - `worked` has small runs, each with a history that is good and its report, and histories that
-//!   aren't good. Each is proved to be so by computing the definitions.
+//!   syncs, `History` and `Log` the store of a history and of one memory, `Scripts` and `Kept` the
+//!   points of requests, `Report` the text of a history.
+//! - `worked` has small runs, each with a history that has these points and its report, and histories
+//!   that miss one. Each is proved to be so by computing the definitions.
 #![tactic(auto)]
 
 pub mod laws;

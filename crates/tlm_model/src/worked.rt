@@ -1,7 +1,8 @@
 //! Worked runs. Each function says of a plan, a history and a text, all made by hand, that the history
-//! is good for the plan and that the text is its report; or of a history that it isn't good.
+//! has the points of requests for the plan and that the text is its report; or of a history that it
+//! misses one.
 ghost use Rattle.std.specs.Prelude.{[], codes};
-ghost use Rattle.tlm_model.specs.Good.{IsGood};
+ghost use Rattle.tlm_model.specs.Kept.{KeepsRequests, EndsRequests};
 ghost use Rattle.tlm_model.specs.Worked.{IsWorked, cut_short, debug_plan, debug_text, debugged, doubled, empty_plan, empty_text, enables, enables_plan, enables_text, hasty, ignore_plan, ignore_text, ignored, past_end, past_end_plan, past_end_text, quantum_plan, readback, readback_plan, readback_text, routed, routed_plan, routed_text, seven_reads, seven_reads_text, streaming, streaming_plan, streaming_text, sum_plan, sum_text, summed, swapped, wrong_byte, wrong_status};
 
 /// Four bytes are written and read back.
@@ -59,32 +60,32 @@ pub fn syncs_without_a_quantum()
     ensures { IsWorked (quantum_plan 0) seven_reads (seven_reads_text (codes "7")) }
 {}
 
-/// A read of other bytes than the store has is not good.
-pub fn wrong_byte_is_not_good()
-    ensures { ¬ IsGood readback_plan wrong_byte }
+/// A read of other bytes than the store has is not right.
+pub fn wrong_byte_is_not_right()
+    ensures { ¬ KeepsRequests readback_plan wrong_byte }
 {}
 
-/// A status that the memory does not give is not good.
-pub fn wrong_status_is_not_good()
-    ensures { ¬ IsGood readback_plan wrong_status }
+/// A status that the memory does not give is not right.
+pub fn wrong_status_is_not_right()
+    ensures { ¬ KeepsRequests readback_plan wrong_status }
 {}
 
-/// Entries against the order of the script are not good.
-pub fn swapped_entries_are_not_good()
-    ensures { ¬ IsGood readback_plan swapped }
+/// Entries against the order of the script are not right.
+pub fn swapped_entries_are_not_right()
+    ensures { ¬ KeepsRequests readback_plan swapped }
 {}
 
-/// A request that is answered twice is not good.
-pub fn doubled_entry_is_not_good()
-    ensures { ¬ IsGood readback_plan doubled }
+/// A request that is answered twice is not right.
+pub fn doubled_entry_is_not_right()
+    ensures { ¬ KeepsRequests readback_plan doubled }
 {}
 
-/// A request that is not answered is not good.
-pub fn missing_entry_is_not_good()
-    ensures { ¬ IsGood readback_plan cut_short }
+/// A request that is not answered is not right.
+pub fn missing_entry_is_not_right()
+    ensures { ¬ EndsRequests readback_plan cut_short }
 {}
 
-/// An access at another time than its request gives it is not good.
-pub fn early_entry_is_not_good()
-    ensures { ¬ IsGood readback_plan hasty }
+/// An access at another time than its request gives it is not right.
+pub fn early_entry_is_not_right()
+    ensures { ¬ KeepsRequests readback_plan hasty }
 {}

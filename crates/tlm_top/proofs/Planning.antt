@@ -1,9 +1,12 @@
 -- The plan of a platform and its scripts.
 use Rattle.std.proofs.Common.{◌≡◌, ℕ, suc, ◌+◌, ◌≤◌, ◌^◌, arith, List, [], ◌∷◌, length, Result, Ok, Err, refl, ap, sym, subst, ◌∙◌}
+use Rattle.std.specs.List.{AllByRecursion}
 use Rattle.outside.specs.Causes.{Rose}
 use Rattle.platform_file.specs.Reading.{Refusal, ◌>>=◌, Fails}
 use Rattle.platform_file.specs.declared.fault.PlatformFault.{PlatformFault}
 use Rattle.platform_file.specs.declared.fault.PlatformFault.TheVariants.{Refused, Memory}
+use Rattle.traffic_script.specs.Proper.{AreProper}
+use Rattle.traffic_script.proofs.ScriptLemmas.{script_proper}
 use Rattle.route_plan.specs.Shape.{IsShape}
 use Rattle.route_plan.specs.Valid.{checked_plan, planned, IsValid}
 use Rattle.command_words.specs.Words.{CommandLine, run, script}
@@ -25,6 +28,12 @@ AreScripts-length h [] (s ∷ scripts) are = absurd are
 AreScripts-length h (row ∷ rows) [] are = absurd are
 AreScripts-length h (row ∷ rows) (s ∷ scripts) are = ap suc (AreScripts-length h rows scripts are.1)
 
+AreScripts-proper : (h : Holding) (rows : List InitiatorRow) (scripts : List (List Operation)) → AreScripts h rows scripts → AllByRecursion AreProper scripts
+AreScripts-proper h [] [] are = tt
+AreScripts-proper h [] (s ∷ scripts) are = absurd are
+AreScripts-proper h (row ∷ rows) [] are = absurd are
+AreScripts-proper h (row ∷ rows) (s ∷ scripts) are = (script_proper are.0.text s are.0.read, AreScripts-proper h rows scripts are.1)
+
 within : (p q : Plan) (checked : Result (Unit {0}) Refusal) → (checked >>= λ _. Ok p) ≡ Ok q → (checked ≡ Ok tt) × (q ≡ p)
 within p q (Ok tt) is = (refl, let same : p ≡ q = cc in sym same)
 within p q (Err e) is = cc
@@ -34,8 +43,10 @@ pub planned_is : (h : Holding) (command : CommandLine) (p q : Plan) → IsShape 
 unfolding planned
 planned_is h command p q shape platform scripts is =
     let w = within p q (checked_plan p) is in
-    subst (λ (x : Plan). IsPlan h command x × IsValid x) (sym w.1)
-    (record { platform = platform; scripts = scripts }, record { shape = shape; scripts = AreScripts-length h p.platform.initiators p.scripts scripts; limits = w.0 })
+    subst (λ (x : Plan). IsPlan h command x × IsValid x) (sym w.1) (
+      record { platform = platform; scripts = scripts },
+      record { shape = shape; scripts = AreScripts-length h p.platform.initiators p.scripts scripts; proper = AreScripts-proper h p.platform.initiators p.scripts scripts; limits = w.0 },
+    )
 
 refused : (p : Plan) (checked : Result (Unit {0}) Refusal) (r : Refusal) → (checked >>= λ _. Ok p) ≡ Err r → checked ≡ Err r
 refused p (Ok tt) r is = cc

@@ -5,9 +5,9 @@ use Rattle.outside.specs.Pieces.{TakesAll, TakesPrefix}
 use Rattle.tlm_types.specs.declared.entry.Entry.{Entry}
 use Rattle.tlm_model.specs.declared.trace.Trace.{Trace}
 use Rattle.tlm_model.specs.declared.trace.Trace.TheVariants.{All as all_entries}
-use Rattle.tlm_model.specs.Good.{IsGood}
 use Rattle.tlm_model.specs.Plan.{Plan}
 use Rattle.tlm_model.specs.Report.{report_of}
+use Rattle.good_history.specs.Good.{IsGood}
 use Rattle.route_plan.specs.Valid.{IsValid}
 use Rattle.command_words.specs.Words.{CommandLine, run, script, command_of}
 use Rattle.trace_print.specs.Writes.{SinkChange}

@@ -1,39 +1,95 @@
 // The log of an object: its entries in order, kept without a list of bytes for each.
-ghost use Rattle.std.specs.Prelude.{◌≡◌, ◌≢◌, ◌+◌, ◌<◌, ◌≤◌, [], ◌++◌, length, max, take, false, Some, IsOk, IsSome, IsSomeAnd, IfSome, IfOk, OnOk, OnErr, IsTrue, ◌↔◌, slice_get, option_map, option_copied, vec_len, vec_capacity};
+ghost use Rattle.std.specs.Prelude.{◌≡◌, ◌≢◌, ◌+◌, ◌^◌, ◌<◌, ◌≤◌, [], ◌++◌, length, max, take, false, Some, IsOk, IsSome, IsSomeAnd, IfSome, IfOk, OnOk, OnErr, IsTrue, ◌↔◌, slice_get, option_map, option_copied, vec_len, vec_capacity};
 ghost use Rattle.tlm_types.specs.declared.words.Command.TheVariants.{Read};
-ghost use Rattle.tlm_types.specs.LogItem.{access_at};
+ghost use Rattle.tlm_types.specs.LogItem.{facts_in, head_in, item_for, plain_what, span_at, stored_at};
 ghost use Rattle.tlm_types.specs.Log.{access_by, enables_of, entry_at, facts_of, got_of, head_of, is_access, plain_of, read_at, read_sends, sent_of, with_entry};
 
 use crate::entry::{Facts, Head, What};
-use crate::words::Memory;
+use crate::words::{Command, Kind, Memory, ObjectNo, Phase, Ps, Response, TlmSync, TxnId, Way};
 use std::alloc::{AllocError, Global};
 use std::marker::Model;
+use std::mem::size_of;
 
-#[derive(Drop)]
+// An entry, with where the bytes of an access begin. A long history is as large as its items, so the
+// fields are in an order that leaves no room between them.
+#[derive(Clone, Copy)]
 struct Item {
-    head: Head,
+    position: u64,
+    time: Ps,
+    seq: u64,
+    initiator: u32,
+    start: u32,
+    object: ObjectNo,
     event: Event,
 }
 
-#[derive(Drop)]
+const _: () = prove!(size_of::<Item>() == 96);
+
+#[derive(Clone, Copy)]
 enum Event {
-    Plain(What),
+    Plain(Plain),
     Access(StoredAccess),
+}
+
+// What happened, where it is no access.
+#[derive(Clone, Copy)]
+enum Plain {
+    Granted {
+        gate: u32,
+        kind: Kind,
+        first: u64,
+        last: u64,
+    },
+    Invalidated {
+        first: u64,
+        last: u64,
+    },
+    Closed {
+        gate: u32,
+    },
+    Call {
+        phase: Phase,
+        answer: TlmSync,
+    },
+    Take {
+        slot: u32,
+    },
+    Acquire {
+        slot: u32,
+    },
+    Release {
+        slot: u32,
+        freed: bool,
+    },
 }
 
 // An access whose bytes stand in one list with those of the others: what it sent, its enables and
 // what it got, one after another.
 #[derive(Clone, Copy)]
 struct StoredAccess {
-    facts: Facts,
-    start: usize,
-    enables_start: usize,
-    got_start: usize,
-    end: usize,
+    offset: u64,
+    length: u64,
+    width: u64,
+    enables_start: u32,
+    got_start: u32,
+    end: u32,
+    way: Way,
+    command: Command,
+    status: Response,
+}
+
+// Where the bytes of an access stand.
+#[derive(Clone, Copy)]
+struct Span {
+    start: u32,
+    enables_start: u32,
+    got_start: u32,
+    end: u32,
 }
 
 /// The log of an object: its entries in order. Contracts see the list of them, with the room that was
-/// made for entries and for the bytes of accesses.
+/// made for entries and for the bytes of accesses. A log holds less than 4 GiB of bytes: more is
+/// refused as want of memory is.
 #[derive(Drop)]
 pub struct Log {
     items: Vec<Item>,
@@ -65,6 +121,9 @@ impl Log {
     pub fn with_room(alloc: Global, entries: u64, bytes: u64) -> Result<Log, Memory>
         ensures { IfOk result (λ l. l ≡ record { entries = []; room = entries; room_bytes = bytes }) }
     {
+        if bytes > BYTES_MAX {
+            return Err(Memory);
+        }
         let items = Vec::with_capacity(alloc, entries as usize)?;
         let stored = Vec::with_capacity(alloc, bytes as usize)?;
         Ok(Log {
@@ -111,10 +170,9 @@ impl Log {
         ensures err { OnErr result (self.new ≡ self.old) }
         ensures roomy { length self.old.entries < self.old.room → IsOk result }
     {
-        self.items.push(Item {
-            head,
-            event: Event::Plain(what),
-        })?;
+        let plain = plain_event(what);
+        let item = new_item(head, 0, Event::Plain(plain));
+        self.items.push(item)?;
         Ok(())
     }
 
@@ -142,18 +200,15 @@ impl Log {
         append(&mut self.bytes, sent, enables, got)?;
         let end = self.bytes.len();
         self.room_bytes = self.room_bytes.saturating_sub((end - start) as u64);
-        let access = StoredAccess {
-            facts,
-            start,
-            enables_start: start + sent.len(),
-            got_start: end - got.len(),
-            end,
+        let span = Span {
+            start: start as u32,
+            enables_start: (start + sent.len()) as u32,
+            got_start: (end - got.len()) as u32,
+            end: end as u32,
         };
-        let Ok(()) = self.items.push(Item {
-            head,
-            event: Event::Access(access),
-        })
-        else {
+        let access = stored_access(facts, span);
+        let item = new_item(head, span.start, Event::Access(access));
+        let Ok(()) = self.items.push(item) else {
             unreachable!()
         };
         Ok(())
@@ -166,6 +221,9 @@ impl Log {
         ensures err { OnErr result (self.new ≡ self.old) }
         ensures roomy { bytes ≤ self.old.room_bytes → IsOk result }
     {
+        if bytes > BYTES_MAX - self.bytes.len() as u64 {
+            return Err(Memory);
+        }
         self.bytes.reserve(bytes as usize)?;
         self.room_bytes = self.room_bytes.max(bytes);
         Ok(())
@@ -176,16 +234,16 @@ impl Log {
         requires { index < length self.now.entries }
         ensures { option_map head_of (slice_get self.now.entries index) ≡ Some result }
     {
-        self.items[index as usize].head
+        head_of(&self.items[index as usize])
     }
 
     /// What happened, and for an access none.
-    pub fn what(&self, index: u64) -> Option<&What>
+    pub fn what(&self, index: u64) -> Option<What>
         requires { index < length self.now.entries }
-        ensures { option_copied result ≡ read_at plain_of self.now.entries index }
+        ensures { result ≡ read_at plain_of self.now.entries index }
     {
         match &self.items[index as usize].event {
-            Event::Plain(what) => Some(what),
+            Event::Plain(plain) => Some(what_of(*plain)),
             Event::Access(_) => None,
         }
     }
@@ -201,7 +259,7 @@ impl Log {
     {
         match &self.items[index as usize].event {
             Event::Plain(_) => None,
-            Event::Access(access) => Some(access.facts),
+            Event::Access(access) => Some(facts_of(access)),
         }
     }
 
@@ -210,8 +268,8 @@ impl Log {
         requires { IsSomeAnd (read_at facts_of self.now.entries index) (λ f. f.command ≢ Read) }
         ensures { read_at sent_of self.now.entries index ≡ Some result.now }
     {
-        let access = stored(&self.items, index as usize);
-        &self.bytes[access.start..access.enables_start]
+        let span = span_at(&self.items, index as usize);
+        &self.bytes[span.start as usize..span.enables_start as usize]
     }
 
     /// The byte enables of an access.
@@ -219,8 +277,8 @@ impl Log {
         requires { IsSome (read_at facts_of self.now.entries index) }
         ensures { read_at enables_of self.now.entries index ≡ Some result.now }
     {
-        let access = stored(&self.items, index as usize);
-        &self.bytes[access.enables_start..access.got_start]
+        let span = span_at(&self.items, index as usize);
+        &self.bytes[span.enables_start as usize..span.got_start as usize]
     }
 
     /// A read's buffer after the access, or what a debug read moved.
@@ -228,36 +286,155 @@ impl Log {
         requires { IsSome (read_at facts_of self.now.entries index) }
         ensures { read_at got_of self.now.entries index ≡ Some result.now }
     {
-        let access = stored(&self.items, index as usize);
-        &self.bytes[access.got_start..access.end]
+        let span = span_at(&self.items, index as usize);
+        &self.bytes[span.got_start as usize..span.end as usize]
     }
 }
 
-// The access among the items at this place, where there is one.
-fn stored(items: &[Item], index: usize) -> StoredAccess
-    requires { IsSome (access_at items.now index) }
-    ensures { access_at items.now index ≡ Some result }
+// How many bytes of accesses a log holds at most.
+const BYTES_MAX: u64 = 0xffff_ffff;
+
+fn new_item(head: Head, start: u32, event: Event) -> Item
+    ensures { result ≡ item_for head start event }
 {
-    match &items[index].event {
-        Event::Access(access) => *access,
+    Item {
+        position: head.position,
+        time: head.time,
+        seq: head.txn.seq,
+        initiator: head.txn.initiator,
+        start,
+        object: head.object,
+        event,
+    }
+}
+
+fn head_of(item: &Item) -> Head
+    ensures { result ≡ head_in item.now }
+{
+    Head {
+        position: item.position,
+        object: item.object,
+        txn: TxnId {
+            initiator: item.initiator,
+            seq: item.seq,
+        },
+        time: item.time,
+    }
+}
+
+fn stored_access(facts: Facts, span: Span) -> StoredAccess
+    ensures { result ≡ stored_at facts span }
+{
+    StoredAccess {
+        offset: facts.offset,
+        length: facts.length,
+        width: facts.width,
+        enables_start: span.enables_start,
+        got_start: span.got_start,
+        end: span.end,
+        way: facts.way,
+        command: facts.command,
+        status: facts.status,
+    }
+}
+
+fn facts_of(access: &StoredAccess) -> Facts
+    ensures { result ≡ facts_in access.now }
+{
+    Facts {
+        way: access.way,
+        command: access.command,
+        offset: access.offset,
+        length: access.length,
+        width: access.width,
+        status: access.status,
+    }
+}
+
+// Where the bytes of the access among the items at this place stand, where there is one.
+fn span_at(items: &[Item], index: usize) -> Span
+    requires { IsSome (span_at items.now index) }
+    ensures { span_at items.now index ≡ Some result }
+{
+    let item = &items[index];
+    match &item.event {
+        Event::Access(access) => Span {
+            start: item.start,
+            enables_start: access.enables_start,
+            got_start: access.got_start,
+            end: access.end,
+        },
         Event::Plain(_) => unreachable!(),
     }
 }
 
-// Appends these bytes, or none of them. Its only error is want of memory.
-fn append(bytes: &mut Vec<u8>, sent: &[u8], enables: &[u8], got: &[u8]) -> Result<(), AllocError>
+// What happened, as it is kept, where it is no access.
+fn plain_event(what: What) -> Plain
+    requires { is_access what ≡ false }
+    ensures { plain_what result ≡ what }
+{
+    match what {
+        What::Access { .. } => unreachable!(),
+        What::Granted {
+            gate,
+            first,
+            last,
+            kind,
+        } => Plain::Granted {
+            gate,
+            kind,
+            first,
+            last,
+        },
+        What::Invalidated { first, last } => Plain::Invalidated { first, last },
+        What::Closed { gate } => Plain::Closed { gate },
+        What::Call { phase, answer } => Plain::Call { phase, answer },
+        What::Take { slot } => Plain::Take { slot },
+        What::Acquire { slot } => Plain::Acquire { slot },
+        What::Release { slot, freed } => Plain::Release { slot, freed },
+    }
+}
+
+fn what_of(plain: Plain) -> What
+    ensures { result ≡ plain_what plain }
+{
+    match plain {
+        Plain::Granted {
+            gate,
+            kind,
+            first,
+            last,
+        } => What::Granted {
+            gate,
+            first,
+            last,
+            kind,
+        },
+        Plain::Invalidated { first, last } => What::Invalidated { first, last },
+        Plain::Closed { gate } => What::Closed { gate },
+        Plain::Call { phase, answer } => What::Call { phase, answer },
+        Plain::Take { slot } => What::Take { slot },
+        Plain::Acquire { slot } => What::Acquire { slot },
+        Plain::Release { slot, freed } => What::Release { slot, freed },
+    }
+}
+
+// Appends these bytes, or none of them. Its only error is want of memory, or that they are too many.
+fn append(bytes: &mut Vec<u8>, sent: &[u8], enables: &[u8], got: &[u8]) -> Result<(), Memory>
     ensures ok { OnOk result (bytes.new.items ≡ bytes.old.items ++ (sent.now ++ (enables.now ++ got.now))) }
+    ensures small { OnOk result (vec_len bytes.new < 2 ^ 32) }
     ensures err { OnErr result (bytes.new.items ≡ bytes.old.items) }
     ensures capacity { vec_capacity bytes.old ≤ vec_capacity bytes.new }
-    ensures roomy { vec_len bytes.old + (length sent.now + length enables.now + length got.now)
-        ≤ vec_capacity bytes.old → IsOk result }
+    ensures roomy { let all = vec_len bytes.old + (length sent.now + length enables.now + length got.now) in
+        all ≤ vec_capacity bytes.old → all < 2 ^ 32 → IsOk result }
 {
     let start = bytes.len();
     let appended = append_some(bytes, sent, enables, got);
-    if appended.is_err() {
+    if appended.is_err() || bytes.len() as u64 > BYTES_MAX {
         bytes.truncate(start);
+        return Err(Memory);
     }
-    appended
+    Ok(())
 }
 
 // Appends these bytes, and after want of memory some of them.

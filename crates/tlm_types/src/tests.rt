@@ -201,6 +201,6 @@ fn a_log_reads_back_what_was_pushed(rt: HostRuntime) -> Result<(), Fail> {
     assert!(rt; 5 < log.len());
     assert_eq!(rt; log.head(5), head(5));
     assert!(rt; log.facts(5).is_none());
-    assert!(rt; matches!(log.what(5), Some(What::Closed { gate: 4 })));
+    assert!(rt; matches!(&log.what(5), Some(What::Closed { gate: 4 })));
     Ok(())
 }

@@ -12,3 +12,9 @@ pub mod SplitLemmas
 pub mod SameWords
 pub mod SameEntries
 pub mod SameHistories
+pub mod GoodNames
+pub mod Requested
+pub mod OfRequests
+pub mod Accesses
+pub mod FewEntries
+pub mod GoodEntries

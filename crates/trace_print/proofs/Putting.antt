@@ -1,5 +1,5 @@
 -- One thing put into a line after another.
-use Rattle.std.proofs.Common.{◌≡◌, ℕ, ◌+◌, ◌≤◌, List, [], ◌++◌, length, take, Bool, true, false, refl, ap, sym, subst, ◌∙◌, arith, append_assoc, length-append}
+use Rattle.std.proofs.Common.{◌≡◌, ℕ, ◌+◌, ◌≤◌, List, [], ◌++◌, length, take, Bool, true, false, refl, ap, sym, subst, ◌∙◌, arith, append_assoc, length-append, length-take-le}
 use Rattle.std.proofs.Math.Seq.{take-append-add}
 use Rattle.std.proofs.lemmas.List.{take-append-le, append-nil}
 use Rattle.outside.specs.Causes.{Rose}
@@ -56,15 +56,24 @@ puts-nothing a = record {
 pub puts-as : (a b : Page) (x y : List ℕ) → Puts a b x → x ≡ y → Puts a b y
 puts-as a b x y p e = let P : List ℕ → Type 0 = λ z. Puts a b z in subst P e p
 
--- a line with other bytes of the same value
-pub puts-alike : (a b : Page) → b.failed ≡ a.failed → b.taken ≡ a.taken → b.faults ≡ a.faults → b.waiting ≡ a.waiting → Puts a b []
-puts-alike a b failed taken faults waiting = record {
+-- what waits in the line, with nothing written
+pub puts-waiting : (a b : Page) (x : List ℕ) → b.failed ≡ a.failed → b.taken ≡ a.taken → b.faults ≡ a.faults → b.waiting ≡ a.waiting ++ x → Puts a b x
+puts-waiting a b x failed taken faults waiting = record {
   began = λ ok. sym failed ∙ ok;
-  whole = λ ok. ([], waiting ∙ sym (append-nil a.waiting), rw taken (takes-nothing a.taken));
+  whole = λ ok. ([], waiting, rw taken (takes-nothing a.taken));
   part = λ began ended. cc;
   over = λ g. (failed ∙ g, taken);
   later = omega (arith, faults);
 }
+
+-- what waits, where the first of some bytes were copied behind it
+pub waits-first : (len count : ℕ) (old bytes rest : List ℕ) → len ≤ length old → count ≤ length bytes → take (len + count) (take len old ++ bytes ++ rest) ≡ take len old ++ take count bytes
+waits-first len count old bytes rest within few =
+    let size : length (take len old) ≡ len = length-take-le len old within in
+    let fits : len + count ≤ length (take len old ++ bytes) = omega (arith, length-append (take len old) bytes) in
+    take-append-le (len + count) (take len old ++ bytes) rest fits
+    ∙ (ap (λ (n : ℕ). take (n + count) (take len old ++ bytes)) (sym size)
+    ∙ take-append-add (take len old) bytes count)
 
 -- what came of a report that failed, where nothing waited before
 pub printed-part : (a b : Page) (x : List ℕ) → a.failed ≡ false → b.failed ≡ true → a.waiting ≡ [] → Puts a b x → TakesPrefix a.taken b.taken x × Rose a.faults b.faults

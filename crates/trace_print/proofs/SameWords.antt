@@ -18,7 +18,8 @@ use Rattle.tlm_types.specs.declared.words.Way.{Way}
 use Rattle.tlm_types.specs.declared.words.Way.TheVariants.{Blocking, FourPhase, Direct, Debug}
 use Rattle.tlm_model.specs.Report.{command_word, freed_words, kind_word, phase_word, range_word, seq_word, status_word, sync_words, way_word}
 use Rattle.tlm_model.specs.Text.{address_word, data_word, hex_of}
-use Rattle.trace_print.specs.Naming.{AreBytes, HasGate, IsVisible, Lacks}
+use Rattle.traffic_script.specs.Proper.{AreBytes}
+use Rattle.trace_print.specs.Naming.{HasGate, IsVisible, Lacks}
 use Rattle.trace_print.proofs.SplitLemmas.{AllVisible, lacks, lacks-append, lacks-by-test, lacks-digits, split-at, visible-append, visible-by-test, visible-digits}
 
 numeral : (n : ℕ) → n < 2 ^ 64 → IsNumeral 16 (digits 16 false n) × (digits_value 16 (digits 16 false n) ≡ n)

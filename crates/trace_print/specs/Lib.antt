@@ -1,5 +1,7 @@
+pub mod LineView
 pub mod Writes
 pub mod Putting
 pub mod Told
 pub mod Hops
 pub mod Naming
+pub mod GoodHistories

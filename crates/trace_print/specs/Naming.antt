@@ -17,6 +17,7 @@ use Rattle.tlm_model.specs.declared.trace.Trace.TheVariants.{All}
 use Rattle.tlm_model.specs.Plan.{Plan}
 use Rattle.tlm_model.specs.Report.{entry_words, hop_words, initiator_name, memory_name, name_of_router, object_word, report_of, shown_by}
 use Rattle.tlm_model.specs.Text.{line_of}
+use Rattle.traffic_script.specs.Proper.{AreBytes}
 
 -- none of these bytes is that one
 abbrev pub Lacks : ℕ → List ℕ → Type 0
@@ -50,10 +51,6 @@ abbrev pub IsObject : Platform → ObjectNo → Type 0
 IsObject p (memory_object m) = m < length p.memories
 IsObject p (Hop h) = h < length (hop_words p)
 IsObject p (Pool i) = i < length p.initiators
-
-abbrev pub AreBytes : List ℕ → Type 0
-AreBytes [] = Unit {0}
-AreBytes (b ∷ bs) = (b < 256) × AreBytes bs
 
 abbrev pub HasGate : Way → Type 0
 HasGate Blocking = Unit {0}

@@ -13,7 +13,7 @@ pub record Page : Type 0 where
   pub failed : Bool
 
 abbrev pub page : Option (List ℕ) → ℕ → Line → Page
-page taken faults line = record { taken = taken; faults = faults; waiting = line.bytes.items; failed = line.failed }
+page taken faults line = record { taken = taken; faults = faults; waiting = line.waiting; failed = line.failed }
 
 -- the sink has taken what waited and these bytes, but for what still waits
 abbrev pub Moves : Page → Page → List ℕ → Type 0

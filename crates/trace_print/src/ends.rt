@@ -9,18 +9,20 @@ ghost use Rattle.trace_print.specs.Told.{end_lines, ends_lines, refused_command,
 
 use crate::line::{Line, end_line, put};
 use crate::names::put_seq;
-use crate::words::{command_text, put_address, put_number, put_text, style_text};
+use crate::words::{put_address, put_command, put_number, put_text, style_text};
 use outside::Sink;
 use tlm_model::InitiatorRow;
 use tlm_types::{EndOf, RefusedItem, RefusedList};
 
-fn refused_text(item: RefusedItem) -> &'static str
-    ensures { result.now ≡ refused_command item }
+// What was refused: a debug read, or the command of an access.
+fn put_refused_command<K: Sink>(out: &mut K, line: &mut Line, item: RefusedItem)
+    ensures { Puts (page (K.taken out.old) (K.faults out.old) line.old)
+        (page (K.taken out.new) (K.faults out.new) line.new) (refused_command item) }
 {
     if item.debug {
-        "debug"
+        put(out, line, b"debug");
     } else {
-        command_text(item.command)
+        put_command(out, line, item.command);
     }
 }
 
@@ -34,7 +36,7 @@ fn put_refused<K: Sink>(out: &mut K, line: &mut Line, name: &str, item: RefusedI
     put(out, line, b" ");
     put_number(out, line, item.time);
     put(out, line, b" ");
-    put_text(out, line, refused_text(item));
+    put_refused_command(out, line, item);
     put(out, line, b" ");
     put_address(out, line, item.address);
     end_line(out, line);

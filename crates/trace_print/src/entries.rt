@@ -14,10 +14,11 @@ ghost use Rattle.trace_print.specs.Told.{access_words, shown_at, text_of};
 use crate::line::{Line, end_line, put};
 use crate::names::{ends_at, put_object, put_txn};
 use crate::words::{
-    command_text, kind_text, phase_text, put_address, put_data, put_number, put_range, put_sync,
-    put_text, put_way, status_text,
+    kind_text, phase_text, put_address, put_command, put_data, put_number, put_range, put_status,
+    put_sync, put_text, put_way,
 };
 use outside::Sink;
+use plat_core::MergedLog;
 use route_plan::{HopEnds, Plan};
 use tlm_model::{Platform, Trace};
 use tlm_types::{Command, Facts, Head, Kind, Log, Phase, TlmSync, What};
@@ -54,7 +55,7 @@ fn put_asked<K: Sink>(out: &mut K, line: &mut Line, facts: Facts)
 {
     put_way(out, line, facts.way);
     put(out, line, b" ");
-    put_text(out, line, command_text(facts.command));
+    put_command(out, line, facts.command);
     put(out, line, b" ");
     put_address(out, line, facts.offset);
     put(out, line, b" ");
@@ -75,17 +76,17 @@ fn put_access<K: Sink>(out: &mut K, line: &mut Line, facts: Facts, enables: &[u8
     put(out, line, b" ");
     put_data(out, line, shown);
     put(out, line, b" ");
-    put_text(out, line, status_text(facts.status));
+    put_status(out, line, facts.status);
 }
 
 // The bytes that the line of an access shows.
-fn shown(history: &Log, index: u64, command: Command) -> &[u8]
-    requires { (f : Facts) × (read_at facts_of history.now.entries index ≡ Some f) × (command ≡ f.command) }
-    ensures { Some result.now ≡ read_at shown_at history.now.entries index }
+fn shown(log: &Log, index: u64, command: Command) -> &[u8]
+    requires { (f : Facts) × (read_at facts_of log.now.entries index ≡ Some f) × (command ≡ f.command) }
+    ensures { Some result.now ≡ read_at shown_at log.now.entries index }
 {
     match command {
-        Command::Read => history.got(index),
-        Command::Write => history.sent(index),
+        Command::Read => log.got(index),
+        Command::Write => log.sent(index),
         Command::Ignore => &[],
     }
 }
@@ -152,18 +153,18 @@ fn put_event<K: Sink>(out: &mut K, line: &mut Line, what: &What)
     }
 }
 
-// What happened at this place of the history.
-fn put_what<K: Sink>(out: &mut K, line: &mut Line, history: &Log, index: u64)
-    requires { index < length history.now.entries }
-    ensures { (e : Entry) → slice_get history.now.entries index ≡ Some e →
+// What happened at this place of the log.
+fn put_what<K: Sink>(out: &mut K, line: &mut Line, log: &Log, index: u64)
+    requires { index < length log.now.entries }
+    ensures { (e : Entry) → slice_get log.now.entries index ≡ Some e →
         Puts (page (K.taken out.old) (K.faults out.old) line.old)
         (page (K.taken out.new) (K.faults out.new) line.new) (join_with_byte 32 (what_words e.what)) }
 {
-    if let Some(facts) = history.facts(index) {
-        let shown = shown(history, index, facts.command);
-        put_access(out, line, facts, history.enables(index), shown);
-    } else if let Some(what) = history.what(index) {
-        put_event(out, line, what);
+    if let Some(facts) = log.facts(index) {
+        let shown = shown(log, index, facts.command);
+        put_access(out, line, facts, log.enables(index), shown);
+    } else if let Some(what) = log.what(index) {
+        put_event(out, line, &what);
     }
 }
 
@@ -173,28 +174,28 @@ pub fn put_entry<K: Sink>(
     line: &mut Line,
     platform: &Platform,
     ends: Option<HopEnds>,
-    history: &Log,
+    log: &Log,
     index: u64,
 )
-    requires { index < length history.now.entries }
-    ensures { (e : Entry) → slice_get history.now.entries index ≡ Some e → ends ≡ ends_at platform.now e.object →
+    requires { index < length log.now.entries }
+    ensures { (e : Entry) → slice_get log.now.entries index ≡ Some e → ends ≡ ends_at platform.now e.object →
         Puts (page (K.taken out.old) (K.faults out.old) line.old)
         (page (K.taken out.new) (K.faults out.new) line.new) (line_of (entry_words platform.now e)) }
 {
-    put_head(out, line, platform, history.head(index), ends);
-    put_what(out, line, history, index);
+    put_head(out, line, platform, log.head(index), ends);
+    put_what(out, line, log, index);
     end_line(out, line);
 }
 
 /// The trace shows the entry at this place.
-pub fn is_shown(history: &Log, index: u64, trace: Trace) -> bool
-    requires { index < length history.now.entries }
-    ensures { (e : Entry) → slice_get history.now.entries index ≡ Some e → traced trace (e ∷ [])
+pub fn is_shown(log: &Log, index: u64, trace: Trace) -> bool
+    requires { index < length log.now.entries }
+    ensures { (e : Entry) → slice_get log.now.entries index ≡ Some e → traced trace (e ∷ [])
         ≡ (if result then e ∷ [] else []) }
 {
     match trace {
         Trace::All => true,
-        Trace::Accesses => history.facts(index).is_some(),
+        Trace::Accesses => log.facts(index).is_some(),
         Trace::None => false,
     }
 }
@@ -204,29 +205,36 @@ fn put_traced<K: Sink>(
     out: &mut K,
     line: &mut Line,
     plan: &Plan,
-    history: &Log,
+    log: &Log,
     index: u64,
     trace: Trace,
 )
-    requires { index < length history.now.entries }
-    ensures { (e : Entry) → slice_get history.now.entries index ≡ Some e →
+    requires { index < length log.now.entries }
+    ensures { (e : Entry) → slice_get log.now.entries index ≡ Some e →
         Puts (page (K.taken out.old) (K.faults out.old) line.old)
         (page (K.taken out.new) (K.faults out.new) line.new)
         (text_of (map (entry_words plan.now.platform) (traced trace (e ∷ [])))) }
 {
-    if is_shown(history, index, trace) {
-        let ends = ends_at(plan, history.head(index).object);
-        put_entry(out, line, plan.platform(), ends, history, index);
+    if is_shown(log, index, trace) {
+        let ends = ends_at(plan, log.head(index).object);
+        put_entry(out, line, plan.platform(), ends, log, index);
     }
 }
 
 /// Puts the lines of the entries that a trace shows, in order.
-pub fn put_entries<K: Sink>(out: &mut K, line: &mut Line, plan: &Plan, history: &Log, trace: Trace)
+pub fn put_entries<K: Sink>(
+    out: &mut K,
+    line: &mut Line,
+    plan: &Plan,
+    history: &MergedLog,
+    trace: Trace,
+)
     ensures { Puts (page (K.taken out.old) (K.faults out.old) line.old)
         (page (K.taken out.new) (K.faults out.new) line.new)
         (text_of (map (entry_words plan.now.platform) (traced trace history.now.entries))) }
 {
     for index in 0..history.len() {
-        put_traced(out, line, plan, history, index, trace);
+        let (log, place) = history.at(index);
+        put_traced(out, line, plan, log, place, trace);
     }
 }

@@ -1,4 +1,5 @@
 //! Laws over the lines of a report.
+ghost use Rattle.trace_print.specs.GoodHistories.{NamesGoodHistories, NamesValidHistories};
 ghost use Rattle.trace_print.specs.Naming.{AreNamed, NamesEntries, NamesHistories};
 ghost use Rattle.tlm_model.specs.Worked.{readback, readback_plan};
 
@@ -13,6 +14,18 @@ pub fn lines_name_entries()
 /// same, over the same names.
 pub fn reports_name_histories()
     ensures { NamesHistories }
+{}
+
+/// The same of a valid plan, whose names are those of a platform file: plain, and each of one component.
+/// No two of its hops have the same two ends, since no two paths lead to one component.
+pub fn reports_of_valid_plans_name_histories()
+    ensures { NamesValidHistories }
+{}
+
+/// The same of good histories of a valid plan: each entry of one is an access, with numbers and bytes
+/// as a run has them.
+pub fn reports_name_good_histories()
+    ensures { NamesGoodHistories }
 {}
 
 /// What the laws ask holds of a worked run.

@@ -7,6 +7,9 @@
 //! took a prefix of the report, its count of faults rose, and nothing is written after that. Memory is
 //! taken before the first write, for one line, so where it is refused the sink took nothing. A line is
 //! one piece for the sink. Every kind of entry is printed, whatever its numbers.
+//!
+//! `laws` says what a report tells: of a good history of a valid plan, the report with all entries names
+//! the history.
 #![tactic(auto)]
 
 ghost use Rattle.std.specs.Prelude.{◌∷◌, [], codes};

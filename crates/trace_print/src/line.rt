@@ -1,30 +1,47 @@
 // The line that is made for a sink.
-ghost use Rattle.std.specs.Prelude.{◌≡◌, ◌∷◌, [], false, IfOk};
+ghost use Rattle.std.specs.Prelude.{◌≡◌, ◌+◌, ◌≤◌, ◌∷◌, [], ◌++◌, false, drop, length, take, IfOk};
 ghost use Rattle.trace_print.specs.Putting.{Puts, page};
 
 use outside::Sink;
 use std::alloc::{AllocError, Global};
+use std::marker::Model;
 
-// The longest line of a run: an access of 4,096 bytes with as many enables, two digits each, and 256 more
+// The longest line of a run: an access of 4,096 bytes with as many enables, two digits each, and 512 more
 // bytes for its numbers, names and words.
-const ROOM: usize = 16640;
+const ROOM: usize = 16896;
 
 /// A line that is made for a sink, and whether a write to the sink has failed. After a failure nothing
 /// more is written.
+// The buffer keeps its length, so that a piece changes nothing else but how much of it waits.
 #[derive(Drop)]
 pub struct Line {
     bytes: Vec<u8>,
+    len: usize,
     failed: bool,
+}
+
+impl Model for Line {
+    ghost use Rattle.std.specs.Prelude.{◌≡◌, ◌≤◌, take, vec_len};
+    ghost use Rattle.trace_print.specs.LineView.{LineView};
+
+    ghost Value = { LineView };
+
+    ghost view = { λ l. record {
+      waiting = take l.len l.bytes.items;
+      failed = l.failed;
+    } };
+
+    ghost invariant = { λ l. (vec_len l.bytes ≡ 16896) × (l.len ≤ 16896) };
 }
 
 impl Line {
     /// An empty line with room for the longest line of a run. Its only error is want of memory.
     pub fn with_room(alloc: Global) -> Result<Line, AllocError>
-        ensures { IfOk result (λ l. (l.bytes.items ≡ []) × (l.failed ≡ false)) }
+        ensures { IfOk result (λ l. (l.waiting ≡ []) × (l.failed ≡ false)) }
     {
-        let bytes = Vec::with_capacity(alloc, ROOM)?;
         Ok(Line {
-            bytes,
+            bytes: vec![in alloc; 0; ROOM]?,
+            len: 0,
             failed: false,
         })
     }
@@ -41,17 +58,17 @@ impl Line {
 pub fn flush<K: Sink>(out: &mut K, line: &mut Line)
     ensures puts { Puts (page (K.taken out.old) (K.faults out.old) line.old)
         (page (K.taken out.new) (K.faults out.new) line.new) [] }
-    ensures empty { line.new.bytes.items ≡ [] }
+    ensures empty { line.new.waiting ≡ [] }
 {
-    if !line.failed && !line.bytes.is_empty() {
-        line.failed = out.write(&line.bytes).is_err();
+    if !line.failed && line.len > 0 {
+        line.failed = out.write(&line.bytes[..line.len]).is_err();
     }
-    line.bytes.clear();
+    line.len = 0;
 }
 
 // Writes these bytes as a piece of their own, where nothing waits.
 fn write_through<K: Sink>(out: &mut K, line: &mut Line, bytes: &[u8])
-    requires { line.old.bytes.items ≡ [] }
+    requires { line.old.waiting ≡ [] }
     ensures { Puts (page (K.taken out.old) (K.faults out.old) line.old)
         (page (K.taken out.new) (K.faults out.new) line.new) bytes.now }
 {
@@ -60,17 +77,51 @@ fn write_through<K: Sink>(out: &mut K, line: &mut Line, bytes: &[u8])
     }
 }
 
-/// Puts these bytes into the line. It has room for each line of a run; a line that grows past it, and is
-/// refused memory, is written in several pieces.
+// Writes what waits, and then these bytes.
+#[cold]
+fn put_through<K: Sink>(out: &mut K, line: &mut Line, bytes: &[u8])
+    ensures { Puts (page (K.taken out.old) (K.faults out.old) line.old)
+        (page (K.taken out.new) (K.faults out.new) line.new) bytes.now }
+{
+    flush(out, line);
+    write_through(out, line, bytes);
+}
+
+// Copies a piece into these bytes, from a place on.
+#[inline(always)]
+fn copy_at(bytes: &mut [u8], start: usize, piece: &[u8])
+    requires { start + length piece.now ≤ length bytes.old }
+    ensures { bytes.new ≡ take start bytes.old ++ piece.now ++ drop (start + length piece.now) bytes.old }
+{
+    let end = start + piece.len();
+    bytes[start..end].copy_from_slice(piece);
+}
+
+/// Puts the first `count` of these bytes into the line. All of them are copied: where it is known how
+/// many they are, that takes less than a copy of as many as are put.
+#[inline(always)]
+pub fn put_first<K: Sink>(out: &mut K, line: &mut Line, bytes: &[u8], count: usize)
+    requires { count ≤ length bytes.now }
+    ensures { Puts (page (K.taken out.old) (K.faults out.old) line.old)
+        (page (K.taken out.new) (K.faults out.new) line.new) (take count bytes.now) }
+{
+    if bytes.len() <= ROOM && line.len <= ROOM - bytes.len() {
+        copy_at(&mut line.bytes, line.len, bytes);
+        line.len += count;
+        return;
+    }
+    put_through(out, line, &bytes[..count]);
+}
+
+/// Puts these bytes into the line. It has room for each line of a run; a line that grows past it is
+/// written in several pieces.
+// Most pieces are words of the report, whose lengths are known where this is inlined.
+#[inline(always)]
 pub fn put<K: Sink>(out: &mut K, line: &mut Line, bytes: &[u8])
     ensures { Puts (page (K.taken out.old) (K.faults out.old) line.old)
         (page (K.taken out.new) (K.faults out.new) line.new) bytes.now }
 {
-    if line.failed || line.bytes.extend_from_slice(bytes).is_ok() {
-        return;
-    }
-    flush(out, line);
-    write_through(out, line, bytes);
+    put_first(out, line, bytes, bytes.len());
 }
 
 /// Ends the line with a line feed, and writes it.

@@ -490,19 +490,28 @@ fn rows_of_bytes_are_printed(rt: HostRuntime) -> Result<(), Fail> {
     Ok(())
 }
 
-/// A line that was begun is written before the next, whatever its length.
+/// A line of a run is one piece; a longer one is written in several, in order.
 #[test]
 fn a_line_of_any_length_is_written(rt: HostRuntime) -> Result<(), AllocError> {
     let alloc = rt.alloc();
     let mut out = VecSink::new(alloc, Vec::new(alloc));
     let mut line = Line::with_room(alloc)?;
-    let piece = vec![in alloc; b'a'; 20000]?;
-    put(&mut out, &mut line, piece.as_slice());
+    let most = vec![in alloc; b'a'; 16800]?;
+    put(&mut out, &mut line, most.as_slice());
     put(&mut out, &mut line, b"b");
     assert_eq!(rt; out.writes(), 0);
     flush(&mut out, &mut line);
     flush(&mut out, &mut line);
-    assert_eq!(rt; out.bytes().len(), 20001);
+    assert_eq!(rt; out.bytes().len(), 16801);
     assert_eq!(rt; out.writes(), 1);
+    let long = vec![in alloc; b'd'; 20000]?;
+    put(&mut out, &mut line, b"c");
+    put(&mut out, &mut line, long.as_slice());
+    put(&mut out, &mut line, b"e");
+    flush(&mut out, &mut line);
+    assert_eq!(rt; out.bytes().len(), 36803);
+    assert_eq!(rt; out.writes(), 4);
+    assert_eq!(rt; out.bytes().get(16801).copied(), Some(b'c'));
+    assert_eq!(rt; out.bytes().last().copied(), Some(b'e'));
     Ok(())
 }

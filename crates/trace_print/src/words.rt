@@ -1,38 +1,42 @@
 // Words of the report.
-ghost use Rattle.std.specs.Prelude.{◌≡◌, ◌<◌, ◌^◌, ◌∷◌, [], ◌++◌, false, codes, drop};
+ghost use Rattle.std.specs.Prelude.{◌≡◌, ◌*◌, ◌<◌, ◌≤◌, ◌^◌, ◌∷◌, [], ◌++◌, false, codes, drop, length, take};
 ghost use Rattle.std.specs.Fmt.{decimal, digits, digit_glyph};
 ghost use Rattle.std.specs.List.{join_with_byte};
 ghost use Rattle.tlm_model.specs.Report.{command_word, kind_word, phase_word, range_word, status_word, style_word, sync_words, way_word};
 ghost use Rattle.tlm_model.specs.Text.{address_word, data_word, hex_of, offset_word};
 ghost use Rattle.trace_print.specs.Putting.{Puts, page};
 
-use crate::line::{Line, put};
-use itoa::Buffer;
+use crate::line::{Line, put, put_first};
+use itoa::write_digits;
 use outside::Sink;
 use tlm_model::Style;
 use tlm_types::{Command, Kind, Phase, Response, TlmSync, Way};
 
-pub fn command_text(command: Command) -> &'static str
-    ensures { result.now ≡ command_word command }
+/// Puts a command.
+pub fn put_command<K: Sink>(out: &mut K, line: &mut Line, command: Command)
+    ensures { Puts (page (K.taken out.old) (K.faults out.old) line.old)
+        (page (K.taken out.new) (K.faults out.new) line.new) (command_word command) }
 {
     match command {
-        Command::Read => "read",
-        Command::Write => "write",
-        Command::Ignore => "ignore",
+        Command::Read => put(out, line, b"read"),
+        Command::Write => put(out, line, b"write"),
+        Command::Ignore => put(out, line, b"ignore"),
     }
 }
 
-pub fn status_text(status: Response) -> &'static str
-    ensures { result.now ≡ status_word status }
+/// Puts a status.
+pub fn put_status<K: Sink>(out: &mut K, line: &mut Line, status: Response)
+    ensures { Puts (page (K.taken out.old) (K.faults out.old) line.old)
+        (page (K.taken out.new) (K.faults out.new) line.new) (status_word status) }
 {
     match status {
-        Response::Ok => "ok",
-        Response::Incomplete => "incomplete",
-        Response::GenericError => "generic_error",
-        Response::AddressError => "address_error",
-        Response::CommandError => "command_error",
-        Response::BurstError => "burst_error",
-        Response::ByteEnableError => "byte_enable_error",
+        Response::Ok => put(out, line, b"ok"),
+        Response::Incomplete => put(out, line, b"incomplete"),
+        Response::GenericError => put(out, line, b"generic_error"),
+        Response::AddressError => put(out, line, b"address_error"),
+        Response::CommandError => put(out, line, b"command_error"),
+        Response::BurstError => put(out, line, b"burst_error"),
+        Response::ByteEnableError => put(out, line, b"byte_enable_error"),
     }
 }
 
@@ -67,6 +71,7 @@ pub fn phase_text(phase: Phase) -> &'static str
     }
 }
 
+#[inline(always)]
 pub fn put_text<K: Sink>(out: &mut K, line: &mut Line, text: &str)
     ensures { Puts (page (K.taken out.old) (K.faults out.old) line.old)
         (page (K.taken out.new) (K.faults out.new) line.new) text.now }
@@ -74,22 +79,38 @@ pub fn put_text<K: Sink>(out: &mut K, line: &mut Line, text: &str)
     put(out, line, text.as_bytes());
 }
 
+#[inline(always)]
 pub fn put_number<K: Sink>(out: &mut K, line: &mut Line, number: u64)
     ensures { Puts (page (K.taken out.old) (K.faults out.old) line.old)
         (page (K.taken out.new) (K.faults out.new) line.new) (decimal number) }
 {
-    let mut digits = Buffer::new();
-    put_text(out, line, digits.format(number));
+    let mut digits = [0u8; 40];
+    let start = write_digits(number, &mut digits, 20);
+    put_first(out, line, &digits[start..start + 20], 20 - start);
 }
 
-const GLYPHS: [u8; 16] = *b"0123456789abcdef";
-
-// A digit below 16, as a lower-case hexadecimal one.
-fn glyph(digit: u64) -> u8
+// A digit below 16, as a lower-case hexadecimal one. Without a table a compiler makes several at once.
+fn glyph(digit: u8) -> u8
     requires { digit < 16 }
     ensures { result ≡ digit_glyph false digit }
 {
-    GLYPHS[digit as usize]
+    if digit < 10 {
+        b'0' + digit
+    } else {
+        b'a' - 10 + digit
+    }
+}
+
+// Writes each byte as two digits, which are the first of these.
+#[inline(always)]
+fn write_pairs(bytes: &[u8], digits: &mut [u8])
+    requires { 2 * length bytes.now ≤ length digits.old }
+    ensures { take (2 * length bytes.now) digits.new ≡ hex_of bytes.now }
+{
+    for (k, byte) in bytes.iter().enumerate() {
+        digits[2 * k] = glyph(*byte / 16);
+        digits[2 * k + 1] = glyph(*byte % 16);
+    }
 }
 
 /// Puts each byte as two digits.
@@ -97,9 +118,13 @@ pub fn put_hex<K: Sink>(out: &mut K, line: &mut Line, bytes: &[u8])
     ensures { Puts (page (K.taken out.old) (K.faults out.old) line.old)
         (page (K.taken out.new) (K.faults out.new) line.new) (hex_of bytes.now) }
 {
-    for byte in bytes {
-        let byte = *byte as u64;
-        put(out, line, &[glyph(byte / 16), glyph(byte % 16)]);
+    let mut digits = [0u8; 64];
+    let mut start = 0;
+    while start < bytes.len() {
+        let count = (bytes.len() - start).min(32);
+        write_pairs(&bytes[start..start + count], &mut digits);
+        put_first(out, line, &digits, 2 * count);
+        start += count;
     }
 }
 
@@ -115,27 +140,22 @@ pub fn put_data<K: Sink>(out: &mut K, line: &mut Line, bytes: &[u8])
     }
 }
 
-// The digits of a number in hexadecimal, without leading zeros.
-#[derive(Clone, Copy)]
-struct HexDigits {
-    digits: [u8; 16],
-    start: usize,
-    ghost within: { start < 16 },
-}
-
-fn hex_digits(number: u64) -> HexDigits
-    ensures { drop result.start result.digits ≡ digits 16 false number }
+// Writes a number in hexadecimal, without leading zeros, so that its digits end at 16, and returns where
+// they start.
+fn write_hex(number: u64, buffer: &mut [u8]) -> usize
+    requires { 16 ≤ length buffer.old }
+    ensures within { result < 16 }
+    ensures written { drop result buffer.new ≡ digits 16 false number ++ drop 16 buffer.old }
 {
-    let mut digits = [b'0'; 16];
     let mut start = 15;
     let mut rest = number;
     while rest >= 16 {
-        digits[start] = glyph(rest % 16);
+        buffer[start] = glyph((rest % 16) as u8);
         rest /= 16;
         start -= 1;
     }
-    digits[start] = glyph(rest);
-    HexDigits { digits, start }
+    buffer[start] = glyph(rest as u8);
+    start
 }
 
 /// Puts an address or an offset of an access.
@@ -143,9 +163,10 @@ pub fn put_address<K: Sink>(out: &mut K, line: &mut Line, address: u64)
     ensures { Puts (page (K.taken out.old) (K.faults out.old) line.old)
         (page (K.taken out.new) (K.faults out.new) line.new) (address_word address) }
 {
-    let number = hex_digits(address);
+    let mut digits = [0u8; 32];
+    let start = write_hex(address, &mut digits);
     put(out, line, b"0x");
-    put(out, line, &number.digits[number.start..]);
+    put_first(out, line, &digits[start..start + 16], 16 - start);
 }
 
 /// Puts the offset of a row of bytes, which is below 2^32, as 8 digits.

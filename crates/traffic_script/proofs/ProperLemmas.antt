@@ -1,8 +1,8 @@
 -- The operations of a script are proper.
-use Rattle.std.proofs.Common.{◌≡◌, ◌⊎◌, inl, inr, ℕ, ◌*◌, ◌^◌, ◌<◌, ◌≤◌, List, [], ◌∷◌, length, drop, Bool, true, false, cond, ◌&&◌, ◌||◌, nat_eq, nat_le, nat_lt, Option, Some, None, Result, Ok, Err, codes, refl, subst, arith}
+use Rattle.std.proofs.Common.{◌≡◌, ◌⊎◌, inl, inr, ℕ, ◌+◌, ◌*◌, ◌^◌, ◌<◌, ◌≤◌, List, [], ◌∷◌, length, drop, Bool, true, false, cond, ◌&&◌, ◌||◌, nat_eq, nat_le, nat_lt, Option, Some, None, Result, Ok, Err, codes, refl, subst, arith}
 use Rattle.std.specs.Prelude.{unwrap_or, is_some, IfSome}
 use Rattle.std.specs.List.{list_all, starts_with, AllByRecursion}
-use Rattle.std.specs.Char.{is_digit}
+use Rattle.std.specs.Char.{is_digit, digit_value}
 use Rattle.std.specs.Str.Parse.{digits_value}
 use Rattle.std.proofs.lemmas.Bool.{ltb-true, leb-true}
 use Rattle.std.proofs.lemmas.Bool.Decides.{nat_tests}
@@ -20,7 +20,7 @@ use Rattle.traffic_script.specs.Words.{words_of, text_of}
 use Rattle.traffic_script.specs.Numbers.{number_in, number_of, within, length_of, times_of, addend_of, byte_of, bytes_of, hex_of, few, is_enable, only_enables, data_of, enables_of}
 use Rattle.traffic_script.specs.Options.{no_options, with_enables, with_width, with_option, with_options}
 use Rattle.traffic_script.specs.Statements.{keyword_of, write_of, read_of, ignore_of, debug_of, copy_of, add_of, wait_of, alone, repeat_of, asks, statement_by, statement_in, statement_of}
-use Rattle.traffic_script.specs.Proper.{IsLength, AreEnables, IsProper, AreTimes, IsProperStatement}
+use Rattle.traffic_script.specs.Proper.{IsLength, AreEnables, AreBytes, IsProper, AreTimes, IsProperStatement}
 use Rattle.traffic_script.proofs.ReadLemmas.{bind-Ok, if-Ok, unless-Ok, and-true}
 
 number_in-lt : (base : ℕ) (digits : List ℕ) (n : ℕ) → number_in base digits ≡ Ok n → n < 2 ^ 64
@@ -73,6 +73,25 @@ length-bytes_of (high ∷ low ∷ more) bytes e =
     let count = length-bytes_of more rest.0 rest.1 in
     subst (λ bs. length (high ∷ low ∷ more) ≡ 2 * length bs) same (omega arith)
 
+two-digits : (x y : ℕ) → x < 16 → y < 16 → 16 * x + y < 256
+two-digits x y high low = omega arith
+
+byte-small : (high low byte : ℕ) → byte_of high low ≡ Ok byte → byte < 256
+byte-small high low byte e =
+    let read = if-Ok (is_digit high 16 && is_digit low 16) (Ok (16 * digit_value high + digit_value low)) BadHex byte e in
+    let digits = and-true (is_digit high 16) (is_digit low 16) read.0 in
+    let same : 16 * digit_value high + digit_value low ≡ byte = cc in
+    subst (λ b. b < 256) same (two-digits (digit_value high) (digit_value low) (ltb-true _ _ digits.0) (ltb-true _ _ digits.1))
+
+bytes_of-bytes : (digits bytes : List ℕ) → bytes_of digits ≡ Ok bytes → AreBytes bytes
+bytes_of-bytes [] bytes e = subst AreBytes (let same : [] ≡ bytes = cc in same) tt
+bytes_of-bytes (high ∷ []) bytes e = cc
+bytes_of-bytes (high ∷ low ∷ more) bytes e =
+    let first = bind-Ok (byte_of high low) (λ byte. bytes_of more >>= λ bs. Ok (byte ∷ bs)) bytes e in
+    let rest = bind-Ok (bytes_of more) (λ bs. Ok (first.0 ∷ bs)) bytes first.2 in
+    let same : first.0 ∷ rest.0 ≡ bytes = cc in
+    subst AreBytes same (byte-small high low first.0 first.1, bytes_of-bytes more rest.0 rest.1)
+
 hex-some : (word bytes : List ℕ) → hex_of word ≡ Ok bytes → 1 ≤ length bytes
 hex-some word bytes e =
     let read = unless-Ok (nat_eq (length word) 0) (bytes_of word) BadHex bytes e in
@@ -90,6 +109,13 @@ data-proper word bytes e =
     let read = bind-Ok (hex_of word) few bytes e in
     let kept = few-Ok read.0 bytes read.2 in
     record { some = subst (λ bs. 1 ≤ length bs) kept.0 (hex-some word read.0 read.1); few = kept.1 }
+
+data-bytes : (word bytes : List ℕ) → data_of word ≡ Ok bytes → AreBytes bytes
+data-bytes word bytes e =
+    let read = bind-Ok (hex_of word) few bytes e in
+    let kept = few-Ok read.0 bytes read.2 in
+    let digits = unless-Ok (nat_eq (length word) 0) (bytes_of word) BadHex read.0 read.1 in
+    subst AreBytes kept.0 (bytes_of-bytes word read.0 digits.1)
 
 enable-is : (b : ℕ) → is_enable b ≡ true → (b ≡ 0) ⊎ (b ≡ 255)
 enable-is b e = by_test (nat_eq b 0) (nat_eq b 255) refl refl e
@@ -166,7 +192,7 @@ write-proper (address ∷ data_word ∷ words) op e =
     let options = bind-Ok (with_options no_options words) (λ (o : Options). Ok (Write at.0 sent.0 (unwrap_or o.enables []) o.width)) op sent.2 in
     let same : Write at.0 sent.0 (unwrap_or options.0.enables []) options.0.width ≡ op = cc in
     let p = with_options-proper words no_options options.0 none-proper options.1 in
-    subst IsProper same (record { addressed = number_of-lt address at.0 at.1; sized = data-proper data_word sent.0 sent.1; enabled = enabled-proper options.0.enables p.enabled; wide = p.wide })
+    subst IsProper same (record { addressed = number_of-lt address at.0 at.1; sized = data-proper data_word sent.0 sent.1; enabled = enabled-proper options.0.enables p.enabled; wide = p.wide }, data-bytes data_word sent.0 sent.1)
 
 read-proper : (words : List (List ℕ)) (op : Operation) → read_of words ≡ Ok op → IsProper op
 read-proper [] op e = cc

@@ -1,5 +1,5 @@
 -- What holds of each operation of a script.
-use Rattle.std.specs.Prelude.{◌≡◌, ℕ, ◌^◌, ◌<◌, ◌≤◌, ◌⊎◌, List, length, Option, IfSome}
+use Rattle.std.specs.Prelude.{◌≡◌, ℕ, ◌^◌, ◌<◌, ◌≤◌, ◌⊎◌, List, [], ◌∷◌, length, Option, IfSome}
 use Rattle.std.specs.List.{AllByRecursion}
 use Rattle.tlm_model.specs.declared.operation.Operation.{Operation}
 use Rattle.tlm_model.specs.declared.operation.Operation.TheVariants.{Write, Read, Ignore, Debug, Copy, Add, Wait, Sync, Fence, Invalidate}
@@ -17,6 +17,11 @@ pub record AreEnables (enables : List ℕ) : Type 0 where
   pub few : length enables ≤ 4096
   pub each : AllByRecursion (λ b. (b ≡ 0) ⊎ (b ≡ 255)) enables
 
+-- each is a byte
+abbrev pub AreBytes : List ℕ → Type 0
+AreBytes [] = Unit {0}
+AreBytes (b ∷ bs) = (b < 256) × AreBytes bs
+
 -- a write or a read
 pub record IsProperAccess (address count : ℕ) (enables : List ℕ) (width : Option ℕ) : Type 0 where
   pub addressed : address < 2 ^ 64
@@ -24,9 +29,10 @@ pub record IsProperAccess (address count : ℕ) (enables : List ℕ) (width : Op
   pub enabled : AreEnables enables
   pub wide : IfSome width (λ w. w < 2 ^ 64)
 
--- numbers are below 2^64 and lengths 1 to 4,096; no script has an `invalidate`, which isn't built yet
+-- numbers are below 2^64, lengths 1 to 4,096, and what a write sends is bytes; no script has an `invalidate`, which
+-- isn't built yet
 abbrev pub IsProper : Operation → Type 0
-IsProper (Write address bytes enables width) = IsProperAccess address (length bytes) enables width
+IsProper (Write address bytes enables width) = IsProperAccess address (length bytes) enables width × AreBytes bytes
 IsProper (Read address n enables width) = IsProperAccess address n enables width
 IsProper (Ignore address) = address < 2 ^ 64
 IsProper (Debug address n) = (address < 2 ^ 64) × IsLength n

@@ -19,7 +19,7 @@ place_entries-requires-clause-before c = subst (λ (x : List Place). HasPlaced (
 pub loop-number-preserved : goal.loop-number-preserved
 loop-number-preserved c =
     let size : length c.place_entries.new.places ≡ c.loop-number.places.len = omega (arith, c.place_entries.auto.places, c.deref_mut.ensures.len) in
-    subst (λ (x : List Place). HasPlaced (entries_of_logs c.args.logs.now) x (c.loop-number.number + 1) 0) (sym (whole_write c.loop-number.places.len c.place_entries.new.places c.loop-number.places.items size)) c.place_entries.ensures
+    subst (λ (x : List Place). HasPlaced (entries_of_logs c.args.logs.now) x (c.loop-number.number + 1) 0) (sym (whole_write c.loop-number.places.len c.place_entries.new.places c.loop-number.places.items size)) c.in_ok-place_entries.ensures
 
 pub returns : goal.returns
 returns c = all_placed (entries_of_logs c.args.logs.now) c.loop-number.places.items c.loop-number.number (omega (arith, length-map c.args.logs.now (λ (x : LogView). x.entries), c.loop-number-test.false)) c.requires.numbered c.loop-number.invariant

@@ -11,6 +11,5 @@ use Rattle.trace_print.proofs.ends.put_refused.Goals as goal
 pub returns : goal.returns
 returns g c =
     let item = c.args.item in
-    let text = rw c.refused_text.ensures at c.put_text.ensures in
-    puts-as _ _ _ _ (puts-more _ _ _ _ _ c.put.ensures (puts-more _ _ _ _ _ c.put_seq.ensures (puts-more _ _ _ _ _ c.put-2.ensures (puts-more _ _ _ _ _ c.put_number.ensures (puts-more _ _ _ _ _ c.put-3.ensures (puts-more _ _ _ _ _ text (puts-more _ _ _ _ _ c.put-4.ensures (puts-more _ _ _ _ _ c.put_address.ensures c.end_line.ensures))))))))
+    puts-as _ _ _ _ (puts-more _ _ _ _ _ c.put.ensures (puts-more _ _ _ _ _ c.put_seq.ensures (puts-more _ _ _ _ _ c.put-2.ensures (puts-more _ _ _ _ _ c.put_number.ensures (puts-more _ _ _ _ _ c.put-3.ensures (puts-more _ _ _ _ _ c.put_refused_command.ensures (puts-more _ _ _ _ _ c.put-4.ensures (puts-more _ _ _ _ _ c.put_address.ensures c.end_line.ensures))))))))
     (last-of-9 (codes "refused ") (seq_word c.args.name.now item.seq) (codes " ") (decimal item.time) (codes " ") (refused_command item) (codes " ") (address_word item.address) (10 ∷ []))

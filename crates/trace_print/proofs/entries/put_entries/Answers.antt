@@ -1,4 +1,4 @@
-use Rattle.std.proofs.Common.{List, ap, arith}
+use Rattle.std.proofs.Common.{List, ap, arith, ◌∙◌}
 use Rattle.std.proofs.lemmas.List.{take_all}
 use Rattle.std.specs.Prelude.{map}
 use Rattle.tlm_types.specs.declared.entry.Entry.{Entry}
@@ -16,7 +16,7 @@ loop-index-preserved g c =
     let h = c.args.history.now.entries in
     let i = c.loop-index.index in
     let next = next-entry h i (omega arith) in
-    puts-as _ _ _ _ (puts-more _ _ _ _ _ c.loop-index.invariant (c.put_traced.ensures next.0 next.1)) (entries-next c.args.plan.now.platform c.args.trace h i next.0 next.2)
+    puts-as _ _ _ _ (puts-more _ _ _ _ _ c.loop-index.invariant (c.put_traced.ensures next.0 (c.at-place.ensures.same ∙ next.1))) (entries-next c.args.plan.now.platform c.args.trace h i next.0 next.2)
 
 pub returns : goal.returns
 returns g c =

@@ -13,4 +13,4 @@ returns-in-Some g c e here =
     puts-as _ _ _ _ c.put_access.ensures (ap (join_with_byte 32) (access-is e.what _ _ _ (sym facts) enables (sym bytes)))
 
 pub put_event-requires : goal.put_event-requires
-put_event-requires g c = plain-at (slice_get c.args.history.now.entries c.args.index) _ c.in-Some-what.ensures
+put_event-requires g c = plain-at (slice_get c.args.log.now.entries c.args.index) _ c.in-Some-what.ensures

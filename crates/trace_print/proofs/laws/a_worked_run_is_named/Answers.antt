@@ -2,7 +2,8 @@ use Rattle.std.proofs.Common.{ℕ, zero, suc, refl, arith, codes}
 use Rattle.tlm_types.specs.declared.words.Response.TheVariants.{Ok}
 use Rattle.tlm_model.specs.Report.{initiator_name, memory_name}
 use Rattle.tlm_model.specs.Worked.{deadbeef, entry, read, readback, readback_plan, wrote}
-use Rattle.trace_print.specs.Naming.{AreBytes, HasOwnNames, HasPlainNames, IsPlainName, IsTellable}
+use Rattle.traffic_script.specs.Proper.{AreBytes}
+use Rattle.trace_print.specs.Naming.{HasOwnNames, HasPlainNames, IsPlainName, IsTellable}
 use Rattle.trace_print.proofs.SplitLemmas.{lacks-by-test, visible-by-test}
 use Rattle.trace_print.proofs.laws.a_worked_run_is_named.Goals as goal
 

@@ -1,9 +1,10 @@
 use Rattle.std.proofs.Common.{◌≡◌}
+use Rattle.plat_core.specs.Board.{HasGoneOn}
 use Rattle.plat_core.specs.Moves.{HasAdvanced, steps_left}
 use Rattle.plat_core.proofs.run.InitiatorRun.advance.Given as goal
 
-abbrev pub invariant-loop-route : goal.invariant-loop-route
-invariant-loop-route g l = HasAdvanced l.plan l.initial.self l.self × (l.payload.room ≡ 4096)
+abbrev pub invariant-loop-self : goal.invariant-loop-self
+invariant-loop-self g l = HasAdvanced l.plan l.initial.self l.self × HasGoneOn l.initial.self l.self l.initial.rounds l.rounds × (l.payload.room ≡ 4096)
 
-abbrev pub decreases-loop-route : goal.decreases-loop-route
-decreases-loop-route g l = steps_left l.self.engine
+abbrev pub decreases-loop-self : goal.decreases-loop-self
+decreases-loop-self g l = steps_left l.self.engine

@@ -38,5 +38,6 @@ returns-in-Some-clause-cases c =
         access = subst IsAccessOp c.requires.next c.requires.access;
         leads = routed p n r.engine.initiator c.args.address (address_of (op_of r.engine)) way.initiator c.in-Some.route who place way.mine c.in-Some.ensures;
       },
+      c.requires.next,
       refl,
     )

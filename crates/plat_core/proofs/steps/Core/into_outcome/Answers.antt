@@ -2,19 +2,18 @@ use Rattle.std.proofs.Common.{◌∙◌, List, length, ap, sym, subst}
 use Rattle.tlm_model.specs.History.{IsNumbered}
 use Rattle.tlm_types.specs.declared.entry.Entry.{Entry}
 use Rattle.plat_core.specs.Merge.{merged}
-use Rattle.plat_core.specs.Places.{entries_of_logs}
 use Rattle.plat_core.proofs.OutcomeLemmas.{outcome_is}
 use Rattle.plat_core.proofs.steps.Core.into_outcome.Goals as goal
 
-pub merge_by_position-requires-clause-numbered : goal.merge_by_position-requires-clause-numbered
-merge_by_position-requires-clause-numbered c =
-    subst (λ (logs : List (List Entry)). IsNumbered (merged logs)) (sym (ap entries_of_logs c.deref.ensures.value ∙ c.in_ok-logs.ensures.logs)) c.self.invariant.0.sound.numbered
+pub of_logs-requires-clause-numbered : goal.of_logs-requires-clause-numbered
+of_logs-requires-clause-numbered c =
+    subst (λ (logs : List (List Entry)). IsNumbered (merged logs)) (sym c.in_ok-logs.ensures.logs) c.self.invariant.0.sound.requests.numbered
 
-pub merge_by_position-requires-clause-counted : goal.merge_by_position-requires-clause-counted
-merge_by_position-requires-clause-counted c =
-    c.self.invariant.0.count ∙ ap (λ (logs : List (List Entry)). length (merged logs)) (sym (ap entries_of_logs c.deref.ensures.value ∙ c.in_ok-logs.ensures.logs))
+pub of_logs-requires-clause-counted : goal.of_logs-requires-clause-counted
+of_logs-requires-clause-counted c =
+    c.self.invariant.0.count ∙ ap (λ (logs : List (List Entry)). length (merged logs)) (sym c.in_ok-logs.ensures.logs)
 
 pub returns : goal.returns
 returns c =
-    outcome_is c.self.inside.plan.now c.self.inside.runs.items c.self.inside.regions.items c.self.inside.made c.args.self _ c.self.invariant.0 c.self.view_is
-    (c.in_ok-history.ensures ∙ ap merged (ap entries_of_logs c.deref.ensures.value ∙ c.in_ok-logs.ensures.logs)) c.in_ok-logs.ensures.stores c.in_ok-ends.ensures c.has_finished-complete.ensures
+    outcome_is c.self.inside.plan.now c.self.inside.runs.items c.self.inside.regions.items c.self.inside.rounds c.self.inside.made c.args.self _ c.self.invariant.0 c.self.invariant.1 c.self.view_is
+    (c.in_ok-history.ensures ∙ ap merged c.in_ok-logs.ensures.logs) c.in_ok-logs.ensures.stores c.in_ok-ends.ensures c.has_finished-complete.ensures.all

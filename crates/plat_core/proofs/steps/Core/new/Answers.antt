@@ -1,19 +1,36 @@
-use Rattle.std.proofs.Common.{◌∙◌, List, [], Bool, ap}
-use Rattle.tlm_types.specs.declared.entry.Entry.{Entry}
-use Rattle.tlm_model.specs.Plan.{initiators_of}
+use Rattle.std.proofs.Common.{◌≡◌, ◌∙◌, ℕ, [], false, length, map, replicate, ap, sym, arith}
+use Rattle.std.proofs.lemmas.List.{length-map}
+use Rattle.tlm_model.specs.declared.platform.Platform.{Platform}
+use Rattle.tlm_model.specs.Plan.{Initiator, initiators_of}
 use Rattle.generic_payload.specs.Payload.{PayloadView}
-use Rattle.plat_core.specs.Core.{are_finished}
+use Rattle.time_board.specs.Rounds.{new_member}
+use Rattle.plat_core.specs.Core.{are_finished, begun_run}
 use Rattle.plat_core.proofs.BeginLemmas.{core_begun, no_flags, no_history}
 use Rattle.plat_core.proofs.CoreLemmas.{initiators_count}
+use Rattle.plat_core.proofs.RoundsKept.{rounds_begun}
+use Rattle.plat_core.proofs.ViewLemmas.{view_is}
 use Rattle.plat_core.proofs.steps.Core.new.Goals as goal
 
+pub overflow_cast-initiators : goal.overflow_cast-initiators
+overflow_cast-initiators c =
+    let count : length c.as_slice.result.now ≡ length c.args.plan.now.platform.initiators = ap length (c.as_slice.ensures ∙ ap (λ (x : Platform). x.initiators) c.platform.ensures.same) in
+    omega (arith, c.in_ok-runs.ensures.servable.initiators)
+
 pub invariant_of-result : goal.invariant_of-result
-invariant_of-result c = (
-  core_begun c.args.plan.now c.in_ok-runs.runs.items c.in_ok-regions.regions.items c.in_ok-runs.ensures.servable c.in_ok-runs.ensures.runs c.in_ok-regions.ensures (initiators_count 0 c.args.plan.now.platform.initiators c.args.plan.now.scripts c.in_ok-runs.ensures.servable.scripts),
-  ap (λ (p : PayloadView). p.room) c.in_ok-payload.ensures,
-)
+invariant_of-result c =
+    let p = c.args.plan.now in
+    let size : length c.in_ok-runs.runs.items ≡ length p.platform.initiators =
+    ap length c.in_ok-runs.ensures.runs ∙ (length-map (initiators_of p) (begun_run p) ∙ initiators_count 0 p.platform.initiators p.scripts c.in_ok-runs.ensures.servable.scripts) in
+    let count : length c.as_slice.result.now ≡ length p.platform.initiators = ap length (c.as_slice.ensures ∙ ap (λ (x : Platform). x.initiators) c.platform.ensures.same) in (
+      core_begun p c.in_ok-runs.runs.items c.in_ok-regions.regions.items c.in_ok-runs.ensures.servable c.in_ok-runs.ensures.runs c.in_ok-regions.ensures (initiators_count 0 p.platform.initiators p.scripts c.in_ok-runs.ensures.servable.scripts),
+      rounds_begun p _ c.in_ok-runs.runs.items c.in_ok-rounds.rounds c.in_ok-runs.ensures.runs (no_history p c.in_ok-regions.regions.items _ c.in_ok-regions.ensures) (c.in_ok-rounds.ensures ∙ ap (λ (n : ℕ). replicate n new_member) (count ∙ sym size)),
+      ap (λ (x : PayloadView). x.room) c.in_ok-payload.ensures,
+    )
 
 pub returns : goal.returns
 returns c =
-    ap (λ (h : List Entry). record { plan = c.args.plan.now; history = h; finished = are_finished c.in_ok-runs.runs.items }) (no_history c.args.plan.now c.in_ok-regions.regions.items _ c.in_ok-regions.ensures)
-    ∙ ap (λ (f : List Bool). record { plan = c.args.plan.now; history = []; finished = f }) (ap are_finished c.in_ok-runs.ensures.runs ∙ no_flags c.args.plan.now (initiators_of c.args.plan.now))
+    let p = c.args.plan.now in
+    let count : length c.as_slice.result.now ≡ length p.platform.initiators = ap length (c.as_slice.ensures ∙ ap (λ (x : Platform). x.initiators) c.platform.ensures.same) in
+    view_is p _ [] (are_finished c.in_ok-runs.runs.items) (map (λ (i : Initiator). false) (initiators_of p)) c.in_ok-rounds.rounds (replicate (length p.platform.initiators) new_member)
+    (no_history p c.in_ok-regions.regions.items _ c.in_ok-regions.ensures) (ap are_finished c.in_ok-runs.ensures.runs ∙ no_flags p (initiators_of p))
+    (c.in_ok-rounds.ensures ∙ ap (λ (n : ℕ). replicate n new_member) count)

@@ -7,10 +7,10 @@ pub returns-then-has_finished-clause-ok : goal.returns-then-has_finished-clause-
 returns-then-has_finished-clause-ok c =
     node_steps _ c.args.self.now c.args.actor Finished c.self.view_is
     (node_at c.self.inside.plan.now c.self.inside.runs.items c.self.inside.regions.items c.self.inside.made c.args.actor c.self.invariant.0 (omega (arith, c.if-index-len.false, c.len.ensures)))
-    (sym c.if-has_finished.ensures, refl)
+    (sym c.if-has_finished.ensures.all, refl)
 
 pub returns-else-has_finished-clause-ok : goal.returns-else-has_finished-clause-ok
 returns-else-has_finished-clause-ok c =
     node_steps _ c.args.self.now c.args.actor Waits c.self.view_is
     (node_at c.self.inside.plan.now c.self.inside.runs.items c.self.inside.regions.items c.self.inside.made c.args.actor c.self.invariant.0 (omega (arith, c.if-index-len.false, c.len.ensures)))
-    (sym c.if-has_finished.ensures, refl)
+    (sym c.if-has_finished.ensures.all, refl)

@@ -13,7 +13,7 @@ use Rattle.region_object.proofs.region.Region.access.Goals as goal
 pub log_access-requires-clause-room_bytes : goal.log_access-requires-clause-room_bytes
 log_access-requires-clause-room_bytes c =
     let s = c.self.inside in
-    let p = c.args.payload in
+    let p = c.args.payload.now in
     let a = access_of p in
     let r = status_by s.traits a p.command in
     let after : c.set_hint.new.self ≡ payload_after p r c.if-self.set_hint s.store.items = rw (c.set_hint.ensures, c.set_status.ensures, c.move_bytes.ensures.payload, c.deref_mut.ensures.value, c.check-status.ensures.status) refl in
@@ -24,7 +24,7 @@ log_access-requires-clause-room_bytes c =
 pub invariant_of-self : goal.invariant_of-self
 invariant_of-self c =
     let s = c.self.inside in
-    let p = c.args.payload in
+    let p = c.args.payload.now in
     let a = access_of p in
     let r = status_by s.traits a p.command in
     let after : c.set_hint.new.self ≡ payload_after p r c.if-self.set_hint s.store.items = rw (c.set_hint.ensures, c.set_status.ensures, c.move_bytes.ensures.payload, c.deref_mut.ensures.value, c.check-status.ensures.status) refl in
@@ -38,7 +38,7 @@ invariant_of-self c =
 pub returns-clause-memory : goal.returns-clause-memory
 returns-clause-memory c =
     let s = c.self.inside in
-    let p = c.args.payload in
+    let p = c.args.payload.now in
     let a = access_of p in
     let r = status_by s.traits a p.command in
     let after : c.set_hint.new.self ≡ payload_after p r c.if-self.set_hint s.store.items = rw (c.set_hint.ensures, c.set_status.ensures, c.move_bytes.ensures.payload, c.deref_mut.ensures.value, c.check-status.ensures.status) refl in

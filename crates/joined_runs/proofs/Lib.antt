@@ -1,0 +1,5 @@
+pub mod OwnLemmas
+pub mod ScriptLemmas
+pub mod StoreLemmas
+pub mod WholeLemmas
+pub mod WorkedRuns

@@ -1,0 +1,62 @@
+-- The run of two initiators, by computing the definitions.
+use Rattle.std.proofs.Common.{◌≡◌, ◌≢◌, zero, suc, false, nat_eq, refl, arith, lit<}
+use Rattle.std.proofs.lemmas.Bool.Decides.{nat_tests}
+use Rattle.tlm_model.specs.declared.platform.Style.TheVariants.{Blocking, FourPhase}
+use Rattle.joined_runs.specs.Joined.{AllHaveEnded, HasLogs, IsJoined, OwnDecoupled}
+use Rattle.joined_runs.specs.Worked.{MeetingIsGood, meeting, meeting_plan}
+use Rattle.joined_runs.proofs.WholeLemmas.{joined_is_good}
+
+blocking : Blocking ≢ FourPhase
+blocking same = cc
+
+meeting_is_joined : IsJoined meeting_plan meeting
+unfolding meeting meeting_plan
+meeting_is_joined = record {
+  numbered = (refl, (refl, (refl, (refl, tt))));
+  owners = (lit< tt, (lit< tt, (lit< tt, (lit< tt, tt))));
+  initiators = (
+    record {
+      scripts = record {
+        replies = ((refl, refl), ((refl, refl), tt));
+        ways = (refl, (refl, tt));
+        order = ((refl, refl), ((refl, refl), tt));
+        places = (tt, (tt, tt));
+      };
+      times = (refl, (refl, tt));
+    },
+    (
+      record {
+        scripts = record {
+          replies = ((refl, refl), ((refl, refl), tt));
+          ways = (refl, (refl, tt));
+          order = ((refl, refl), ((refl, refl), tt));
+          places = (tt, (tt, tt));
+        };
+        times = (refl, (refl, tt));
+      },
+      tt,
+    ),
+  );
+  memories = logs;
+}
+  where
+    logs : HasLogs meeting_plan.platform meeting
+    logs zero = ((refl, refl), ((refl, refl), ((refl, refl), ((refl, refl), tt))))
+    logs (suc m) = let elsewhere : nat_eq 0 (suc m) ≡ false = grind (arith, nat_tests) in rw elsewhere refl
+
+meeting_is_decoupled : OwnDecoupled meeting_plan meeting
+unfolding meeting meeting_plan
+meeting_is_decoupled = ((tt, (tt, tt)), ((tt, (tt, tt)), tt))
+
+meeting_has_ended : AllHaveEnded meeting_plan meeting
+unfolding meeting meeting_plan
+meeting_has_ended = (refl, (refl, tt))
+
+pub meeting_is_good : MeetingIsGood
+unfolding meeting_plan
+meeting_is_good = record {
+  joined = meeting_is_joined;
+  decoupled = meeting_is_decoupled;
+  ended = meeting_has_ended;
+  good = joined_is_good meeting_plan meeting (blocking, (blocking, tt)) meeting_is_decoupled meeting_is_joined meeting_has_ended;
+}

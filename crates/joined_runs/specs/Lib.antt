@@ -1,0 +1,4 @@
+pub mod Own
+pub mod Joined
+pub mod Laws
+pub mod Worked

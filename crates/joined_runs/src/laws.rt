@@ -1,0 +1,44 @@
+//! From the parts of a history to the whole.
+ghost use Rattle.joined_runs.specs.Laws.{JoinedEndsRequests, JoinedIsGood, JoinedIsSound, JoinedKeepsRequests, LogsMakeLastStore, LogsMakeStore, OwnIsEnough, OwnRequestsStand, OwnScriptsJoin, OwnTimesJoin};
+
+/// What a history tells an initiator, its own entries tell it.
+pub fn own_entries_are_enough()
+    ensures { OwnIsEnough }
+{}
+
+/// What an initiator has asked for by its own entries stands in the history, whatever follows.
+pub fn own_requests_stand()
+    ensures { OwnRequestsStand }
+{}
+
+/// Where each initiator's own entries run the scripts and have the times of their requests, so does the history.
+pub fn own_entries_join()
+    ensures scripts { OwnScriptsJoin }
+    ensures times { OwnTimesJoin }
+{}
+
+/// Where each memory's log is lawful, the history is that of one byte store, whose last bytes are those of the logs.
+pub fn logs_make_a_store()
+    ensures legal { LogsMakeStore }
+    ensures last { LogsMakeLastStore }
+{}
+
+/// A joined history has the points of requests.
+pub fn joined_histories_keep_requests()
+    ensures { JoinedKeepsRequests }
+{}
+
+/// And those of the end, where each initiator has ended its script.
+pub fn joined_histories_end_requests()
+    ensures { JoinedEndsRequests }
+{}
+
+/// Where no initiator has four phases, a joined history is sound.
+pub fn joined_histories_are_sound()
+    ensures { JoinedIsSound }
+{}
+
+/// And good, where each initiator has ended its script.
+pub fn joined_histories_are_good()
+    ensures { JoinedIsGood }
+{}

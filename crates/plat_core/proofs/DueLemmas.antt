@@ -1,0 +1,79 @@
+-- The round that the next entry of an initiator has.
+use Rattle.std.proofs.Common.{◌≡◌, ℕ, ◌+◌, ◌-◌, ◌≤◌, List, [], ◌∷◌, ◌++◌, Some, Bool, true, false, cond, refl, ap, sym, subst, ◌∙◌, arith, add-zero}
+use Rattle.std.specs.List.{AllByRecursion, list_all}
+use Rattle.tlm_types.specs.declared.entry.Entry.{Entry}
+use Rattle.tlm_model.specs.declared.platform.Platform.{Platform}
+use Rattle.tlm_model.specs.declared.platform.Style.TheVariants.{Blocking as blocking_style}
+use Rattle.tlm_model.specs.Plan.{Initiator}
+use Rattle.tlm_model.specs.Requests.{Request}
+use Rattle.tlm_model.specs.Rounds.{round_of, syncs_from, syncs_of}
+use Rattle.tlm_model.specs.Route.{Route, route_of}
+use Rattle.tlm_model.specs.Scripts.{is_settled}
+use Rattle.quantum_keeper.specs.Keeper.{current_time}
+use Rattle.script_engine.specs.declared.op.Op.TheVariants as next
+use Rattle.script_engine.specs.State.{op_of, payload_of}
+use Rattle.script_engine.specs.Asking.{requests_at}
+use Rattle.script_engine.proofs.Steps.{ends}
+use Rattle.plat_core.specs.Come.{HasCome, rounds_at}
+use Rattle.plat_core.specs.Rounds.{due_round, round_of_first}
+use Rattle.plat_core.specs.Run.{IsAccessOp, Run, address_of, request_for}
+use Rattle.plat_core.proofs.AnswerLemmas.{and_left, and_right}
+use Rattle.plat_core.proofs.EndLemmas.{HasCome-ended, blocking_syncs, request_is_open, requests_now}
+use Rattle.plat_core.proofs.NextLemmas.{numbers_at, request_is_first, seq_of_request}
+use Rattle.plat_core.proofs.RoundLemmas.{no_rounds_before}
+
+-- settled requests have no entry to come
+settled_first : (p : Platform) (i : Initiator) (h : List Entry) (made more : List Request) → list_all (is_settled p i h) made ≡ true → round_of_first p i h (made ++ more) ≡ round_of_first p i h more
+settled_first p i h [] more all = refl
+settled_first p i h (q ∷ made) more all =
+    ap (λ (b : Bool). cond b (round_of_first p i h (made ++ more)) (round_of p i q.seq)) (and_left (is_settled p i h q) (list_all (is_settled p i h) made) all)
+    ∙ settled_first p i h made more (and_right (is_settled p i h q) (list_all (is_settled p i h) made) all)
+
+-- the due round is that of what is still to be asked for
+due_is : (p : Platform) (i : Initiator) (h : List Entry) (r : Run) (come : HasCome p i h r) → due_round p i h ≡ round_of_first p i h (requests_at p i h (current_time r.keeper) come.stage r.engine)
+due_is p i h r come =
+    ap (round_of_first p i h) (requests_now p i h r come)
+    ∙ settled_first p i h come.made (requests_at p i h (current_time r.keeper) come.stage r.engine) come.asked.settled
+
+-- from a number on no round is lower than this one, nor is the last one
+rounds_from_here : (p : Platform) (i : Initiator) (h : List Entry) (n s : ℕ) (rs : List Request) → ((k : ℕ) → s ≤ k → n ≤ round_of p i k) → n ≤ syncs_of p i → AllByRecursion (λ (q : Request). s ≤ q.seq) rs → n ≤ round_of_first p i h rs
+rounds_from_here p i h n s [] each last later = last
+rounds_from_here p i h n s (q ∷ rs) each last later = by_cases (is_settled p i h q) (rounds_from_here p i h n s rs each last later.1) (each q.seq later.0)
+  where
+    by_cases : (b : Bool) → n ≤ round_of_first p i h rs → n ≤ round_of p i q.seq → n ≤ cond b (round_of_first p i h rs) (round_of p i q.seq)
+    by_cases true x y = x
+    by_cases false x y = y
+
+-- a run's next entry comes after its syncs
+pub due_after_syncs : (p : Platform) (i : Initiator) (h : List Entry) (r : Run) → i.row.style ≡ blocking_style → HasCome p i h r → r.syncs ≤ due_round p i h
+due_after_syncs p i h r blocking come =
+    let rest = requests_at p i h (current_time r.keeper) come.stage r.engine in
+    let last : r.syncs ≤ syncs_of p i = omega (arith, blocking_syncs i.row.style (syncs_from p i 0 0 i.script) blocking, come.counted.syncs) in
+    let low = rounds_from_here p i h r.syncs r.engine.seq rest (λ k after. omega (arith, come.counted.rounds k after)) last (numbers_at p i h (current_time r.keeper) come.stage r.engine) in
+    subst (λ (n : ℕ). r.syncs ≤ n) (sym (due_is p i h r come)) low
+
+-- the round of the request that is next
+pub round_at_next : (p : Platform) (i : Initiator) (h : List Entry) (r : Run) → IsAccessOp (op_of r.engine) → HasCome p i h r → round_of p i r.engine.seq ≡ r.syncs
+round_at_next p i h r is come =
+    let n = r.engine.seq in
+    let none : n - n ≡ 0 = omega arith in
+    sym (come.counted.rounds n (omega arith))
+    ∙ (ap (λ (k : ℕ). r.syncs + rounds_at p i r.keeper.last_sync (current_time r.keeper) r.engine k) none
+    ∙ (ap (λ (k : ℕ). r.syncs + k) (no_rounds_before p i r.keeper.last_sync (current_time r.keeper) r.engine is) ∙ add-zero r.syncs))
+
+-- at an access with a route the due round is that of its last sync
+pub due_at_access : (p : Platform) (i : Initiator) (h : List Entry) (r : Run) (route : Route) → IsAccessOp (op_of r.engine) → route_of p i (address_of (op_of r.engine)) ≡ Some route → HasCome p i h r → due_round p i h ≡ r.syncs
+due_at_access p i h r route is leads come =
+    let q = request_for (op_of r.engine) (payload_of r.engine 0) (current_time r.keeper) come.stage in
+    let first = request_is_first p i h (current_time r.keeper) come.stage 0 r.engine is in
+    due_is p i h r come
+    ∙ (ap (round_of_first p i h) first.first
+    ∙ (ap (λ (b : Bool). cond b (round_of_first p i h first.more) (round_of p i q.seq)) (request_is_open p i h r route is leads come)
+    ∙ (ap (round_of p i) (seq_of_request (current_time r.keeper) come.stage 0 r.engine is) ∙ round_at_next p i h r is come)))
+
+-- at the end of the script the due round is that of the last sync
+pub due_at_end : (p : Platform) (i : Initiator) (h : List Entry) (r : Run) → i.row.style ≡ blocking_style → HasCome p i h r → op_of r.engine ≡ next.Done → due_round p i h ≡ r.syncs
+due_at_end p i h r blocking come done =
+    due_is p i h r come
+    ∙ (ap (round_of_first p i h) (ends.requests p i h (current_time r.keeper) come.stage r.engine done)
+    ∙ (blocking_syncs i.row.style (syncs_from p i 0 0 i.script) blocking ∙ sym (HasCome-ended ends p i h r come done).syncs))

@@ -1,5 +1,0 @@
-use Rattle.tlm_model.proofs.WorkedRuns.{doubled_is_not_good}
-use Rattle.tlm_model.proofs.worked.doubled_entry_is_not_good.Goals as goal
-
-pub returns : goal.returns
-returns c = doubled_is_not_good

@@ -1,5 +1,0 @@
-use Rattle.tlm_model.proofs.WorkedRuns.{swapped_is_not_good}
-use Rattle.tlm_model.proofs.worked.swapped_entries_are_not_good.Goals as goal
-
-pub returns : goal.returns
-returns c = swapped_is_not_good

@@ -1,5 +1,0 @@
-use Rattle.tlm_model.proofs.WorkedRuns.{wrong_byte_is_not_good}
-use Rattle.tlm_model.proofs.worked.wrong_byte_is_not_good.Goals as goal
-
-pub returns : goal.returns
-returns c = wrong_byte_is_not_good

@@ -1,0 +1,319 @@
+-- The accesses of a good history of a valid plan can be told.
+use Rattle.std.proofs.Common.{◌≡◌, ℕ, zero, suc, ◌+◌, ◌-◌, ◌^◌, ◌<◌, ◌≤◌, ◌==◌, Bool, true, false, List, [], ◌∷◌, ◌++◌, length, map, take, drop, Option, Some, None, leb, refl, sym, ap, subst, ◌∙◌, arith}
+use Rattle.std.specs.Prelude.{IfSome, if◌then◌else◌, slice_get, slice_index, slice_set}
+use Rattle.std.specs.List.{AllByRecursion}
+use Rattle.std.specs.Option.{option_map}
+use Rattle.std.proofs.lemmas.Bool.{and_parts, false≢true, leb-true}
+use Rattle.std.proofs.lemmas.List.{length-take}
+use Rattle.std.proofs.lemmas.Option.{slice_get-map, slice_get_within}
+use Rattle.addr_router.specs.Windows.{IsProper as IsProperWindow}
+use Rattle.tlm_types.specs.declared.words.Command.{Command}
+use Rattle.tlm_types.specs.declared.words.Command.TheVariants.{Read, Write, Ignore}
+use Rattle.tlm_types.specs.declared.words.ObjectNo.{ObjectNo}
+use Rattle.tlm_types.specs.declared.words.ObjectNo.TheVariants.{Memory as memory_object}
+use Rattle.tlm_types.specs.declared.words.Response.{Response}
+use Rattle.tlm_types.specs.declared.words.Response.TheVariants.{Ok as ok_response}
+use Rattle.tlm_types.specs.declared.words.Way.{Way}
+use Rattle.tlm_types.specs.declared.words.Way.TheVariants.{Blocking, FourPhase, Direct, Debug}
+use Rattle.tlm_types.specs.declared.entry.Access.{Access}
+use Rattle.tlm_types.specs.declared.entry.Entry.{Entry}
+use Rattle.tlm_types.specs.declared.entry.What.{What}
+use Rattle.tlm_types.specs.declared.entry.What.TheVariants.{Access as Accessed, Granted, Invalidated, Closed, Call, Take, Acquire, Release}
+use Rattle.tlm_model.specs.declared.platform.MemoryRow.{MemoryRow}
+use Rattle.tlm_model.specs.declared.platform.Platform.{Platform}
+use Rattle.tlm_model.specs.declared.platform.RouterRow.{RouterRow}
+use Rattle.tlm_model.specs.declared.platform.Style.{Style}
+use Rattle.tlm_model.specs.declared.platform.Style.TheVariants.{Blocking as blocking_style}
+use Rattle.tlm_model.specs.declared.platform.Target.{Target}
+use Rattle.tlm_model.specs.declared.platform.Target.TheVariants.{Router, Memory}
+use Rattle.tlm_model.specs.declared.platform.WindowRow.{WindowRow}
+use Rattle.tlm_model.specs.Each.{EachFrom}
+use Rattle.good_history.specs.Good.{IsGood}
+use Rattle.tlm_model.specs.History.{IsAnswer, IsLegalEntry, IsLegalFrom, IsNumberedFrom, Store, after, opening_store, put, zeros_of}
+use Rattle.tlm_model.specs.Plan.{Plan, Initiator}
+use Rattle.tlm_model.specs.Report.{is_access, shown_by}
+use Rattle.tlm_model.specs.Requests.{Asked, Transport, DebugRead, Invalidation, Request, got_in, requests_of}
+use Rattle.tlm_model.specs.Route.{Found, Route, into_memory, into_router, into_window, is_within, later, latency_of, before_of, route_of, walk, window_of}
+use Rattle.tlm_model.specs.Scripts.{HasWay, IsAccessOf, IsEntryOf, IsWay, OfRequest}
+use Rattle.tlm_model.specs.Store.{got_by, got_of, is_enabled, place_of, put_from, stored_by, taken_from}
+use Rattle.tlm_model.specs.Times.{HasTime, decoupled_time}
+use Rattle.tlm_model.proofs.HistoryLemmas.{AllByRecursion-push}
+use Rattle.generic_payload.proofs.Moves.{length-taken_from}
+use Rattle.platform_file.specs.Bounded.{IsBounded, IsBoundedRouter}
+use Rattle.platform_file.specs.Platform.{window_at}
+use Rattle.traffic_script.specs.Proper.{AreBytes, AreProper}
+use Rattle.route_plan.specs.Valid.{IsValid}
+use Rattle.route_plan.proofs.SinglePaths.{not_none, some_same}
+use Rattle.plat_core.proofs.CoreLemmas.{blocking_from}
+use Rattle.plat_core.proofs.RunLemmas.{initiator_within}
+use Rattle.plat_core.proofs.ServableLemmas.{servable}
+use Rattle.trace_print.specs.Naming.{AreUsual, HasNumbers, HasUsualBytes, IsObject, IsTellable}
+use Rattle.trace_print.proofs.Accesses.{IsOfAccesses, Replies, Ways, are-accesses}
+use Rattle.trace_print.proofs.FewEntries.{few-entries}
+use Rattle.trace_print.proofs.GoodNames.{all_got}
+use Rattle.trace_print.proofs.OfRequests.{all-at, at-request, request-of, script-of}
+use Rattle.trace_print.proofs.Requested.{IsBuffer, IsGotten, IsSentAsUsual, IsToldAsked, IsToldDebugRead, IsToldRequest, IsToldTransport, later-small, requests-few, requests-told, zeros-bytes}
+
+-- bytes of memories
+
+index-byte : (xs : List ℕ) (k : ℕ) → AreBytes xs → slice_index xs k < 256
+index-byte [] zero h = omega arith
+index-byte [] (suc k) h = omega arith
+index-byte (x ∷ xs) zero h = h.0
+index-byte (x ∷ xs) (suc k) h = index-byte xs k h.1
+
+set-bytes : (xs : List ℕ) (k b : ℕ) → AreBytes xs → b < 256 → AreBytes (slice_set xs k b)
+set-bytes [] zero b h s = tt
+set-bytes [] (suc k) b h s = tt
+set-bytes (x ∷ xs) zero b h s = (s, h.1)
+set-bytes (x ∷ xs) (suc k) b h s = (h.0, set-bytes xs k b h.1 s)
+
+take-bytes : (n : ℕ) (xs : List ℕ) → AreBytes xs → AreBytes (take n xs)
+take-bytes zero xs h = tt
+take-bytes (suc n) [] h = tt
+take-bytes (suc n) (x ∷ xs) h = (h.0, take-bytes n xs h.1)
+
+drop-bytes : (n : ℕ) (xs : List ℕ) → AreBytes xs → AreBytes (drop n xs)
+drop-bytes zero xs h = h
+drop-bytes (suc n) [] h = tt
+drop-bytes (suc n) (x ∷ xs) h = drop-bytes n xs h.1
+
+one-byte : (b : Bool) (x y : ℕ) → x < 256 → y < 256 → (if b then x else y) < 256
+one-byte true x y h g = h
+one-byte false x y h g = g
+
+either-bytes : (b : Bool) (xs ys : List ℕ) → AreBytes xs → AreBytes ys → AreBytes (if b then xs else ys)
+either-bytes true xs ys h g = h
+either-bytes false xs ys h g = g
+
+taken-bytes : (a : Access) (k : ℕ) (bs store : List ℕ) → AreBytes bs → AreBytes store → AreBytes (taken_from a k bs store)
+taken-bytes a k [] store h g = tt
+taken-bytes a k (b ∷ bs) store h g = (one-byte (is_enabled a k) (slice_index store (place_of a k)) b (index-byte store (place_of a k) g) h.0, taken-bytes a (k + 1) bs store h.1 g)
+
+put-bytes : (a : Access) (k : ℕ) (bs store : List ℕ) → AreBytes bs → AreBytes store → AreBytes (put_from a k bs store)
+put-bytes a k [] store h g = g
+put-bytes a k (b ∷ bs) store h g =
+    put-bytes a (k + 1) bs (if is_enabled a k then slice_set store (place_of a k) b else store) h.1
+    (either-bytes (is_enabled a k) (slice_set store (place_of a k) b) store (set-bytes store (place_of a k) b g h.0) g)
+
+abbrev HasStoredBytes : Store → Type 0
+HasStoredBytes s = (m : ℕ) → AreBytes (s m)
+
+zeros_of-bytes : (o : Option MemoryRow) → AreBytes (zeros_of o)
+zeros_of-bytes None = tt
+zeros_of-bytes (Some row) = zeros-bytes row.traits.size
+
+put-stored : (s : Store) → HasStoredBytes s → (m : ℕ) (bytes : List ℕ) → AreBytes bytes → HasStoredBytes (put s m bytes)
+put-stored s h m bytes g k = either-bytes (m == k) bytes (s k) g (h k)
+
+stored-bytes : (c : Command) (r : Response) (a : Access) (store : List ℕ) → AreBytes a.sent → AreBytes store → AreBytes (stored_by c r a store)
+stored-bytes Write ok_response a store h g = put-bytes a 0 a.sent store h g
+stored-bytes c r a store h g = g
+
+-- what accesses get and show
+
+got-buffer : (c : Command) (r : Response) (a : Access) (store : List ℕ) → AreBytes a.sent → length a.sent < 2 ^ 64 → AreBytes store → IsBuffer (got_by c r a store)
+got-buffer Read ok_response a store h few g = record { bytes = taken-bytes a 0 a.sent store h g; few = omega (arith, few, length-taken_from a 0 a.sent store) }
+got-buffer Read r a store h few g = record { bytes = h; few = few }
+got-buffer Write r a store h few g = record { bytes = tt; few = omega arith }
+got-buffer Ignore r a store h few g = record { bytes = tt; few = omega arith }
+
+shown-bytes : (c : Command) (a : Access) (got : List ℕ) → AreBytes a.sent → AreBytes got → AreBytes (shown_by c a got)
+shown-bytes Read a got h g = g
+shown-bytes Write a got h g = h
+shown-bytes Ignore a got h g = tt
+
+usual-bytes : (c : Command) (r : Response) (a : Access) (offset : ℕ) (store got : List ℕ) → IsSentAsUsual c a → got ≡ got_by c r (record a { offset = offset }) store → AreUsual c Blocking (record a { offset = offset }) got
+usual-bytes Read r a offset store got sent e = sent
+usual-bytes Write r a offset store got sent e = e
+usual-bytes Ignore r a offset store got sent e = (sent, e)
+
+-- what is told of an entry at an object, where this is the store before it
+record IsToldWhat (p : Platform) (s : Store) (o : ObjectNo) (w : What) : Type 0 where
+  there : IsObject p o
+  numbers : HasNumbers w
+  usual : HasUsualBytes w
+  gotten : IfSome (got_in w) IsBuffer
+  stored : HasStoredBytes (after o w s)
+
+answer-got : (o : Option MemoryRow) (bytes : List ℕ) (way : Way) (a : Access) (status : Response) (got : List ℕ) → IsAnswer o bytes way a status got → got ≡ got_of way status a bytes
+answer-got None bytes way a status got h = absurd h
+answer-got (Some row) bytes way a status got h = h.1
+
+answer-there : (p : Platform) (m : ℕ) (o : Option MemoryRow) → slice_get p.memories m ≡ o → (bytes : List ℕ) (way : Way) (a : Access) (status : Response) (got : List ℕ) → IsAnswer o bytes way a status got → m < length p.memories
+answer-there p m None is bytes way a status got h = absurd h
+answer-there p m (Some row) is bytes way a status got h = slice_get_within p.memories m row is
+
+transport-told : (p : Platform) (s : Store) → HasStoredBytes s → (m offset : ℕ) → offset < 2 ^ 64 → (a : Access) → IsToldTransport a → (status : Response) (got : List ℕ)
+    → IsLegalEntry p s (memory_object m) (Accessed Blocking (record a { offset = offset }) status got) → IsToldWhat p s (memory_object m) (Accessed Blocking (record a { offset = offset }) status got)
+transport-told p s stored m offset small a told status got legal =
+    let b : Access = record a { offset = offset } in
+    let row = slice_get p.memories m in
+    let e : got ≡ got_by a.command status b (s m) = answer-got row (s m) Blocking b status got legal in
+    let buffer = subst IsBuffer (sym e) (got-buffer a.command status b (s m) told.bytes told.few (stored m)) in
+    record {
+      there = answer-there p m row refl (s m) Blocking b status got legal;
+      numbers = (tt, small, told.count, told.wide, told.enabled, shown-bytes a.command b got told.bytes buffer.bytes);
+      usual = usual-bytes a.command status a offset (s m) got told.usual e;
+      gotten = buffer;
+      stored = put-stored s stored m (stored_by a.command status b (s m)) (stored-bytes a.command status b (s m) told.bytes (stored m));
+    }
+
+debug-told : (p : Platform) (s : Store) → HasStoredBytes s → (m offset : ℕ) → offset < 2 ^ 64 → (a : Access) → IsToldDebugRead a → (status : Response) (got : List ℕ)
+    → IsLegalEntry p s (memory_object m) (Accessed Debug (record a { offset = offset }) status got) → IsToldWhat p s (memory_object m) (Accessed Debug (record a { offset = offset }) status got)
+debug-told p s stored m offset small a told status got legal =
+    let b : Access = record a { offset = offset } in
+    let row = slice_get p.memories m in
+    let e : got ≡ take a.length (drop offset (s m)) = answer-got row (s m) Debug b status got legal in
+    let moved : IsBuffer (take a.length (drop offset (s m))) = record {
+      bytes = take-bytes a.length (drop offset (s m)) (drop-bytes offset (s m) (stored m));
+      few = omega (arith, told.count, length-take a.length (drop offset (s m)));
+    } in
+    let buffer = subst IsBuffer (sym e) moved in
+    let none : AreBytes a.sent = subst AreBytes (sym told.none_sent) tt in
+    record {
+      there = answer-there p m row refl (s m) Debug b status got legal;
+      numbers = (tt, small, told.count, told.wide, told.enabled, shown-bytes a.command b got none buffer.bytes);
+      usual = subst (λ (c : Command). AreUsual c Debug b got) (sym told.reads) told.none_sent;
+      gotten = buffer;
+      stored = put-stored s stored m (s m) (stored m);
+    }
+
+told-access : (p : Platform) (s : Store) → HasStoredBytes s → (route : Option Route) → ((r : Route) → route ≡ Some r → r.offset < 2 ^ 64) → (asked : Asked) → IsToldAsked asked
+    → (o : ObjectNo) (way : Way) (a : Access) (status : Response) (got : List ℕ) → IsAccessOf route asked o a → IsWay blocking_style asked way
+    → IsLegalEntry p s o (Accessed way a status got) → IsToldWhat p s o (Accessed way a status got)
+told-access p s stored None small asked told o way a status got is came legal = absurd is
+told-access p s stored (Some r) small (Transport b) told o way a status got is came legal =
+    let P : ObjectNo × Way × Access → Type 0 = λ x. IsLegalEntry p s x.0 (Accessed x.1 x.2 status got) → IsToldWhat p s x.0 (Accessed x.1 x.2 status got) in
+    let from : ObjectNo × Way × Access = (memory_object r.memory, Blocking, record b { offset = r.offset }) in
+    let to : ObjectNo × Way × Access = (o, way, a) in
+    let same : from ≡ to = λ i. (sym is.0 i, sym came i, sym is.1 i) in
+    subst P same (transport-told p s stored r.memory r.offset (small r refl) b told status got) legal
+told-access p s stored (Some r) small (DebugRead b) told o way a status got is came legal =
+    let P : ObjectNo × Way × Access → Type 0 = λ x. IsLegalEntry p s x.0 (Accessed x.1 x.2 status got) → IsToldWhat p s x.0 (Accessed x.1 x.2 status got) in
+    let from : ObjectNo × Way × Access = (memory_object r.memory, Debug, record b { offset = r.offset }) in
+    let to : ObjectNo × Way × Access = (o, way, a) in
+    let same : from ≡ to = λ i. (sym is.0 i, sym came i, sym is.1 i) in
+    subst P same (debug-told p s stored r.memory r.offset (small r refl) b told status got) legal
+told-access p s stored (Some r) small (Invalidation n) told o way a status got is came legal = absurd told
+
+told-what : (p : Platform) (s : Store) → HasStoredBytes s → (route : Option Route) → ((r : Route) → route ≡ Some r → r.offset < 2 ^ 64) → (asked : Asked) → IsToldAsked asked
+    → (o : ObjectNo) (w : What) → is_access w ≡ true → IsEntryOf route asked o w → HasWay blocking_style asked w → IsLegalEntry p s o w → IsToldWhat p s o w
+told-what p s stored route small asked told o (Accessed way a status got) accessed is came legal = told-access p s stored route small asked told o way a status got is came legal
+told-what p s stored route small asked told o w accessed is came legal = absurd (false≢true accessed)
+
+-- where addresses lead
+
+found-within : (n : ℕ) (ws : List WindowRow) (a : ℕ) (f : Found) → window_of n ws a ≡ Some f → (k : ℕ) × (slice_get ws k ≡ Some f.window) × (is_within f.window a ≡ true)
+found-within n [] a f h = absurd (not_none f h)
+found-within n (w ∷ ws) a f h = go (λ rest. found-within (n + 1) ws a f rest) (is_within w a) refl h
+  where
+    go : (window_of (n + 1) ws a ≡ Some f → (k : ℕ) × (slice_get ws k ≡ Some f.window) × (is_within f.window a ≡ true)) → (b : Bool) → is_within w a ≡ b
+        → (if b then Some (record { index = n; window = w }) else window_of (n + 1) ws a) ≡ Some f → (k : ℕ) × (slice_get (w ∷ ws) k ≡ Some f.window) × (is_within f.window a ≡ true)
+    go next true e h = let same : w ≡ f.window = ap (λ (x : Found). x.window) (some_same {A = Found} (record { index = n; window = w }) f h) in (0, ap (λ (x : WindowRow). Some x) same, subst (λ (x : WindowRow). is_within x a ≡ true) same e)
+    go next false e h = let t = next h in (suc t.0, t.1, t.2)
+
+leads-small : (p : Platform) → IsBounded p → (r : ℕ) (row : RouterRow) → slice_get p.routers r ≡ Some row → (a : ℕ) (f : Found) → window_of 0 row.windows a ≡ Some f → a - f.window.first + f.window.base < 2 ^ 64
+leads-small p bounded r row at a f h =
+    let t = found-within 0 row.windows a f h in
+    let router = all_got (IsBoundedRouter p) p.routers bounded.routers r row at in
+    let windows = router.windows in
+    let window = all_got IsProperWindow (map (window_at 0) row.windows) windows.each t.0 (window_at 0 f.window) (slice_get-map (window_at 0) row.windows t.0 ∙ ap (option_map (window_at 0)) t.1) in
+    let within = and_parts (leb f.window.first a) (leb a f.window.last) t.2 in
+    let high : a ≤ f.window.last = leb-true a f.window.last within.1 in
+    let seen = window.seen_fits in
+    omega (arith, high, seen)
+
+memory-small : (o : Option MemoryRow) (m a before : ℕ) (route : Route) → a < 2 ^ 64 → (into_memory o m a before).end ≡ Some route → route.offset < 2 ^ 64
+memory-small None m a before route small h = absurd (not_none route h)
+memory-small (Some row) m a before route small h =
+    let same = ap (λ (r : Route). r.offset) (some_same {A = Route} (record { memory = m; offset = a }) route h) in
+    omega (arith, small, same)
+
+offset-small : (k : ℕ) (p : Platform) → IsBounded p → (t : Target) (a before : ℕ) (route : Route) → a < 2 ^ 64 → (walk k p t a before).end ≡ Some route → route.offset < 2 ^ 64
+offset-small zero p bounded t a before route small h = absurd (not_none route h)
+offset-small (suc k) p bounded (Memory m) a before route small h = memory-small (slice_get p.memories m) m a before route small h
+offset-small (suc k) p bounded (Router r) a before route small h = go (λ t b c small h. offset-small k p bounded t b c route small h) (slice_get p.routers r) refl h
+  where
+    window : ((t : Target) (b c : ℕ) → b < 2 ^ 64 → (walk k p t b c).end ≡ Some route → route.offset < 2 ^ 64) → (row : RouterRow) → slice_get p.routers r ≡ Some row → (f : Option Found) → window_of 0 row.windows a ≡ f
+        → (into_window p r f a (later before row.latency) (λ t b c. walk k p t b c)).end ≡ Some route → route.offset < 2 ^ 64
+    window next row at None is h = absurd (not_none route h)
+    window next row at (Some f) is h = next f.window.to (a - f.window.first + f.window.base) (later before row.latency) (leads-small p bounded r row at a f is) h
+
+    go : ((t : Target) (b c : ℕ) → b < 2 ^ 64 → (walk k p t b c).end ≡ Some route → route.offset < 2 ^ 64) → (row : Option RouterRow) → slice_get p.routers r ≡ row
+        → (into_router p r row a before (λ t b c. walk k p t b c)).end ≡ Some route → route.offset < 2 ^ 64
+    go next None is h = absurd (not_none route h)
+    go next (Some row) is h = window next row is (window_of 0 row.windows a) refl h
+
+time-small : (p : Platform) (i : Initiator) (r : Request) (w : What) → r.time < 2 ^ 64 → decoupled_time p i r w < 2 ^ 64
+time-small p i r (Accessed Blocking a status got) small = later-small r.time (before_of p i r.address)
+time-small p i r (Accessed FourPhase a status got) small = small
+time-small p i r (Accessed (Direct g) a status got) small = small
+time-small p i r (Accessed Debug a status got) small = small
+time-small p i r (Granted g f l k) small = later-small r.time (latency_of p i r.address)
+time-small p i r (Invalidated f l) small = small
+time-small p i r (Closed g) small = small
+time-small p i r (Call c a) small = small
+time-small p i r (Take s) small = small
+time-small p i r (Acquire s) small = small
+time-small p i r (Release s f) small = small
+
+-- what a good history says of the time of each entry, with those before it
+abbrev Times : Plan → List Entry → Entry → Type 0
+Times p before e = OfRequest p before e (λ i r. HasTime i.row.style (decoupled_time p.platform i r e.what) e.time)
+
+-- an entry that can be told, and what comes of it
+record IsToldEntry (p : Platform) (s : Store) (e : Entry) : Type 0 where
+  entry : IsTellable p e
+  gotten : IsGotten e
+  stored : HasStoredBytes (after e.object e.what s)
+
+told-entry : (p : Plan) → IsValid p → (before : List Entry) → AllByRecursion IsGotten before → (s : Store) → HasStoredBytes s → (e : Entry) → e.position < 2 ^ 64 → is_access e.what ≡ true
+    → Replies p before e → Ways p before e → Times p before e → IsLegalEntry p.platform s e.object e.what → IsToldEntry p.platform s e
+told-entry p valid before got s stored e position accessed reply way time legal =
+    let found = request-of p before e (λ i r. IsEntryOf (route_of p.platform i r.address) r.asked e.object e.what) reply in
+    let i = found.initiator in
+    let r = found.request in
+    let shape = valid.shape in
+    let serves = servable p shape valid.scripts valid.proper in
+    let blocking = blocking_from 0 e.txn.initiator p.platform.initiators p.scripts i serves.blocking found.of_it in
+    let proper = script-of AreProper 0 e.txn.initiator p.platform.initiators p.scripts i valid.proper found.of_it in
+    let all = requests-told p.platform i before got 0 0 0 (omega arith) i.script proper.each in
+    let told = all-at IsToldRequest (requests_of p.platform i before) all e.txn.seq r found.asked_for in
+    let within = slice_get_within (requests_of p.platform i before) e.txn.seq r found.asked_for in
+    let few = requests-few p.platform i before 0 0 0 i.script in
+    let is = at-request p before e (λ i r. IsEntryOf (route_of p.platform i r.address) r.asked e.object e.what) reply found in
+    let came = subst (λ (style : Style). HasWay style r.asked e.what) blocking (at-request p before e (λ i r. HasWay i.row.style r.asked e.what) way found) in
+    let at : e.time ≡ decoupled_time p.platform i r e.what =
+    subst (λ (style : Style). HasTime style (decoupled_time p.platform i r e.what) e.time) blocking (at-request p before e (λ i r. HasTime i.row.style (decoupled_time p.platform i r e.what) e.time) time found) in
+    let what = told-what p.platform s stored (route_of p.platform i r.address) (λ route leads. offset-small 9 p.platform shape.bounded i.row.bind r.address 0 route told.addressed leads) r.asked told.asks e.object e.what accessed is came legal in
+    record {
+      entry = record {
+        position = position;
+        time = omega (arith, at, time-small p.platform i r e.what told.timed);
+        seq = omega (arith, within, few, proper.few);
+        initiator = initiator_within p e.txn.initiator i found.of_it;
+        object = what.there;
+        numbers = what.numbers;
+        bytes = what.usual;
+      };
+      gotten = record { got = what.gotten };
+      stored = what.stored;
+    }
+
+told-from : (p : Plan) → IsValid p → (n : ℕ) (before h : List Entry) → AllByRecursion IsGotten before → (s : Store) → HasStoredBytes s → n + length h ≤ 2 ^ 64 → IsNumberedFrom n h
+    → IsOfAccesses h → IsLegalFrom p.platform s h → EachFrom (Replies p) before h → EachFrom (Ways p) before h → EachFrom (Times p) before h → AllByRecursion (IsTellable p.platform) h
+told-from p valid n before [] got s stored few numbered plain legal replies ways times = tt
+told-from p valid n before (e ∷ h) got s stored few numbered plain legal replies ways times =
+    let one = told-entry p valid before got s stored e (omega (arith, few, numbered.0)) plain.0 replies.0 ways.0 times.0 legal.0 in (
+      one.entry,
+      told-from p valid (n + 1) (before ++ e ∷ []) h (AllByRecursion-push IsGotten before e got one.gotten) (after e.object e.what s) one.stored (omega (arith, few)) numbered.1 plain.1 legal.1 replies.1 ways.1 times.1,
+    )
+
+pub good-told : (p : Plan) → IsValid p → (h : List Entry) → IsGood p h → AllByRecursion (IsTellable p.platform) h
+good-told p valid h good =
+    let plain = are-accesses p valid h good.sound in
+    let kept = good.sound.requests in
+    let scripts = kept.scripts in
+    let few = few-entries p valid h scripts plain in
+    told-from p valid 0 [] h tt (opening_store p.platform) (λ m. zeros_of-bytes (slice_get p.platform.memories m)) (omega (arith, few)) kept.numbered plain kept.legal scripts.replies scripts.ways kept.times
