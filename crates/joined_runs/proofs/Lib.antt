@@ -1,3 +1,4 @@
+pub mod CountLemmas
 pub mod OwnLemmas
 pub mod ScriptLemmas
 pub mod StoreLemmas

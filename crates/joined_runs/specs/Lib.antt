@@ -1,4 +1,5 @@
 pub mod Own
+pub mod Counting
 pub mod Joined
 pub mod Laws
 pub mod Worked

@@ -58,7 +58,7 @@ syncs_bound p i now t (op ∷ ops) = by_cases (syncs_after p.quantum now (time_a
 together : (a b n k : ℕ) → n ≡ k → a + b + n ≡ a + (b + k)
 together a b n k same = omega arith
 
-asked_planned : (p : Plan) (i : Initiator) (m : ℕ) (ops : List Operation) → asked_in p i m ops ≡ sum_by (at_memory p i m) (flat_map asks_of ops)
+pub asked_planned : (p : Plan) (i : Initiator) (m : ℕ) (ops : List Operation) → asked_in p i m ops ≡ sum_by (at_memory p i m) (flat_map asks_of ops)
 asked_planned p i m [] = refl
 asked_planned p i m (Write a bytes enables width ∷ ops) = ap (λ (n : ℕ). leads p i m a + n) (asked_planned p i m ops) ∙ sym (sum_by-cons (at_memory p i m) (AnAccess a (length bytes + length enables)) (flat_map asks_of ops))
 asked_planned p i m (Read a n enables width ∷ ops) = ap (λ (n : ℕ). leads p i m a + n) (asked_planned p i m ops) ∙ sym (sum_by-cons (at_memory p i m) (AnAccess a (n + length enables)) (flat_map asks_of ops))

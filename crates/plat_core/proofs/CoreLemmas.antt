@@ -114,8 +114,8 @@ not_finished p i h old new route mine own keeps reached finished =
     let unended : has_ended p.platform i h ≡ false = HasCome-open p.platform i h new (place_of route) reached.access leads.leads come in
     cc
 
-same_total : (p : Plan) (runs : List Run) (k j : ℕ) (i : Initiator) (old new : Run) → slice_get (initiators_of p) k ≡ Some i → slice_get runs k ≡ Some old → Keeps p old new → total_left p j (initiators_of p) (set runs k new) ≤ total_left p j (initiators_of p) runs
-same_total p runs k j i old new mine run keeps = omega (arith, total_left-set p j 0 (initiators_of p) runs k i old new mine run (omega (arith, keeps.left i j)))
+same_total : (p : Plan) (runs : List Run) (k j : ℕ) (i : Initiator) (old new : Run) → slice_get (initiators_of p) k ≡ Some i → slice_get (initiators_of p) old.engine.initiator ≡ Some i → slice_get runs k ≡ Some old → Keeps p old new → total_left p j (initiators_of p) (set runs k new) ≤ total_left p j (initiators_of p) runs
+same_total p runs k j i old new mine own run keeps = omega (arith, total_left-set p j 0 (initiators_of p) runs k i old new mine run (omega (arith, keeps.left i j own)))
 
 memory_moved : (p : Plan) (runs next : List Run) (h : List Entry) (j : ℕ) (m : LoggedMemory) → total_left p j (initiators_of p) next ≤ total_left p j (initiators_of p) runs → IsMemoryAt p runs h j m → IsMemoryAt p next h j m
 memory_moved p runs next h j m less is = record { number = is.number; row = is.row; log = is.log; few = is.few; roomy = omega (arith, is.roomy) }
@@ -146,7 +146,7 @@ core_ended p runs regions after made k old new core at moved =
       run_count = length-set' runs k new ∙ core.run_count;
       region_count = core.region_count;
       each_run = runs_moved p runs (history_of regions) k turn.initiator new turn.at (record { come = moved.keeps.come turn.initiator (history_of regions) turn.mine turn.own.come; finished = λ f. moved.ended.done }) core.each_run;
-      each_region = λ j m is. memory_moved p runs (set runs k new) (history_of regions) j m (same_total p runs k j turn.initiator old new turn.at at moved.keeps) (core.each_region j m is);
+      each_region = λ j m is. memory_moved p runs (set runs k new) (history_of regions) j m (same_total p runs k j turn.initiator old new turn.at turn.mine at moved.keeps) (core.each_region j m is);
     })
 
 -- a core whose run has moved to a sync that isn't let through
@@ -160,7 +160,7 @@ core_waited p runs regions after members made k old new core at going moved =
       run_count = length-set' runs k new ∙ core.run_count;
       region_count = core.region_count;
       each_run = runs_moved p runs (history_of regions) k turn.initiator new turn.at (record { come = moved.keeps.come turn.initiator (history_of regions) turn.mine turn.own.come; finished = λ f. absurd (false≢true (sym (moved.finished ∙ going) ∙ f)) }) core.each_run;
-      each_region = λ j m is. memory_moved p runs (set runs k new) (history_of regions) j m (same_total p runs k j turn.initiator old new turn.at at moved.keeps) (core.each_region j m is);
+      each_region = λ j m is. memory_moved p runs (set runs k new) (history_of regions) j m (same_total p runs k j turn.initiator old new turn.at turn.mine at moved.keeps) (core.each_region j m is);
     })
 
 same_history : (regions after : List LoggedMemory) (j : ℕ) (m next : LoggedMemory) → HasLogAt regions after j m next → HasLog m next m.log.entries → history_of after ≡ history_of regions
@@ -201,7 +201,7 @@ core_moved p runs regions after made k old new core at moved =
           }) core.each_run j x r mine run);
       each_region = λ j m is. subst (λ (h : List Entry). IsMemoryAt p (set runs k new) h j m) (sym same)
           (regions_moved j m (subst (λ (x : List LoggedMemory). slice_get x j ≡ Some m) moved.memory.now is)
-          (λ x y here. memory_moved p runs (set runs k new) (history_of regions) x y (same_total p runs k x turn.initiator old new turn.at at moved.keeps) (core.each_region x y here)));
+          (λ x y here. memory_moved p runs (set runs k new) (history_of regions) x y (same_total p runs k x turn.initiator old new turn.at turn.mine at moved.keeps) (core.each_region x y here)));
     }
   where
     regions_moved : (j : ℕ) (m : LoggedMemory) → slice_get (set regions moved.place moved.next) j ≡ Some m → ((x : ℕ) (y : LoggedMemory) → slice_get regions x ≡ Some y → IsMemoryAt p (set runs k new) (history_of regions) x y) → IsMemoryAt p (set runs k new) (history_of regions) j m
@@ -233,7 +233,7 @@ router_memory : (p : Plan) (r : ℕ) (o : Option RouterRow) (a b : ℕ) (next : 
 router_memory p r None a b next route each is = cc
 router_memory p r (Some row) a b next route each is = window_memory p r (window_of 0 row.windows a) a (later b row.latency) next route each is
 
-walk_memory : (p : Plan) (n : ℕ) (t : Target) (a b : ℕ) (route : RouteOfModel) → (walk n p.platform t a b).end ≡ Some route → is_none (slice_get p.platform.memories route.memory) ≡ false
+pub walk_memory : (p : Plan) (n : ℕ) (t : Target) (a b : ℕ) (route : RouteOfModel) → (walk n p.platform t a b).end ≡ Some route → is_none (slice_get p.platform.memories route.memory) ≡ false
 walk_memory p zero t a b route is = cc
 walk_memory p (suc n) (MemoryTarget m) a b route is =
     let both = into_some p (slice_get p.platform.memories m) m a b route is in
@@ -241,7 +241,7 @@ walk_memory p (suc n) (MemoryTarget m) a b route is =
 walk_memory p (suc n) (RouterTarget r) a b route is =
     router_memory p r (slice_get p.platform.routers r) a b (λ t x y. walk n p.platform t x y) route (λ t x y. walk_memory p n t x y route) is
 
-is_within : {X : Type 0} (xs : List X) (k : ℕ) → is_none (slice_get xs k) ≡ false → k < length xs
+pub is_within : {X : Type 0} (xs : List X) (k : ℕ) → is_none (slice_get xs k) ≡ false → k < length xs
 is_within [] k is = cc
 is_within (x ∷ xs) zero is = omega arith
 is_within (x ∷ xs) (suc k) is = omega (arith, is_within xs k is)
@@ -256,9 +256,9 @@ memory_of p runs regions made i a route core leads =
 pub route_at : (p : Plan) (i : Initiator) (old middle : Run) (route : Route) → slice_get (initiators_of p) old.engine.initiator ≡ Some i → Keeps p old middle → HasReached p middle route → IsRouteOf p i (address_of (op_of middle.engine)) route
 route_at p i old middle route mine keeps reached = MatchOption-at_some ⊥ (λ (x : Initiator). IsRouteOf p x (address_of (op_of middle.engine)) route) i (ap (slice_get (initiators_of p)) keeps.initiator ∙ mine) reached.leads
 
-one_asked : (p : Plan) (i : Initiator) (old middle : Run) (got : List ℕ) (route : Route) → Keeps p old middle → HasReached p middle route → IsRouteOf p i (address_of (op_of middle.engine)) route → asks_left p i route.memory (engine_after middle.engine got) + 1 ≤ asks_left p i route.memory old.engine
-one_asked p i old middle got route keeps reached leads =
-    omega (arith, left_after p i route.memory middle.engine got reached.access, leads_there p i (address_of (op_of middle.engine)) (place_of route) leads.leads, keeps.left i route.memory)
+one_asked : (p : Plan) (i : Initiator) (old middle : Run) (got : List ℕ) (route : Route) → slice_get (initiators_of p) old.engine.initiator ≡ Some i → Keeps p old middle → HasReached p middle route → IsRouteOf p i (address_of (op_of middle.engine)) route → asks_left p i route.memory (engine_after middle.engine got) + 1 ≤ asks_left p i route.memory old.engine
+one_asked p i old middle got route mine keeps reached leads =
+    omega (arith, left_after p i route.memory middle.engine got reached.access, leads_there p i (address_of (op_of middle.engine)) (place_of route) leads.leads, keeps.left i route.memory mine)
 
 -- a memory has room for the access that a run comes to
 pub room_for_access : (p : Plan) (runs : List Run) (regions : List LoggedMemory) (made k : ℕ) (old middle : Run) (route : Route) → IsCore p runs regions made → slice_get runs k ≡ Some old → Keeps p old middle → HasReached p middle route → HasRoomAt regions route.memory
@@ -267,7 +267,7 @@ room_for_access p runs regions made k old middle route core at keeps reached =
     let leads = route_at p turn.initiator old middle route turn.mine keeps reached in
     let memory = memory_of p runs regions made turn.initiator (address_of (op_of middle.engine)) route core leads.leads in
     subst (λ (o : Option LoggedMemory). IsSomeAnd o (λ m. length m.log.entries < m.log.room)) (sym memory.at)
-    (omega (arith, memory.is.roomy, total_left-at p route.memory (initiators_of p) runs k turn.initiator old turn.at at, one_asked p turn.initiator old middle [] route keeps reached leads))
+    (omega (arith, memory.is.roomy, total_left-at p route.memory (initiators_of p) runs k turn.initiator old turn.at at, one_asked p turn.initiator old middle [] route turn.mine keeps reached leads))
 
 length-put : (e : Entry) (s : List Entry) → length (put_in e s) ≡ suc (length s)
 length-put e [] = refl
@@ -300,7 +300,7 @@ few_made p runs regions made core =
     few_at : (k : ℕ) (m : LoggedMemory) → IsMemoryAt p runs (history_of regions) k m → length m.log.entries ≤ 1000000
     few_at k m is = omega (arith, is.roomy, is.few)
 
-entries_at-push : (o : ObjectNo) (h : List Entry) (e : Entry) → entries_at o (h ++ e ∷ []) ≡ entries_at o h ++ cond (is_object o e.object) (e ∷ []) []
+pub entries_at-push : (o : ObjectNo) (h : List Entry) (e : Entry) → entries_at o (h ++ e ∷ []) ≡ entries_at o h ++ cond (is_object o e.object) (e ∷ []) []
 entries_at-push o h e = filter-append (λ (x : Entry). is_object o x.object) h (e ∷ [])
 
 pub history_made : (p : Plan) (old new : Run) (regions after : List LoggedMemory) (made : ℕ) → IsNumbered (history_of regions) → made ≡ length (history_of regions) → (is : HasMadeAccess p old new regions after made) → history_of after ≡ history_of regions ++ entry_made is.middle is.region is.route made ∷ []
@@ -325,10 +325,10 @@ at_memory p runs h route m is =
     let found = some_row (slice_get p.platform.memories route.memory) (λ (row : MemoryRow). m.traits ≡ row.traits) is.row in
     record { row = found.row; memory = found.at; traits = found.has; number = is.number; log = is.log }
 
-fewer_asks : (p : Plan) (i : Initiator) (j : ℕ) (old middle new : Run) (got : List ℕ) (route : Route) → new.engine ≡ engine_after middle.engine got → Keeps p old middle → HasReached p middle route → asks_left p i j new.engine + 0 ≤ asks_left p i j old.engine
-fewer_asks p i j old middle new got route same keeps reached =
+fewer_asks : (p : Plan) (i : Initiator) (j : ℕ) (old middle new : Run) (got : List ℕ) (route : Route) → new.engine ≡ engine_after middle.engine got → slice_get (initiators_of p) old.engine.initiator ≡ Some i → Keeps p old middle → HasReached p middle route → asks_left p i j new.engine + 0 ≤ asks_left p i j old.engine
+fewer_asks p i j old middle new got route same mine keeps reached =
     let engine : asks_left p i j new.engine ≡ asks_left p i j (engine_after middle.engine got) = ap (asks_left p i j) same in
-    omega (arith, engine, left_after p i j middle.engine got reached.access, keeps.left i j)
+    omega (arith, engine, left_after p i j middle.engine got reached.access, keeps.left i j mine)
 
 apart : (a b : ℕ) → nat_eq a b ≡ false → nat_eq b a ≡ false
 apart a b is = grind (arith, nat_tests)
@@ -411,9 +411,9 @@ core_made p runs regions after made k old new core at is =
       each_run = λ j x r at_j run. subst (λ (l : List Entry). IsRunOf p l x r) (sym same) (runs_made p runs h e k i new turn.at (come.counted.number ∙ turn.number) own core.each_run j x r at_j run);
       each_region = λ j m here. subst (λ (l : List Entry). IsMemoryAt p (set runs k new) l j m) (sym same)
           (regions_made j m i memory (subst (λ (x : List LoggedMemory). slice_get x j ≡ Some m) is.memory.now here)
-          (λ x. omega (arith, total_left-set p x 0 (initiators_of p) runs k i old new turn.at at (fewer_asks p i x old is.middle new is.got is.route engine is.keeps is.reached)))
+          (λ x. omega (arith, total_left-set p x 0 (initiators_of p) runs k i old new turn.at at (fewer_asks p i x old is.middle new is.got is.route engine turn.mine is.keeps is.reached)))
           (total_left-set p is.route.memory 1 (initiators_of p) runs k i old new turn.at at
-          (subst (λ (s : State). asks_left p i is.route.memory s + 1 ≤ asks_left p i is.route.memory old.engine) (sym engine) (one_asked p i old is.middle is.got is.route is.keeps is.reached leads))));
+          (subst (λ (s : State). asks_left p i is.route.memory s + 1 ≤ asks_left p i is.route.memory old.engine) (sym engine) (one_asked p i old is.middle is.got is.route turn.mine is.keeps is.reached leads))));
     }
   where
     regions_made : (j : ℕ) (m : LoggedMemory) (i : Initiator) → IsMemoryAt p runs (history_of regions) is.route.memory is.region → slice_get (set regions is.route.memory is.next) j ≡ Some m

@@ -14,7 +14,8 @@ use Rattle.tlm_model.specs.Log.{bytes_from, log_bytes}
 use Rattle.tlm_model.specs.Plan.{Plan, Initiator, initiators_of}
 use Rattle.tlm_model.specs.Requests.{Asked, Request}
 use Rattle.tlm_model.specs.Route.{Route as RouteOfModel, later, route_of, before_of}
-use Rattle.tlm_model.specs.Times.{access_time}
+use Rattle.tlm_model.specs.Scripts.{RunsScripts}
+use Rattle.tlm_model.specs.Times.{HasDecoupledTimes, access_time}
 use Rattle.tlm_model.proofs.PartsLemmas.{store_from-parts}
 use Rattle.generic_payload.specs.Payload.{PayloadView}
 use Rattle.region_object.specs.Region.{LoggedMemory}
@@ -22,7 +23,7 @@ use Rattle.route_plan.specs.declared.step.Route.{Route}
 use Rattle.script_engine.specs.declared.op.Op.{Op}
 use Rattle.script_engine.specs.declared.op.Op.TheVariants as next
 use Rattle.script_engine.specs.State.{op_of, is_fenced, payload_of}
-use Rattle.script_engine.specs.Asking.{IsAnswered}
+use Rattle.script_engine.specs.Asking.{IsAnswered, requests_at}
 use Rattle.quantum_keeper.specs.Keeper.{current_time}
 use Rattle.plat_core.specs.Access.{IsRouteOf, bytes_back, entry_made, place_of, time_at}
 use Rattle.plat_core.specs.Come.{HasCome}
@@ -32,7 +33,7 @@ use Rattle.plat_core.proofs.AccessLemmas.{HasCome-answered, request_address}
 use Rattle.plat_core.proofs.NextLemmas.{request_is_first, seq_of_request, numbers_at}
 use Rattle.plat_core.proofs.ReplyLemmas.{routed_answers}
 use Rattle.plat_core.proofs.RunLemmas.{laws}
-use Rattle.plat_core.proofs.StepLemmas.{KeepsRequests-push}
+use Rattle.plat_core.proofs.StepLemmas.{HasDecoupledTimes-push, IsNext, KeepsRequests-push, RunsScripts-push}
 
 -- the stage of a request doesn't show in its entry
 same_stage : (p : Platform) (i : Initiator) (op : Op) (payload : PayloadView) (t g : ℕ) (route : RouteOfModel) (m : MemoryTraits) (bytes : List ℕ) (position : ℕ) → entry_of p i (request_for op payload t 0) route m bytes position ≡ entry_of p i (request_for op payload t g) route m bytes position
@@ -100,20 +101,59 @@ pub record IsAtMemory (p : Plan) (h : List Entry) (route : Route) (m : LoggedMem
   pub number : m.number ≡ route.memory
   pub log : m.log.entries ≡ entries_at (memory_object route.memory) h
 
+-- the request that a run makes next
+abbrev pub request_made : Run → ℕ → Request
+request_made r stage = request_for (op_of r.engine) (payload_of r.engine 4096) (current_time r.keeper) stage
+
+record HasNext (p : Plan) (i : Initiator) (h : List Entry) (r : Run) (stage : ℕ) (made : List Request) (route : Route) : Type 0 where
+  pub more : List Request
+  pub next : IsNext p i h made more (λ m. requests_at p.platform i m (current_time r.keeper) stage r.engine) (request_made r stage) (place_of route)
+
+has_next : (p : Plan) (i : Initiator) (h : List Entry) (r : Run) (route : Route) → slice_get (initiators_of p) i.number ≡ Some i → i.row.style ≡ blocking_style → (come : HasCome p.platform i h r) → IsAccessOp (op_of r.engine) → IsRouteOf p i (address_of (op_of r.engine)) route → HasNext p i h r come.stage come.made route
+has_next p i h r route mine blocking come is leads =
+    let t = current_time r.keeper in
+    let q : Request = request_made r come.stage in
+    let first = request_is_first p.platform i h t come.stage 4096 r.engine is in
+    let seq : q.seq ≡ r.engine.seq = seq_of_request t come.stage 4096 r.engine is in
+    record {
+      more = first.more;
+      next = record {
+        mine = mine;
+        blocking = blocking;
+        has = come.asked;
+        first = first.first;
+        number = seq ∙ sym come.count;
+        later =
+            subst (λ (s : ℕ). AllByRecursion (λ (x : Request). s ≤ x.seq) (q ∷ first.more)) (sym seq)
+            (subst (AllByRecursion (λ (x : Request). r.engine.seq ≤ x.seq)) first.first (numbers_at p.platform i h t come.stage r.engine));
+        access = is_access (op_of r.engine) (payload_of r.engine 4096) t come.stage is;
+        leads = ap (route_of p.platform i) (request_address (op_of r.engine) (payload_of r.engine 4096) t come.stage is) ∙ leads.leads;
+      };
+    }
+
+-- what the entries of a turn are part of, wherever its entry stands and whatever the memory answers
+pub record GoesOnWith (p : Plan) (h : List Entry) (e : Entry) : Type 0 where
+  pub scripts : RunsScripts p h → RunsScripts p (h ++ e ∷ [])
+  pub times : HasDecoupledTimes p h → HasDecoupledTimes p (h ++ e ∷ [])
+
+pub goes_on_with : (p : Plan) (i : Initiator) (h : List Entry) (r : Run) (m : LoggedMemory) (route : Route) (position : ℕ) → slice_get (initiators_of p) i.number ≡ Some i → i.row.style ≡ blocking_style → HasCome p.platform i h r → IsAccessOp (op_of r.engine) → IsRouteOf p i (address_of (op_of r.engine)) route → m.number ≡ route.memory → GoesOnWith p h (entry_made r m route position)
+goes_on_with p i h r m route position mine blocking come is leads number =
+    let has = has_next p i h r route mine blocking come is leads in
+    let bytes = log_bytes m.traits m.log.entries in
+    let same : entry_made r m route position ≡ entry_of p.platform i (request_made r come.stage) (place_of route) m.traits bytes position = entry_is p i r m route position come.stage is leads number come.counted.number in
+    subst (GoesOnWith p h) (sym same) (record {
+      scripts = RunsScripts-push p i h come.made has.more _ (request_made r come.stage) (place_of route) has.next m.traits bytes position;
+      times = HasDecoupledTimes-push p i h come.made has.more _ (request_made r come.stage) (place_of route) has.next m.traits bytes position;
+    })
+
 -- a history with a turn's entry has the points of requests
 pub KeepsRequests-turn : (p : Plan) (i : Initiator) (h : List Entry) (r : Run) (m : LoggedMemory) (route : Route) (position : ℕ) → KeepsRequests p h → slice_get (initiators_of p) i.number ≡ Some i → i.row.style ≡ blocking_style → HasCome p.platform i h r → IsAccessOp (op_of r.engine) → IsRouteOf p i (address_of (op_of r.engine)) route → IsAtMemory p h route m → position ≡ length h → KeepsRequests p (h ++ entry_made r m route position ∷ [])
 KeepsRequests-turn p i h r m route position kept mine blocking come is leads at counted =
-    let t = current_time r.keeper in
-    let q : Request = request_for (op_of r.engine) (payload_of r.engine 4096) t come.stage in
-    let first = request_is_first p.platform i h t come.stage 4096 r.engine is in
-    let seq : q.seq ≡ r.engine.seq = seq_of_request t come.stage 4096 r.engine is in
-    let later : AllByRecursion (λ (x : Request). q.seq ≤ x.seq) (q ∷ first.more) =
-    subst (λ (s : ℕ). AllByRecursion (λ (x : Request). s ≤ x.seq) (q ∷ first.more)) (sym seq)
-    (subst (AllByRecursion (λ (x : Request). r.engine.seq ≤ x.seq)) first.first (numbers_at p.platform i h t come.stage r.engine)) in
-    let route_is : route_of p.platform i q.address ≡ Some (place_of route) = ap (route_of p.platform i) (request_address (op_of r.engine) (payload_of r.engine 4096) t come.stage is) ∙ leads.leads in
+    let q : Request = request_made r come.stage in
+    let has = has_next p i h r route mine blocking come is leads in
     let bytes = log_bytes m.traits m.log.entries in
     let pushed : KeepsRequests p (h ++ entry_of p.platform i q (place_of route) at.row.traits bytes (length h) ∷ []) =
-    KeepsRequests-push p i h come.made first.more _ q (place_of route) at.row bytes kept mine blocking come.asked first.first (seq ∙ sym come.count) later (is_access (op_of r.engine) (payload_of r.engine 4096) t come.stage is) route_is at.memory
+    KeepsRequests-push p i h come.made has.more _ q (place_of route) at.row bytes kept has.next at.memory
     (bytes_are p h m.log.entries route.memory at.row m.traits at.memory at.traits at.log) in
     let same : entry_made r m route position ≡ entry_of p.platform i q (place_of route) at.row.traits bytes (length h) =
     entry_is p i r m route position come.stage is leads at.number come.counted.number

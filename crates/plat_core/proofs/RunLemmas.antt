@@ -15,8 +15,8 @@ use Rattle.script_engine.specs.declared.op.Op.{Op}
 use Rattle.script_engine.specs.State.{Due, State, op_at, op_of, is_fenced, payload_of, passed_over, passed_by, told_by, told_at, told_first, due_after}
 use Rattle.script_engine.specs.Asking.{numbers_due}
 use Rattle.script_engine.proofs.Steps.{passes, told}
-use Rattle.plat_core.specs.Left.{asks_left, leads}
-use Rattle.plat_core.proofs.LeftLemmas.{left_passed, left_after}
+use Rattle.plat_core.specs.Left.{asks_left, bytes_at, bytes_left, leads}
+use Rattle.plat_core.proofs.LeftLemmas.{bytes_after, bytes_passed, cost_at, leads_nowhere, left_passed, left_after, whole_payload_of}
 use Rattle.plat_core.specs.Board.{SyncsOnce}
 use Rattle.plat_core.specs.Moves.{IsUnderWay, Keeps, steps_left}
 use Rattle.plat_core.specs.Run.{Run, IsAccessOp, IsQuiet, address_of, accessed, passed, engine_after, refused_item, with_refusal, with_sync, waited, arrived}
@@ -95,13 +95,13 @@ pub accessed_initiator : (op : Op) (by : ℕ) (got : List ℕ) (r : Run) → (ac
 accessed_initiator op by got r = ap (λ (e : State). e.initiator) (accessed_step op by got r) ∙ after_initiator (is_fenced (op_of r.engine)) r.engine got
 
 pub Keeps-same : (p : Plan) (r : Run) → Keeps p r r
-Keeps-same p r = record { initiator = refl; come = λ i h mine come. come; left = λ i m. omega arith }
+Keeps-same p r = record { initiator = refl; come = λ i h mine come. come; left = λ i m mine. refl; bytes = λ i m. omega arith }
 
 pub Keeps-finished : (p : Plan) (r : Run) (b : Bool) → Keeps p r (record r { finished = b })
-Keeps-finished p r b = record { initiator = refl; come = λ i h mine come. HasCome-finished p.platform i h r b come; left = λ i m. omega arith }
+Keeps-finished p r b = record { initiator = refl; come = λ i h mine come. HasCome-finished p.platform i h r b come; left = λ i m mine. refl; bytes = λ i m. omega arith }
 
 pub Keeps-round : (p : Plan) (r new : Run) (n : ℕ) → new ≡ record r { round = n } → Keeps p r new
-Keeps-round p r new n is = subst (Keeps p r) (sym is) (record { initiator = refl; come = λ i h mine come. HasCome-round p.platform i h r n come; left = λ i m. omega arith })
+Keeps-round p r new n is = subst (Keeps p r) (sym is) (record { initiator = refl; come = λ i h mine come. HasCome-round p.platform i h r n come; left = λ i m mine. refl; bytes = λ i m. omega arith })
 
 -- at most one sync is made
 pub SyncsOnce-same : (r : Run) → SyncsOnce r r
@@ -130,14 +130,16 @@ pub Keeps-then : (p : Plan) (a b c : Run) → Keeps p a b → Keeps p b c → Ke
 Keeps-then p a b c first second = record {
   initiator = second.initiator ∙ first.initiator;
   come = λ i h mine come. second.come i h (ap (slice_get (initiators_of p)) first.initiator ∙ mine) (first.come i h mine come);
-  left = λ i m. omega (arith, first.left i m, second.left i m);
+  left = λ i m mine. second.left i m (ap (slice_get (initiators_of p)) first.initiator ∙ mine) ∙ first.left i m mine;
+  bytes = λ i m. omega (arith, first.bytes i m, second.bytes i m);
 }
 
 pub Keeps-passed : (p : Plan) (r : Run) → IsQuiet (op_of r.engine) → Keeps p r (passed (op_of r.engine) r)
 Keeps-passed p r quiet = record {
   initiator = ap (λ (e : State). e.initiator) (passed_step (op_of r.engine) r) ∙ passed_initiator r.engine r.engine.remaining;
   come = λ i h mine come. HasCome-quiet p.platform i h r passes quiet come;
-  left = λ i m. subst (λ (e : State). asks_left p i m e ≤ asks_left p i m r.engine) (sym (passed_step (op_of r.engine) r)) (left_passed p i m r.engine r.engine.due r.engine.remaining refl refl quiet);
+  left = λ i m mine. subst (λ (e : State). asks_left p i m e ≡ asks_left p i m r.engine) (sym (passed_step (op_of r.engine) r)) (left_passed p i m r.engine r.engine.due r.engine.remaining refl refl quiet);
+  bytes = λ i m. subst (λ (e : State). bytes_left p i m e ≤ bytes_left p i m r.engine) (sym (passed_step (op_of r.engine) r)) (bytes_passed p i m r.engine r.engine.due r.engine.remaining refl refl quiet);
 }
 
 pub Keeps-refused : (p : Plan) (r : Run) (by : ℕ) → IsAccessOp (op_of r.engine)
@@ -153,9 +155,15 @@ Keeps-refused p r by is nowhere latency = record {
       (λ m fenced. unrouted_answers p.platform i m 4096 r.engine is no_route fenced)
       (λ stage. refused_is_request _ stage 4096 r.engine is)
       come;
-  left = λ i m.
+  left = λ i m mine.
+      let no_route : route_of p.platform i (address_of (op_of r.engine)) ≡ None = MatchOption-at_some ⊥ (λ (i : Initiator). route_of p.platform i (address_of (op_of r.engine)) ≡ None) i mine nowhere in
       let after : asks_left p i m (engine_after r.engine (payload_of r.engine 4096).bytes) + leads p i m (address_of (op_of r.engine)) ≡ asks_left p i m r.engine = left_after p i m r.engine (payload_of r.engine 4096).bytes is in
-      subst (λ (e : State). asks_left p i m e ≤ asks_left p i m r.engine) (sym (accessed_step (op_of r.engine) by (payload_of r.engine 4096).bytes (with_refusal (op_of r.engine) r))) (omega arith);
+      let none : leads p i m (address_of (op_of r.engine)) ≡ 0 = leads_nowhere p i m (address_of (op_of r.engine)) no_route in
+      subst (λ (e : State). asks_left p i m e ≡ asks_left p i m r.engine) (sym (accessed_step (op_of r.engine) by (payload_of r.engine 4096).bytes (with_refusal (op_of r.engine) r))) (omega arith);
+  bytes = λ i m.
+      let got = (payload_of r.engine 4096).bytes in
+      let after : bytes_left p i m (engine_after r.engine got) + bytes_at p i m (address_of (op_of r.engine)) (cost_at 4096 r.engine.due r.engine.remaining) ≡ bytes_left p i m r.engine = bytes_after p i m 4096 r.engine got is (λ fenced. whole_payload_of r.engine 4096 fenced) in
+      subst (λ (e : State). bytes_left p i m e ≤ bytes_left p i m r.engine) (sym (accessed_step (op_of r.engine) by got (with_refusal (op_of r.engine) r))) (omega arith);
 }
 
 pub IsUnderWay-kept : (p : Plan) (old new : Run) → IsUnderWay p old → Keeps p old new → IsUnderWay p new

@@ -89,10 +89,10 @@ whole_at m route s t g room None (Sync ∷ ops) fenced = cc
 whole_at m route s t g room None (Fence ∷ ops) fenced = cc
 whole_at m route s t g room None (Invalidate a n ∷ ops) fenced = cc
 
-bytes_come_back : (r : Run) (m : LoggedMemory) (route : Route) → is_fenced (op_of r.engine) ≡ true → (payload_back m (next_call r route)).bytes ≡ bytes_back r m route
+pub bytes_come_back : (r : Run) (m : LoggedMemory) (route : Route) → is_fenced (op_of r.engine) ≡ true → (payload_back m (next_call r route)).bytes ≡ bytes_back r m route
 bytes_come_back r m route fenced = bytes_at m route (record { initiator = r.engine.initiator; seq = r.engine.seq }) r.engine.seq (current_time r.keeper) 0 route.before payload_room r.engine.due r.engine.remaining fenced
 
-whole_comes_back : (r : Run) (m : LoggedMemory) (route : Route) → is_fenced (op_of r.engine) ≡ true → length (bytes_back r m route) ≡ length_of (op_of r.engine)
+pub whole_comes_back : (r : Run) (m : LoggedMemory) (route : Route) → is_fenced (op_of r.engine) ≡ true → length (bytes_back r m route) ≡ length_of (op_of r.engine)
 whole_comes_back r m route fenced = whole_at m route r.engine.seq (current_time r.keeper) 0 payload_room r.engine.due r.engine.remaining fenced
 
 abbrev debug_entry : LoggedMemory → ℕ → ℕ → ℕ → TxnId → ℕ → Entry
@@ -129,10 +129,10 @@ entry_at m route txn position s t g room None (Sync ∷ ops) is = absurd is
 entry_at m route txn position s t g room None (Fence ∷ ops) is = absurd is
 entry_at m route txn position s t g room None (Invalidate a n ∷ ops) is = absurd is
 
-entry_is_made : (r : Run) (m : LoggedMemory) (route : Route) (position : ℕ) → IsAccessOp (op_of r.engine) → entry_of_call m position (next_call r route) ≡ entry_made r m route position
+pub entry_is_made : (r : Run) (m : LoggedMemory) (route : Route) (position : ℕ) → IsAccessOp (op_of r.engine) → entry_of_call m position (next_call r route) ≡ entry_made r m route position
 entry_is_made r m route position is = entry_at m route (record { initiator = r.engine.initiator; seq = r.engine.seq }) position r.engine.seq (current_time r.keeper) 0 payload_room r.engine.due r.engine.remaining is
 
-fit_at : (txn : TxnId) (s t before offset : ℕ) (due : Option Due) (ops : List Operation) → IsAccessOp (op_at s due ops) → IsFit (call_at (op_at s due ops) txn t before (sent_by payload_room due ops offset))
+pub fit_at : (txn : TxnId) (s t before offset : ℕ) (due : Option Due) (ops : List Operation) → IsAccessOp (op_at s due ops) → IsFit (call_at (op_at s due ops) txn t before (sent_by payload_room due ops offset))
 fit_at txn s t before offset (Some w) ops is = (tt, λ q. cc)
 fit_at txn s t before offset None [] is = absurd is
 fit_at txn s t before offset None (Write a bytes enables width ∷ ops) is = (tt, λ q. cc)

@@ -8,6 +8,7 @@ use Rattle.tlm_types.specs.declared.entry.Access.{Access}
 use Rattle.tlm_types.specs.declared.entry.Entry.{Entry}
 use Rattle.tlm_types.specs.declared.entry.What.{What}
 use Rattle.tlm_types.specs.declared.entry.What.TheVariants.{Access as Accessed}
+use Rattle.tlm_types.specs.declared.words.MemoryTraits.{MemoryTraits}
 use Rattle.tlm_types.specs.declared.words.ObjectNo.TheVariants.{Memory as memory_object}
 use Rattle.tlm_types.specs.declared.words.Response.{Response}
 use Rattle.tlm_types.specs.declared.words.Way.{Way}
@@ -21,9 +22,9 @@ use Rattle.tlm_model.specs.History.{Store, after, IsAnswer, IsLegalEntry, IsLega
 use Rattle.tlm_model.specs.Plan.{Plan, Initiator, initiators_of}
 use Rattle.tlm_model.specs.Requests.{Asked, Transport, DebugRead, Invalidation, Request, requests_of}
 use Rattle.tlm_model.specs.Route.{Route, route_of}
-use Rattle.tlm_model.specs.Scripts.{OfRequest, IsEntryOf, HasWay, IsInOrder, has_answer, is_settled, comes_first}
+use Rattle.tlm_model.specs.Scripts.{OfRequest, IsEntryOf, HasWay, IsInOrder, RunsScripts, has_answer, is_settled, comes_first}
 use Rattle.tlm_model.specs.Store.{status_of, got_of}
-use Rattle.tlm_model.specs.Times.{HasTime, access_time}
+use Rattle.tlm_model.specs.Times.{HasDecoupledTimes, HasTime, access_time}
 use Rattle.tlm_model.proofs.EachLemmas.{append_nil, AtEach-push}
 use Rattle.tlm_model.proofs.HistoryLemmas.{IsNumberedFrom-push}
 use Rattle.plat_core.specs.Entry.{IsAccess, way_of, access_at, entry_of}
@@ -89,33 +90,61 @@ entry_way style (Transport a) access status got q is = subst (λ (x : Style). Ha
 entry_way style (DebugRead a) access status got q is = subst (λ (x : Style). HasWay x (DebugRead a) (Accessed Debug access status got)) (sym q) refl
 entry_way style (Invalidation n) access status got q is = absurd is
 
+-- the next request of a blocking initiator, whose address has a route: those that it has made are settled
+pub record IsNext (p : Plan) (i : Initiator) (h : List Entry) (made more : List Request) (left : List Entry → List Request) (r : Request) (route : Route) : Type 0 where
+  pub mine : slice_get (initiators_of p) i.number ≡ Some i
+  pub blocking : i.row.style ≡ blocking_style
+  pub has : HasMade p.platform i h made left
+  pub first : left h ≡ r ∷ more
+  pub number : r.seq ≡ length made
+  pub later : AllByRecursion (λ (q : Request). r.seq ≤ q.seq) (r ∷ more)
+  pub access : IsAccess r.asked
+  pub leads : route_of p.platform i r.address ≡ Some route
+
+module _ (p : Plan) (i : Initiator) (h : List Entry) (made more : List Request) (left : List Entry → List Request) (r : Request) (route : Route) (next : IsNext p i h made more left r route) where
+  all_asked : requests_of p.platform i h ≡ made ++ r ∷ more
+  all_asked = ap (requests_of p.platform i) (sym (append_nil h)) ∙ (next.has.asked [] ∙ ap (λ (x : List Entry). made ++ left x) (append_nil h) ∙ ap (λ (x : List Request). made ++ x) next.first)
+
+  is_asked : slice_get (requests_of p.platform i h) r.seq ≡ Some r
+  is_asked = ap (λ (rs : List Request). slice_get rs r.seq) all_asked ∙ slice_get-after made r more r.seq next.number
+
+  -- its entry, wherever it stands and whatever is answered, goes on with the scripts
+  pub RunsScripts-push : (traits : MemoryTraits) (bytes : List ℕ) (position : ℕ) → RunsScripts p h → RunsScripts p (h ++ entry_of p.platform i r route traits bytes position ∷ [])
+  RunsScripts-push traits bytes position scripts =
+      let e = entry_of p.platform i r route traits bytes position in
+      let way = way_of r.asked in
+      let status = status_of traits way (access_at route r.asked) in
+      let got = got_of way status (access_at route r.asked) bytes in
+      let fresh : has_answer i.number r.seq h ≡ false = next.has.fresh r.seq (omega (arith, next.number)) in
+      record {
+        replies = AtEach-push _ h e scripts.replies (of_request p h e _ i r next.mine is_asked (entry_replies p.platform i r route (route_of p.platform i r.address) e.what r.asked 0 next.access next.leads way status got));
+        ways = AtEach-push _ h e scripts.ways (of_request p h e _ i r next.mine is_asked (entry_way i.row.style r.asked (access_at route r.asked) status got next.blocking next.access));
+        order = AtEach-push _ h e scripts.order (of_request p h e _ i r next.mine is_asked (in_order p.platform i h made more r next.blocking all_asked next.has.settled fresh next.later));
+        places = AtEach-push _ h e scripts.places tt;
+      }
+
+  -- and has the time of its request
+  pub HasDecoupledTimes-push : (traits : MemoryTraits) (bytes : List ℕ) (position : ℕ) → HasDecoupledTimes p h → HasDecoupledTimes p (h ++ entry_of p.platform i r route traits bytes position ∷ [])
+  HasDecoupledTimes-push traits bytes position times =
+      let e = entry_of p.platform i r route traits bytes position in
+      AtEach-push _ h e times (of_request p h e _ i r next.mine is_asked (subst (λ (x : Style). HasTime x (access_time p.platform i r (way_of r.asked)) (access_time p.platform i r (way_of r.asked))) (sym next.blocking) refl))
+
 -- Where an initiator's made requests are settled, a history with the entry of its next one has the points of requests.
 pub KeepsRequests-push : (p : Plan) (i : Initiator) (h : List Entry) (made more : List Request) (left : List Entry → List Request) (r : Request) (route : Route) (row : MemoryRow) (bytes : List ℕ)
-    → KeepsRequests p h → slice_get (initiators_of p) i.number ≡ Some i → i.row.style ≡ blocking_style
-    → HasMade p.platform i h made left → left h ≡ r ∷ more → r.seq ≡ length made → AllByRecursion (λ (q : Request). r.seq ≤ q.seq) (r ∷ more)
-    → IsAccess r.asked → route_of p.platform i r.address ≡ Some route → slice_get p.platform.memories route.memory ≡ Some row → bytes ≡ last_store p.platform h route.memory
+    → KeepsRequests p h → IsNext p i h made more left r route → slice_get p.platform.memories route.memory ≡ Some row → bytes ≡ last_store p.platform h route.memory
     → KeepsRequests p (h ++ entry_of p.platform i r route row.traits bytes (length h) ∷ [])
-KeepsRequests-push p i h made more left r route row bytes kept mine blocking has first number later asks leads memory bytes_are =
+KeepsRequests-push p i h made more left r route row bytes kept next memory bytes_are =
     let e = entry_of p.platform i r route row.traits bytes (length h) in
     let way = way_of r.asked in
     let access = access_at route r.asked in
     let status = status_of row.traits way access in
     let got = got_of way status access bytes in
-    let all : requests_of p.platform i h ≡ made ++ r ∷ more =
-    ap (requests_of p.platform i) (sym (append_nil h)) ∙ (has.asked [] ∙ ap (λ (x : List Entry). made ++ left x) (append_nil h) ∙ ap (λ (x : List Request). made ++ x) first) in
-    let asked : slice_get (requests_of p.platform i h) r.seq ≡ Some r = ap (λ (rs : List Request). slice_get rs r.seq) all ∙ slice_get-after made r more r.seq number in
-    let fresh : has_answer i.number r.seq h ≡ false = has.fresh r.seq (omega arith) in
     let legal : IsLegalEntry p.platform (last_store p.platform h) e.object e.what =
     subst (λ (o : Option MemoryRow). IsAnswer o (last_store p.platform h route.memory) way access status got) (sym memory)
     (subst (λ (b : List ℕ). IsAnswer (Some row) b way access status got) bytes_are (refl, refl)) in
     record {
       numbered = IsNumberedFrom-push 0 h e kept.numbered (omega arith);
       legal = IsLegalFrom-push p.platform (opening_store p.platform) h e kept.legal legal;
-      scripts = record {
-        replies = AtEach-push _ h e kept.scripts.replies (of_request p h e _ i r mine asked (entry_replies p.platform i r route (route_of p.platform i r.address) e.what r.asked 0 asks leads way status got));
-        ways = AtEach-push _ h e kept.scripts.ways (of_request p h e _ i r mine asked (entry_way i.row.style r.asked access status got blocking asks));
-        order = AtEach-push _ h e kept.scripts.order (of_request p h e _ i r mine asked (in_order p.platform i h made more r blocking all has.settled fresh later));
-        places = AtEach-push _ h e kept.scripts.places tt;
-      };
-      times = AtEach-push _ h e kept.times (of_request p h e _ i r mine asked (subst (λ (x : Style). HasTime x (access_time p.platform i r (way_of r.asked)) (access_time p.platform i r (way_of r.asked))) (sym blocking) refl));
+      scripts = RunsScripts-push p i h made more left r route next row.traits bytes (length h) kept.scripts;
+      times = HasDecoupledTimes-push p i h made more left r route next row.traits bytes (length h) kept.times;
     }

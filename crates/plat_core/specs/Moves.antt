@@ -14,7 +14,7 @@ use Rattle.plat_core.specs.declared.run.Stop.TheVariants as stop
 use Rattle.plat_core.specs.Access.{IsRouteOf}
 use Rattle.plat_core.specs.Board.{IsWaiting}
 use Rattle.plat_core.specs.Come.{HasCome}
-use Rattle.plat_core.specs.Left.{asks_left}
+use Rattle.plat_core.specs.Left.{asks_left, bytes_left}
 use Rattle.plat_core.specs.Run.{Run, IsAccessOp, address_of}
 
 -- a run of one of the plan's initiators, whose script is served
@@ -54,8 +54,9 @@ Advances p old new members stop.Ended = HasEnded new × (new.round ≡ new.syncs
 pub record Keeps (p : Plan) (old new : Run) : Type 0 where
   pub initiator : new.engine.initiator ≡ old.engine.initiator
   pub come : (i : Initiator) (h : List Entry) → slice_get (initiators_of p) old.engine.initiator ≡ Some i → HasCome p.platform i h old → HasCome p.platform i h new
-  -- it asks for no more than was left
-  pub left : (i : Initiator) (m : ℕ) → asks_left p i m new.engine ≤ asks_left p i m old.engine
+  -- it has all left to ask for that was left, and logs no more bytes
+  pub left : (i : Initiator) (m : ℕ) → slice_get (initiators_of p) old.engine.initiator ≡ Some i → asks_left p i m new.engine ≡ asks_left p i m old.engine
+  pub bytes : (i : Initiator) (m : ℕ) → bytes_left p i m new.engine ≤ bytes_left p i m old.engine
 
 -- moves without an entry and before the end
 pub record HasAdvanced (p : Plan) (old new : Run) : Type 0 where

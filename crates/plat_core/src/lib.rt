@@ -4,6 +4,7 @@
 //!   that add no entry, up to and with its next entry.
 //! - `run_schedule` steps the actors that a schedule names. In `run_in_order` each initiator in order goes
 //!   on until it has finished or waits for one that is behind.
+//! - `InitiatorRun` is one initiator under way, for those who run initiators side by side.
 //! - `Outcome` is how a run ended; `MergedLog` makes one history of the logs of its objects.
 //!
 //! Promises: after every step the history is sound for the plan, and has one more entry, which is the
@@ -20,6 +21,7 @@ mod merge;
 mod outcome;
 mod run;
 mod schedule;
+mod served;
 mod steps;
 #[cfg(test)]
 mod tests;
@@ -27,5 +29,7 @@ mod turn;
 
 pub use merge::MergedLog;
 pub use outcome::Outcome;
+pub use run::{InitiatorRun, Move, NextAccess};
 pub use schedule::{run_in_order, run_schedule};
+pub use served::look_through;
 pub use steps::{Core, CoreStep};

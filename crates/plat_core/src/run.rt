@@ -1,10 +1,11 @@
 // The run of one initiator: its script, its local time, and what is counted of it.
-ghost use Rattle.std.specs.Prelude.{◌≡◌, ◌+◌, ◌*◌, ◌^◌, ◌<◌, ◌≤◌, [], ◌∷◌, ◌++◌, length, IfOk, OnOk, OnErr, true, false};
+ghost use Rattle.std.specs.Prelude.{◌≡◌, ◌+◌, ◌*◌, ◌^◌, ◌<◌, ◌≤◌, [], ◌∷◌, ◌++◌, length, IfOk, OnOk, OnErr, IsTrue, ◌↔◌, ◌≢◌, true, false};
 ghost use Rattle.tlm_model.specs.Plan.{Plan as PlanView};
 ghost use Rattle.region_object.specs.Call.{IsFit};
 ghost use Rattle.region_object.specs.Region.{entry_of as entry_of_call};
 ghost use Rattle.traffic_script.specs.Proper.{AreProper};
 ghost use Rattle.script_engine.specs.State.{is_fenced, length_of, op_of, payload_of};
+ghost use Rattle.quantum_keeper.specs.Keeper.{current_time};
 ghost use Rattle.time_board.specs.Rounds.{AreClose};
 ghost use Rattle.plat_core.specs.Access.{HasLog, bytes_back, call_at, entry_made, payload_back};
 ghost use Rattle.plat_core.specs.Board.{HasGoneOn, IsInRound, IsLet, SyncsOnce};
@@ -23,9 +24,10 @@ use time_board::{Advance, Rounds};
 use tlm_types::{Command, EndOf, Memory, Ps, RefusedItem, RefusedList, TxnId, Way};
 use traffic_script::Script;
 
-/// A blocking initiator under way.
+/// A blocking initiator under way. Contracts see where its script stands, its local time, its syncs, the
+/// round that it has been let into, and what had no route.
 #[derive(Drop)]
-pub(crate) struct InitiatorRun {
+pub struct InitiatorRun {
     engine: Engine,
     keeper: QuantumKeeper,
     syncs: u64,
@@ -51,13 +53,13 @@ impl Model for InitiatorRun {
 
 /// An access or a debug read that is next, with its route.
 #[derive(Drop)]
-pub(crate) struct NextAccess {
+pub struct NextAccess {
     pub op: Op,
     pub route: Route,
 }
 
 /// What a run does next.
-pub(crate) enum Move {
+pub enum Move {
     /// It has moved on, and made no entry.
     Went,
     /// The access or debug read that is next has a route.
@@ -89,15 +91,65 @@ impl InitiatorRun {
         ensures proper { IfOk result (λ _. AreProper script) }
     {
         let room = 2 * script.len() as u32;
+        InitiatorRun::of_engine(alloc, Engine::new(initiator, script), quantum, room)
+    }
+
+    /// A run of an engine that has its whole script before it, with room for so many refusals. Its only
+    /// error is want of memory.
+    pub fn of_engine(
+        alloc: Global,
+        engine: Engine,
+        quantum: Ps,
+        room: u32,
+    ) -> Result<InitiatorRun, Memory>
+        ensures { IfOk result (λ run. run ≡ record (begun 0 [] quantum room) { engine = engine }) }
+    {
         let refused = RefusedList::with_room(alloc, room)?;
         Ok(InitiatorRun {
-            engine: Engine::new(initiator, script),
+            engine,
             keeper: QuantumKeeper::new(quantum),
             syncs: 0,
             round: 0,
             refused,
             finished: false,
         })
+    }
+
+    /// The number of its initiator.
+    pub fn initiator(&self) -> u32
+        ensures { result ≡ self.now.engine.initiator }
+    {
+        self.engine.initiator()
+    }
+
+    /// Its local time, in picoseconds.
+    pub fn current(&self) -> Ps
+        ensures { result ≡ current_time self.now.keeper }
+    {
+        self.keeper.current()
+    }
+
+    /// Whether its last sync has not been let through yet.
+    pub fn owes_sync(&self) -> bool
+        ensures { IsTrue result ↔ (self.now.round ≢ self.now.syncs) }
+    {
+        self.round != self.syncs
+    }
+
+    /// Its last sync has been let through.
+    pub fn pass_sync(&mut self)
+        ensures { self.new ≡ record self.old { round = self.old.syncs } }
+    {
+        self.round = self.syncs;
+    }
+
+    /// Makes it the payload of the access or debug read that is next, with the address that the
+    /// initiator gives.
+    pub fn fill_next(&self, payload: &mut Payload)
+        requires { payload.old.room ≡ 4096 }
+        ensures { payload.new ≡ payload_of self.now.engine 4096 }
+    {
+        self.engine.fill(payload);
     }
 
     /// How far it has come.
@@ -122,7 +174,7 @@ impl InitiatorRun {
     /// Makes all moves without an entry, up to the next access or debug read that has a route, which is
     /// answered, to the end of the script, or to a sync that the rounds don't let through. The pace is
     /// told of each access and debug read.
-    pub fn advance<P: Pace>(
+    pub(crate) fn advance<P: Pace>(
         &mut self,
         plan: &Plan,
         rounds: &mut Rounds,
@@ -174,8 +226,9 @@ impl InitiatorRun {
         }
     }
 
-    // One move without an entry, if one is next.
-    fn step<P: Pace>(&mut self, plan: &Plan, payload: &mut Payload, pace: &P) -> Move
+    /// One move without an entry, if one is next, with the sync that is due after it. The pace is told of
+    /// an access or a debug read.
+    pub fn step<P: Pace>(&mut self, plan: &Plan, payload: &mut Payload, pace: &P) -> Move
         requires way { IsUnderWay plan.now self.old }
         requires roomy { payload.old.room ≡ 4096 }
         ensures keeps { Keeps plan.now self.old self.new }
@@ -253,8 +306,8 @@ impl InitiatorRun {
         self.finish_operation(op);
     }
 
-    // Goes on after an access or a debug read, whose payload has come back.
-    fn complete(&mut self, op: &Op, latency: Ps, payload: &Payload)
+    /// Goes on after an access or a debug read, whose payload has come back, with the sync that is due.
+    pub fn complete(&mut self, op: &Op, latency: Ps, payload: &Payload)
         requires next { op.now ≡ op_of self.old.engine }
         requires access { IsAccessOp op.now }
         requires whole { is_fenced op.now ≡ true → length payload.now.bytes ≡ length_of op.now }
@@ -291,7 +344,7 @@ impl InitiatorRun {
 
     /// Makes the access or debug read that is next at its memory, as the entry at this position, and goes
     /// on after it. Its only error is want of memory, after which nothing has changed but the payload.
-    pub fn access(
+    pub(crate) fn access(
         &mut self,
         region: &mut Region,
         next: &NextAccess,
@@ -333,7 +386,8 @@ impl InitiatorRun {
         payload.set_address(route.offset);
     }
 
-    fn next_txn(&self) -> TxnId
+    /// The transaction that is next.
+    pub fn next_txn(&self) -> TxnId
         ensures { result ≡ record { initiator = self.now.engine.initiator; seq = self.now.engine.seq } }
     {
         TxnId {

@@ -100,7 +100,7 @@ loaded_is_told o command name ample (as_script next) =
     subst (λ (n : List ℕ). IsTold o.files.holds n) (sym next.named) (next_script o command next.number next.row ample next.next).told
 
 pub is_complete : IsComplete
-is_complete Done o command answer ample = tt
+is_complete (Done sealed) o command answer ample = tt
 is_complete Usage o command answer ample = absurd answer.1
 is_complete (PlatformRefused code table key) o command answer ample = by_cause answer.1
   where
@@ -109,6 +109,6 @@ is_complete (PlatformRefused code table key) o command answer ample = by_cause a
     by_cause (by_its_counts refused) = no_refused_plan o command _ ample refused
 is_complete (ScriptRefused initiator name line code) o command answer ample = absurd (no_refused_script o command initiator name line ample _ answer.1)
 is_complete (ReadFault name) o command answer ample = absurd (ample.loads name answer.1.1)
-is_complete WriteFault o command answer ample = absurd (ample.writes answer.1)
+is_complete (WriteFault sealed) o command answer ample = absurd (ample.writes answer.1)
 is_complete NoMemory o command answer ample = tt
 is_complete (TooLong name) o command answer ample = absurd (not_long o.files.holds name (loaded_is_told o command name ample answer.1.0) answer.1.1)

@@ -44,23 +44,23 @@ rose_earlier : (a b c : ℕ) → a ≤ b → Rose b c → Rose a c
 rose_earlier a b c below rose = omega (arith, below, rose)
 
 pub LoadFault-earlier : (h0 h : Holding) (f0 f f1 : List ℕ → ℕ) (name : List ℕ) (exit : Exit) → ((x : List ℕ) → h x ≡ h0 x) → ((x : List ℕ) → f0 x ≤ f x) → IsLoadFault (files h f f1) name exit → IsLoadFault (files h0 f0 f1) name exit
-LoadFault-earlier h0 h f0 f f1 name Done same later fault = fault
+LoadFault-earlier h0 h f0 f f1 name (Done sealed) same later fault = fault
 LoadFault-earlier h0 h f0 f f1 name Usage same later fault = fault
 LoadFault-earlier h0 h f0 f f1 name (PlatformRefused code table key) same later fault = fault
 LoadFault-earlier h0 h f0 f f1 name (ScriptRefused i m line code) same later fault = fault
 LoadFault-earlier h0 h f0 f f1 name (ReadFault m) same later fault = (fault.0, rose_earlier (f0 name) (f name) (f1 name) (later name) fault.1)
-LoadFault-earlier h0 h f0 f f1 name WriteFault same later fault = fault
+LoadFault-earlier h0 h f0 f f1 name (WriteFault sealed) same later fault = fault
 LoadFault-earlier h0 h f0 f f1 name NoMemory same later fault = fault
 LoadFault-earlier h0 h f0 f f1 name (TooLong m) same later fault = (fault.0, subst (λ (g : Holding). IsLong g name) (held h0 h same) fault.1)
 
 ScriptFault-earlier : (h0 h : Holding) (f0 f f1 : List ℕ → ℕ) (n : ℕ) (row : InitiatorRow) (exit : Exit) → ((x : List ℕ) → h x ≡ h0 x) → ((x : List ℕ) → f0 x ≤ f x) → IsScriptFault (files h f f1) n row exit → IsScriptFault (files h0 f0 f1) n row exit
 ScriptFault-earlier h0 h f0 f f1 n row (ScriptRefused i m line code) same later fault =
     (fault.0, fault.1, subst (λ (g : Holding). IsTextRefused g row.script (record { line = line; code = code })) (held h0 h same) fault.2)
-ScriptFault-earlier h0 h f0 f f1 n row Done same later fault = fault
+ScriptFault-earlier h0 h f0 f f1 n row (Done sealed) same later fault = fault
 ScriptFault-earlier h0 h f0 f f1 n row Usage same later fault = fault
 ScriptFault-earlier h0 h f0 f f1 n row (PlatformRefused code table key) same later fault = fault
 ScriptFault-earlier h0 h f0 f f1 n row (ReadFault m) same later fault = LoadFault-earlier h0 h f0 f f1 row.script (ReadFault m) same later fault
-ScriptFault-earlier h0 h f0 f f1 n row WriteFault same later fault = fault
+ScriptFault-earlier h0 h f0 f f1 n row (WriteFault sealed) same later fault = fault
 ScriptFault-earlier h0 h f0 f f1 n row NoMemory same later fault = fault
 ScriptFault-earlier h0 h f0 f f1 n row (TooLong m) same later fault = LoadFault-earlier h0 h f0 f f1 row.script (TooLong m) same later fault
 

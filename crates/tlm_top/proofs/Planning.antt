@@ -67,14 +67,14 @@ scripts_refused f command p exit platform first = by_exit exit first.fault
     next = record { platform = p; asked = platform; scripts = first.scripts; read = first.read; next = first.next }
 
     by_exit : (e : Exit) → IsScriptFault f first.number first.row e → IsRefusal e f command
-    by_exit Done fault = fault
+    by_exit (Done sealed) fault = fault
     by_exit Usage fault = fault
     by_exit (PlatformRefused code table key) fault = absurd fault
     by_exit (ScriptRefused initiator name line code) fault =
         record { row = first.row; first = subst (λ (n : ℕ). IsNext f.holds command n first.row) (sym fault.0) next; named = fault.1; text = fault.2.text; loaded = fault.2.loaded; refused = fault.2.refused }
     by_exit (ReadFault name) fault =
         (as_script (record { number = first.number; row = first.row; next = next; named = fault.0 }), subst (λ (x : List ℕ). HasFailed f x) (sym fault.0) fault.1)
-    by_exit WriteFault fault = fault
+    by_exit (WriteFault sealed) fault = fault
     by_exit NoMemory fault = tt
     by_exit (TooLong name) fault =
         (as_script (record { number = first.number; row = first.row; next = next; named = fault.0 }), subst (λ (x : List ℕ). IsLong f.holds x) (sym fault.0) fault.1)
@@ -87,12 +87,12 @@ refusal-earlier h0 h f0 f f1 command exit same later is = subst (λ (g : Holding
     rose a b c below r = omega (arith, below, r)
 
     by_exit : (e : Exit) → IsRefusal e (files h f f1) command → IsRefusal e (files h f0 f1) command
-    by_exit Done is = is
+    by_exit (Done sealed) is = is
     by_exit Usage is = is
     by_exit (PlatformRefused code table key) is = is
     by_exit (ScriptRefused initiator name line code) is = is
     by_exit (ReadFault name) is = (is.0, rose (f0 name) (f name) (f1 name) (later name) is.1)
-    by_exit WriteFault is = is
+    by_exit (WriteFault sealed) is = is
     by_exit NoMemory is = tt
     by_exit (TooLong name) is = is
 

@@ -33,7 +33,7 @@ pub record IsAmple (o : Outside) (command : CommandLine) : Type 0 where
 
 -- the report was written, or memory was refused
 abbrev pub IsServed : Exit → Type 0
-IsServed Done = Unit {0}
+IsServed (Done sealed) = Unit {0}
 IsServed NoMemory = Unit {0}
 IsServed exit = ⊥
 

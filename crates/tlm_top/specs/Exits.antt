@@ -10,12 +10,12 @@ use Rattle.tlm_top.specs.declared.exit.Exit.{Exit}
 use Rattle.tlm_top.specs.declared.exit.Exit.TheVariants.{Done, Usage, PlatformRefused, ScriptRefused, ReadFault, WriteFault, NoMemory, TooLong}
 
 abbrev pub number_of : Exit → ℕ
-number_of Done = 0
+number_of (Done sealed) = 0
 number_of Usage = 1
 number_of (PlatformRefused code table key) = 2
 number_of (ScriptRefused initiator name line code) = 3
 number_of (ReadFault name) = 4
-number_of WriteFault = 5
+number_of (WriteFault sealed) = 5
 number_of NoMemory = 6
 number_of (TooLong name) = 7
 
@@ -26,12 +26,12 @@ exit_of Memory = NoMemory
 
 -- the pieces of the line that `diag` is told
 abbrev pub told_pieces : Exit → List (List ℕ)
-told_pieces Done = []
+told_pieces (Done sealed) = []
 told_pieces Usage = codes "usage: tlmrun run FILE [--workers N] [--trace all|accesses|none]; tlmrun gen SEED [--workers N]; tlmrun script FILE\n" ∷ []
 told_pieces (PlatformRefused code table key) = codes "platform refused: " ∷ platform_word code ∷ codes " " ∷ table ∷ codes " " ∷ key ∷ codes "\n" ∷ []
 told_pieces (ScriptRefused initiator name line code) = codes "script refused: " ∷ name ∷ codes " line " ∷ decimal line ∷ codes ": " ∷ script_word code ∷ codes "\n" ∷ []
 told_pieces (ReadFault name) = codes "read fault: " ∷ name ∷ codes "\n" ∷ []
-told_pieces WriteFault = codes "write fault\n" ∷ []
+told_pieces (WriteFault sealed) = codes "write fault\n" ∷ []
 told_pieces NoMemory = codes "no memory\n" ∷ []
 told_pieces (TooLong name) = codes "too long: " ∷ name ∷ codes "\n" ∷ []
 
@@ -41,10 +41,10 @@ told_of exit = concat (told_pieces exit)
 
 -- the answer after the sink's rest was written, or wasn't: only a report that was done is spoilt by that
 abbrev pub answer_after : Bool → Exit → Exit
-answer_after false Done = WriteFault
+answer_after false (Done sealed) = WriteFault sealed
 answer_after written exit = exit
 
 -- what `diag` is told then
 abbrev pub told_after : Bool → Exit → List ℕ
-told_after false Done = told_of WriteFault
+told_after false (Done sealed) = told_of (WriteFault sealed)
 told_after written exit = []

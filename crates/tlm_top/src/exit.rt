@@ -1,6 +1,7 @@
 // The answers of the top call.
 ghost use Rattle.std.specs.Prelude.{◌≡◌};
 
+use plat_run::PlatSealed;
 use platform_file::{PlatformCode, PlatformFault};
 use std::alloc::{AllocError, AllocFailed};
 use tlm_types::{Memory, Text};
@@ -11,8 +12,8 @@ use traffic_script::ScriptCode;
 /// counted limits; the run; the writing. Want of memory may come at any of these places.
 #[derive(Drop)]
 pub enum Exit {
-    /// The report was written whole.
-    Done,
+    /// The report of this history, which was closed, was written whole.
+    Done(PlatSealed),
     /// The words are no command line.
     Usage,
     /// The platform is refused: its file, its shape or its counted limits, with the code, and the
@@ -33,8 +34,8 @@ pub enum Exit {
     ReadFault {
         name: Text,
     },
-    /// The sink failed, and has taken a prefix of the report.
-    WriteFault,
+    /// The sink failed, and has taken a prefix of the report of this history.
+    WriteFault(PlatSealed),
     /// Memory was refused, and nothing was written.
     NoMemory,
     /// The file of this name has more than 4,194,304 bytes.
@@ -52,12 +53,12 @@ impl Exit {
         ensures { result ≡ number_of self.now }
     {
         match self {
-            Exit::Done => 0,
+            Exit::Done(_) => 0,
             Exit::Usage => 1,
             Exit::PlatformRefused { .. } => 2,
             Exit::ScriptRefused { .. } => 3,
             Exit::ReadFault { .. } => 4,
-            Exit::WriteFault => 5,
+            Exit::WriteFault(_) => 5,
             Exit::NoMemory => 6,
             Exit::TooLong { .. } => 7,
         }

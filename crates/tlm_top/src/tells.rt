@@ -86,7 +86,7 @@ fn write_told<S: Sink>(sink: &mut S, exit: &Exit) -> Result<(), Failed>
 {
     let mut number = Buffer::new();
     match exit {
-        Exit::Done => Ok(()),
+        Exit::Done(_) => Ok(()),
         Exit::Usage => write(sink, USAGE),
         Exit::PlatformRefused { code, table, key } => write_refused(
             sink,
@@ -112,7 +112,7 @@ fn write_told<S: Sink>(sink: &mut S, exit: &Exit) -> Result<(), Failed>
             code.name(),
         ),
         Exit::ReadFault { name } => write_named(sink, b"read fault: ", name.as_text()),
-        Exit::WriteFault => write(sink, b"write fault\n"),
+        Exit::WriteFault(_) => write(sink, b"write fault\n"),
         Exit::NoMemory => write(sink, b"no memory\n"),
         Exit::TooLong { name } => write_named(sink, b"too long: ", name.as_text()),
     }
@@ -142,8 +142,8 @@ pub fn after_flush<D: Sink>(exit: Exit, is_flushed: bool, diag: &mut D) -> Exit
     }) (told_after is_flushed exit) }
 {
     match exit {
-        Exit::Done if !is_flushed => {
-            let fault = Exit::WriteFault;
+        Exit::Done(sealed) if !is_flushed => {
+            let fault = Exit::WriteFault(sealed);
             tell(diag, &fault);
             fault
         }

@@ -241,18 +241,20 @@ const EXAMPLE_CPU: &str =
 
 const EXAMPLE_DSP: &str = "repeat 3\nadd 0x20 1\nend\ncopy 0x10 0x40 4\n";
 
+// By one worker the initiators take turns, an access each. An `add` is two accesses, so both processors
+// read the counter before either has written what it made of it.
 const EXAMPLE_REPORT: &str = "tlm-report 1
 0 5 cpu.0 ram blocking write 0x10 4 be=- sw=4 deadbeef ok
-1 30 cpu.1 ram blocking read 0x10 4 be=- sw=4 deadbeef ok
-2 60 cpu.3 rom blocking write 0x100 1 be=- sw=1 00 command_error
-3 95 cpu.4 ram blocking read 0x20 4 be=- sw=4 00000000 ok
-4 120 cpu.5 ram blocking write 0x20 4 be=- sw=4 01000000 ok
-5 5 dsp.0 ram blocking read 0x20 4 be=- sw=4 01000000 ok
-6 30 dsp.1 ram blocking write 0x20 4 be=- sw=4 02000000 ok
-7 55 dsp.2 ram blocking read 0x20 4 be=- sw=4 02000000 ok
-8 80 dsp.3 ram blocking write 0x20 4 be=- sw=4 03000000 ok
-9 105 dsp.4 ram blocking read 0x20 4 be=- sw=4 03000000 ok
-10 130 dsp.5 ram blocking write 0x20 4 be=- sw=4 04000000 ok
+1 5 dsp.0 ram blocking read 0x20 4 be=- sw=4 00000000 ok
+2 30 cpu.1 ram blocking read 0x10 4 be=- sw=4 deadbeef ok
+3 30 dsp.1 ram blocking write 0x20 4 be=- sw=4 01000000 ok
+4 55 dsp.2 ram blocking read 0x20 4 be=- sw=4 01000000 ok
+5 60 cpu.3 rom blocking write 0x100 1 be=- sw=1 00 command_error
+6 80 dsp.3 ram blocking write 0x20 4 be=- sw=4 02000000 ok
+7 95 cpu.4 ram blocking read 0x20 4 be=- sw=4 02000000 ok
+8 105 dsp.4 ram blocking read 0x20 4 be=- sw=4 02000000 ok
+9 120 cpu.5 ram blocking write 0x20 4 be=- sw=4 03000000 ok
+10 130 dsp.5 ram blocking write 0x20 4 be=- sw=4 03000000 ok
 11 155 dsp.6 ram blocking read 0x10 4 be=- sw=4 deadbeef ok
 12 180 dsp.7 ram blocking write 0x40 4 be=- sw=4 deadbeef ok
 initiator cpu blocking transactions 6 refused 1 syncs 1 end 140
@@ -260,7 +262,7 @@ refused cpu.2 50 read 0x1800
 initiator dsp blocking transactions 8 refused 0 syncs 2 end 200
 memory ram 4096
 00000010 deadbeef000000000000000000000000
-00000020 04000000000000000000000000000000
+00000020 03000000000000000000000000000000
 00000040 deadbeef000000000000000000000000
 memory rom 512
 end 13
@@ -273,7 +275,7 @@ fn the_bus_example_is_run(rt: HostRuntime) -> Result<(), Fail> {
         ("examples/bus/cpu.txt", EXAMPLE_CPU.as_bytes()),
         ("examples/bus/dsp.txt", EXAMPLE_DSP.as_bytes()),
     ];
-    let came = calm(&rt, &["run", "bus.toml"], &files)?;
+    let came = calm(&rt, &["run", "bus.toml", "--workers", "1"], &files)?;
     check(&rt, &came, 0, EXAMPLE_REPORT, "");
     Ok(())
 }
@@ -345,6 +347,26 @@ fn shared(alloc: Global, initiators: u32, script: &str) -> Result<String, AllocE
     Ok(file)
 }
 
+// What stands at 0 by the last write of a report, and by its memory, as little-endian numbers.
+fn counters(report: &str) -> Option<(u32, u32)> {
+    let mut written = "";
+    let mut kept = "";
+    for line in report.lines() {
+        if line.contains(" write ") {
+            written = line.split(' ').nth(10)?;
+        }
+        if let Some(row) = line.strip_prefix("00000000 ") {
+            kept = row.get(..8)?;
+        }
+    }
+    Some((little_endian(written)?, little_endian(kept)?))
+}
+
+fn little_endian(digits: &str) -> Option<u32> {
+    let number = u32::from_str_radix(digits, 16).ok()?;
+    Some(number.swap_bytes())
+}
+
 #[test]
 fn two_initiators_raise_one_counter(rt: HostRuntime) -> Result<(), Fail> {
     let file = shared(rt.alloc(), 2, "a.txt")?;
@@ -352,10 +374,18 @@ fn two_initiators_raise_one_counter(rt: HostRuntime) -> Result<(), Fail> {
         ("p.toml", file.as_bytes()),
         ("a.txt", b"repeat 1000\nadd 0x0 1\nend\n".as_slice()),
     ];
-    let came = calm(&rt, &["run", "p.toml", "--trace", "none"], &files)?;
-    let report =
-        "tlm-report 1\ninitiator i0 blocking transactions 2000 refused 0 syncs 0 end 20000\ninitiator i1 blocking transactions 2000 refused 0 syncs 0 end 20000\nmemory ram 4096\n00000000 d0070000000000000000000000000000\nend 4000\n";
-    check(&rt, &came, 0, report, "");
+    let came = calm(&rt, &["run", "p.toml", "--workers", "2"], &files)?;
+    assert_eq!(rt; came.number, 0);
+    let report = str::from_utf8(came.out.bytes())?;
+    let ends =
+        "\ninitiator i0 blocking transactions 2000 refused 0 syncs 0 end 20000\ninitiator i1 blocking transactions 2000 refused 0 syncs 0 end 20000\nmemory ram 4096\n00000000 ";
+    assert!(rt; report.contains(ends));
+    assert!(rt; report.ends_with("\nend 4000\n"));
+    assert_eq!(rt; report.lines().count(), 4006);
+    let (written, kept) = counters(report).ok_or("no counter")?;
+    assert_eq!(rt; written, kept);
+    assert!(rt; 2 <= kept);
+    assert!(rt; kept <= 2000);
     Ok(())
 }
 

@@ -4,7 +4,7 @@ ghost use Rattle.command_words.specs.Commands.{line_of, texts};
 ghost use Rattle.trace_print.specs.Writes.{Tells};
 ghost use Rattle.tlm_top.specs.Files.{IsPlan, IsPlatform};
 ghost use Rattle.route_plan.specs.Valid.{IsValid};
-ghost use Rattle.tlm_top.specs.Headline.{IsAnswer, IsExplained, IsRefusal, IsSunk, trace_of};
+ghost use Rattle.tlm_top.specs.Headline.{IsAnswer, IsExplained, IsRefusal, IsRunOf, trace_of, workers_of};
 ghost use Rattle.tlm_top.specs.Exits.{told_of};
 
 use crate::built_in::built_in;
@@ -13,7 +13,7 @@ use crate::loads::{load_platform, load_scripts};
 use crate::tells::tell;
 use command_words::{Command, read_words};
 use outside::{Library, Pace, Sink};
-use plat_core::run_in_order;
+use plat_run::run_plan;
 use route_plan::{Plan, Shape, plan};
 use std::alloc::Global;
 use std::sync::Wait;
@@ -63,29 +63,45 @@ fn trace_of(command: Command) -> Trace
     }
 }
 
-// Runs a plan, and writes the report of the run.
-fn run_plan<K: Sink, P: Pace>(
+fn workers_of(command: Command) -> u32
+    ensures { result ≡ workers_of (line_of command.entry) }
+{
+    match command {
+        Command::Run { workers, .. } => workers,
+        Command::Script { .. } => 1,
+    }
+}
+
+// Runs a plan by so many workers, and writes the report of the run.
+fn run_and_print<R: Threads + Wait + Sync, K: Sink, P: Pace + Sync>(
+    rt: &R,
     alloc: Global,
     plan: &Plan,
+    workers: u32,
     trace: Trace,
     out: &mut K,
     pace: &P,
-) -> Result<(), PrintFault>
-    ensures { IsSunk result (record {
+) -> Exit
+    ensures { IsRunOf result (record {
       taken_before = K.taken out.old;
       taken_after = K.taken out.new;
       faults_before = K.faults out.old;
       faults_after = K.faults out.new;
     }) trace plan.now }
 {
-    let Ok(outcome) = run_in_order(alloc, plan, pace) else {
-        return Err(PrintFault::Memory);
+    let Ok((outcome, sealed)) = run_plan(rt, alloc, plan, workers, pace) else {
+        return Exit::NoMemory;
     };
-    print(alloc, out, plan, &outcome, trace)
+    match print(alloc, out, plan, &outcome, trace) {
+        Ok(()) => Exit::Done(sealed),
+        Err(PrintFault::Failed) => Exit::WriteFault(sealed),
+        Err(PrintFault::Memory) => Exit::NoMemory,
+    }
 }
 
 // What comes of a command line.
-fn answer<L: Library, K: Sink, P: Pace>(
+fn answer<R: Threads + Wait + Sync, L: Library, K: Sink, P: Pace + Sync>(
+    rt: &R,
     alloc: Global,
     command: Command,
     lib: &mut L,
@@ -110,15 +126,13 @@ fn answer<L: Library, K: Sink, P: Pace>(
         Ok(plan) => plan,
         Err(exit) => return exit,
     };
-    match run_plan(alloc, &plan, trace_of(command), out, pace) {
-        Ok(()) => Exit::Done,
-        Err(PrintFault::Failed) => Exit::WriteFault,
-        Err(PrintFault::Memory) => Exit::NoMemory,
-    }
+    let workers = workers_of(command);
+    run_and_print(rt, alloc, &plan, workers, trace_of(command), out, pace)
 }
 
 // The answer, before `diag` is told of it.
-fn explain<L: Library, K: Sink, P: Pace>(
+fn explain<R: Threads + Wait + Sync, L: Library, K: Sink, P: Pace + Sync>(
+    rt: &R,
     alloc: Global,
     words: &[String],
     lib: &mut L,
@@ -140,18 +154,18 @@ fn explain<L: Library, K: Sink, P: Pace>(
     }) (texts words.now) }
 {
     match read_words(alloc, words) {
-        Ok(Some(command)) => answer(alloc, command, lib, out, pace),
+        Ok(Some(command)) => answer(rt, alloc, command, lib, out, pace),
         Ok(None) => Exit::Usage,
         Err(Memory) => Exit::NoMemory,
     }
 }
 
 /// Does what the words ask for: `run FILE` loads a platform and the scripts of its initiators, `script
-/// FILE` a script for the built-in platform; it runs them, initiator by initiator, and writes the
-/// report of the run to `out`. `diag` is told of every answer but Done by one line; a fault of `diag`
-/// changes no answer. Nothing is kept between calls.
+/// FILE` a script for the built-in platform; it runs them by as many workers as the words say, a script
+/// by one, and writes the report of the run to `out`. `diag` is told of every answer but Done by one
+/// line; a fault of `diag` changes no answer. Nothing is kept between calls.
 pub fn run<R: Threads + Wait + Sync, L: Library, K: Sink, D: Sink, P: Pace + Sync>(
-    _rt: &R,
+    rt: &R,
     alloc: Global,
     words: &[String],
     lib: &mut L,
@@ -179,7 +193,7 @@ pub fn run<R: Threads + Wait + Sync, L: Library, K: Sink, D: Sink, P: Pace + Syn
       faults_after = D.faults diag.new;
     }) (told_of result) }
 {
-    let exit = explain(alloc, words, lib, out, pace);
+    let exit = explain(rt, alloc, words, lib, out, pace);
     tell(diag, &exit);
     exit
 }

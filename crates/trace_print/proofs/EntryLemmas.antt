@@ -3,7 +3,7 @@ use Rattle.std.proofs.Common.{◌≡◌, ℕ, zero, suc, ◌+◌, ◌<◌, List,
 use Rattle.std.specs.Prelude.{codes, is_some, option_and_then, slice_get, if◌then◌else◌}
 use Rattle.std.specs.Fmt.{decimal}
 use Rattle.std.specs.List.{join_with_byte}
-use Rattle.std.proofs.lemmas.List.{map-append}
+use Rattle.std.proofs.lemmas.List.{append-nil, map-append}
 use Rattle.std.proofs.lemmas.List.Elements.{filter-append}
 use Rattle.tlm_types.specs.declared.words.Command.TheVariants.{Read, Write, Ignore}
 use Rattle.tlm_types.specs.declared.words.TlmSync.{TlmSync}
@@ -67,6 +67,14 @@ entry-line-is p t n o (Call f a) = line-is p t n o (phase_word f) (sync_words a)
 entry-line-is p t n o (Take s) = line-is p t n o (codes "take") (decimal s ∷ [])
 entry-line-is p t n o (Acquire s) = line-is p t n o (codes "acquire") (decimal s ∷ [])
 entry-line-is p t n o (Release s f) = line-is p t n o (codes "release") (decimal s ∷ freed_words f)
+
+-- the same, where the space stands in front of what happened, and nothing else is put
+pub entry-text-is : (p t n o : List ℕ) (w : What) →
+    join_with_byte 32 (p ∷ t ∷ n ∷ o ∷ []) ++ ((codes " " ++ line_of (what_words w)) ++ []) ≡ line_of (p ∷ t ∷ n ∷ o ∷ what_words w)
+entry-text-is p t n o w =
+    let front = join_with_byte 32 (p ∷ t ∷ n ∷ o ∷ []) in
+    ap (λ (l : List ℕ). front ++ l) (append-nil (codes " " ++ line_of (what_words w)))
+    ∙ (sym (append_assoc front (codes " ") (line_of (what_words w))) ∙ entry-line-is p t n o w)
 
 -- the words of a call
 pub call-words : (w : List ℕ) (a : TlmSync) → w ++ (codes " " ++ join_with_byte 32 (sync_words a)) ≡ join_with_byte 32 (w ∷ sync_words a)

@@ -1,4 +1,5 @@
 pub mod Writing
+pub mod Adding
 pub mod Putting
 pub mod Texts
 pub mod HopLemmas
@@ -8,6 +9,7 @@ pub mod StoreLemmas
 pub mod ReportLemmas
 pub mod TextLemmas
 pub mod WordLemmas
+pub mod HexLemmas
 pub mod SplitLemmas
 pub mod SameWords
 pub mod SameEntries

@@ -1,10 +1,11 @@
 -- One thing put into a line after another.
-use Rattle.std.proofs.Common.{◌≡◌, ℕ, ◌+◌, ◌≤◌, List, [], ◌++◌, length, take, Bool, true, false, refl, ap, sym, subst, ◌∙◌, arith, append_assoc, length-append, length-take-le}
+use Rattle.std.proofs.Common.{◌≡◌, ℕ, ◌+◌, ◌≤◌, List, [], ◌++◌, length, take, Bool, true, false, refl, ap, sym, subst, ◌∙◌, arith, append_assoc, length-append, Option}
 use Rattle.std.proofs.Math.Seq.{take-append-add}
 use Rattle.std.proofs.lemmas.List.{take-append-le, append-nil}
 use Rattle.outside.specs.Causes.{Rose}
 use Rattle.outside.specs.Pieces.{TakesPrefix}
-use Rattle.trace_print.specs.Putting.{Page, Moves, Puts}
+use Rattle.trace_print.specs.LineView.{LineView}
+use Rattle.trace_print.specs.Putting.{Page, Moves, Puts, page}
 use Rattle.trace_print.proofs.Writing.{takes-more, takes-nothing}
 
 -- what has gone, and what is put after it
@@ -66,14 +67,11 @@ puts-waiting a b x failed taken faults waiting = record {
   later = omega (arith, faults);
 }
 
--- what waits, where the first of some bytes were copied behind it
-pub waits-first : (len count : ℕ) (old bytes rest : List ℕ) → len ≤ length old → count ≤ length bytes → take (len + count) (take len old ++ bytes ++ rest) ≡ take len old ++ take count bytes
-waits-first len count old bytes rest within few =
-    let size : length (take len old) ≡ len = length-take-le len old within in
-    let fits : len + count ≤ length (take len old ++ bytes) = omega (arith, length-append (take len old) bytes) in
-    take-append-le (len + count) (take len old ++ bytes) rest fits
-    ∙ (ap (λ (n : ℕ). take (n + count) (take len old ++ bytes)) (sym size)
-    ∙ take-append-add (take len old) bytes count)
+-- what waits in the line, with a text that was written behind it
+pub puts-adds : (taken : Option (List ℕ)) (faults : ℕ) (v : LineView) (failed : Bool) (old new kept x : List ℕ) (len end : ℕ) → take len old ≡ v.waiting → failed ≡ v.failed → kept ≡ new →
+    take end new ≡ take len old ++ x → Puts (page taken faults v) (page taken faults (record { waiting = take end kept; failed = failed })) x
+puts-adds taken faults v failed old new kept x len end waited same k holds =
+    puts-waiting _ _ x same refl refl (ap (take end) k ∙ (holds ∙ ap (λ (l : List ℕ). l ++ x) waited))
 
 -- what came of a report that failed, where nothing waited before
 pub printed-part : (a b : Page) (x : List ℕ) → a.failed ≡ false → b.failed ≡ true → a.waiting ≡ [] → Puts a b x → TakesPrefix a.taken b.taken x × Rose a.faults b.faults

@@ -11,17 +11,19 @@ last-of-4 a b c z = simp append_assoc
 pub last-of-5 : (a b c d z : List ℕ) → a ++ (b ++ (c ++ (d ++ z))) ≡ (a ++ (b ++ (c ++ d))) ++ z
 last-of-5 a b c d z = simp append_assoc
 
-pub last-of-8 : (a b c d e f g z : List ℕ) → a ++ (b ++ (c ++ (d ++ (e ++ (f ++ (g ++ z)))))) ≡ (a ++ (b ++ (c ++ (d ++ (e ++ (f ++ g)))))) ++ z
-last-of-8 a b c d e f g z = simp append_assoc
+-- the words of an access, from the space before them to the end of the line
+pub access-line : (w sp c o l be d sw n x s nl : List ℕ) →
+    ((sp ++ ((w ++ sp) ++ ((c ++ sp) ++ (o ++ (sp ++ (l ++ (sp ++ be))))))) ++ (d ++ ((sp ++ sw) ++ (n ++ sp)))) ++ (x ++ (sp ++ (s ++ nl)))
+    ≡ sp ++ ((w ++ (sp ++ (c ++ (sp ++ (o ++ (sp ++ (l ++ (sp ++ ((be ++ d) ++ (sp ++ ((sw ++ n) ++ (sp ++ (x ++ (sp ++ s)))))))))))))) ++ nl)
+access-line w sp c o l be d sw n x s nl = simp append_assoc
 
-pub last-of-9 : (a b c d e f g h z : List ℕ) → a ++ (b ++ (c ++ (d ++ (e ++ (f ++ (g ++ (h ++ z))))))) ≡ (a ++ (b ++ (c ++ (d ++ (e ++ (f ++ (g ++ h))))))) ++ z
-last-of-9 a b c d e f g h z = simp append_assoc
+-- the words of an entry up to its object
+pub head-words : (p t n o sp : List ℕ) → ((p ++ sp) ++ (t ++ sp)) ++ ((n ++ sp) ++ o) ≡ p ++ (sp ++ (t ++ (sp ++ (n ++ (sp ++ o)))))
+head-words p t n o sp = simp append_assoc
 
--- the words of an access after its length
-pub access-tail : (w sp c o l be d sw n x s : List ℕ) →
-    (w ++ (sp ++ (c ++ (sp ++ (o ++ (sp ++ l)))))) ++ ((sp ++ be) ++ (d ++ ((sp ++ sw) ++ (n ++ (sp ++ (x ++ (sp ++ s)))))))
-    ≡ w ++ (sp ++ (c ++ (sp ++ (o ++ (sp ++ (l ++ (sp ++ ((be ++ d) ++ (sp ++ ((sw ++ n) ++ (sp ++ (x ++ (sp ++ s)))))))))))))
-access-tail w sp c o l be d sw n x s = simp append_assoc
+-- the words of a refused request, where a space stands behind one of them
+pub refused-words : (w q sp t c a nl : List ℕ) → w ++ ((q ++ sp) ++ (t ++ (sp ++ (c ++ (sp ++ (a ++ nl)))))) ≡ (w ++ (q ++ (sp ++ (t ++ (sp ++ (c ++ (sp ++ a))))))) ++ nl
+refused-words w q sp t c a nl = simp append_assoc
 
 -- the words of a grant
 pub granted-words : (word g sp r k : List ℕ) → (word ++ g) ++ (sp ++ (r ++ (sp ++ k))) ≡ word ++ (g ++ (sp ++ (r ++ (sp ++ k))))

@@ -1,5 +1,6 @@
 pub mod LineView
 pub mod Writes
+pub mod Pieces
 pub mod Putting
 pub mod Told
 pub mod Hops

@@ -33,7 +33,6 @@ fn put_refused<K: Sink>(out: &mut K, line: &mut Line, name: &str, item: RefusedI
 {
     put(out, line, b"refused ");
     put_seq(out, line, name, item.seq);
-    put(out, line, b" ");
     put_number(out, line, item.time);
     put(out, line, b" ");
     put_refused_command(out, line, item);

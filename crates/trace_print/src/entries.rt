@@ -5,25 +5,25 @@ ghost use Rattle.std.specs.List.{join_with_byte};
 ghost use Rattle.tlm_types.specs.declared.entry.Entry.{Entry};
 ghost use Rattle.tlm_types.specs.declared.entry.What.TheVariants.{Granted, Call};
 ghost use Rattle.tlm_types.specs.Log.{facts_of, read_at};
-ghost use Rattle.tlm_model.specs.Report.{command_word, entry_words, is_access, status_word, traced, txn_word, way_word, what_words};
-ghost use Rattle.tlm_model.specs.Text.{address_word, data_word, line_of};
+ghost use Rattle.tlm_model.specs.Report.{entry_words, is_access, traced, txn_word, what_words};
+ghost use Rattle.tlm_model.specs.Text.{data_word, line_of};
 ghost use Rattle.trace_print.specs.Hops.{ends_at, object_word_by};
+ghost use Rattle.trace_print.specs.Pieces.{asked_text, width_text};
 ghost use Rattle.trace_print.specs.Putting.{Puts, page};
 ghost use Rattle.trace_print.specs.Told.{access_words, shown_at, text_of};
 
-use crate::line::{Line, end_line, put};
+use crate::line::{Line, flush, put, put_piece};
 use crate::names::{ends_at, put_object, put_txn};
-use crate::words::{
-    kind_text, phase_text, put_address, put_command, put_data, put_number, put_range, put_status,
-    put_sync, put_text, put_way,
-};
+use crate::pieces::Piece;
+use crate::words::{kind_text, phase_text, put_data, put_number, put_range, put_sync, put_text};
 use outside::Sink;
 use plat_core::MergedLog;
 use route_plan::{HopEnds, Plan};
 use tlm_model::{Platform, Trace};
 use tlm_types::{Command, Facts, Head, Kind, Log, Phase, TlmSync, What};
 
-// The position, the time, the transaction and the object of an entry, each with a space after it.
+// The position, the time, the transaction and the object of an entry.
+#[inline(always)]
 fn put_head<K: Sink>(
     out: &mut K,
     line: &mut Line,
@@ -34,49 +34,44 @@ fn put_head<K: Sink>(
     ensures { Puts (page (K.taken out.old) (K.faults out.old) line.old)
         (page (K.taken out.new) (K.faults out.new) line.new)
         (join_with_byte 32 (decimal head.position ∷ decimal head.time ∷ txn_word platform.now head.txn
-        ∷ object_word_by platform.now head.object ends ∷ []) ++ codes " ") }
+        ∷ object_word_by platform.now head.object ends ∷ [])) }
 {
-    put_number(out, line, head.position);
-    put(out, line, b" ");
-    put_number(out, line, head.time);
-    put(out, line, b" ");
+    let times = Piece::Times {
+        position: head.position,
+        time: head.time,
+    };
+    put_piece(out, line, times);
     put_txn(out, line, platform, head.txn);
-    put(out, line, b" ");
     put_object(out, line, platform, head.object, ends);
-    put(out, line, b" ");
 }
 
-// The way of an access, and what it asked for, up to its length.
-fn put_asked<K: Sink>(out: &mut K, line: &mut Line, facts: Facts)
+// What an access asked for with its enables and its width, between two spaces.
+#[inline(always)]
+fn put_asked<K: Sink>(out: &mut K, line: &mut Line, facts: Facts, enables: &[u8])
     ensures { Puts (page (K.taken out.old) (K.faults out.old) line.old)
         (page (K.taken out.new) (K.faults out.new) line.new)
-        (join_with_byte 32 (way_word facts.way ∷ command_word facts.command ∷ address_word facts.offset
-        ∷ decimal facts.length ∷ [])) }
+        (asked_text facts ++ (data_word enables.now ++ width_text facts.width)) }
 {
-    put_way(out, line, facts.way);
-    put(out, line, b" ");
-    put_command(out, line, facts.command);
-    put(out, line, b" ");
-    put_address(out, line, facts.offset);
-    put(out, line, b" ");
-    put_number(out, line, facts.length);
+    if enables.is_empty() {
+        put_piece(out, line, Piece::Unmasked(facts));
+    } else {
+        put_piece(out, line, Piece::Asked(facts));
+        put_data(out, line, enables);
+        put_piece(out, line, Piece::Width(facts.width));
+    }
 }
 
-// What an access was, from its plain parts, its enables, and the bytes that its line shows.
+// What an access was, from its plain parts, its enables, and the bytes that its line shows, after a
+// space and with the end of the line.
+#[inline(always)]
 fn put_access<K: Sink>(out: &mut K, line: &mut Line, facts: Facts, enables: &[u8], shown: &[u8])
     ensures { Puts (page (K.taken out.old) (K.faults out.old) line.old)
         (page (K.taken out.new) (K.faults out.new) line.new)
-        (join_with_byte 32 (access_words facts enables.now shown.now)) }
+        (codes " " ++ line_of (access_words facts enables.now shown.now)) }
 {
-    put_asked(out, line, facts);
-    put(out, line, b" be=");
-    put_data(out, line, enables);
-    put(out, line, b" sw=");
-    put_number(out, line, facts.width);
-    put(out, line, b" ");
+    put_asked(out, line, facts, enables);
     put_data(out, line, shown);
-    put(out, line, b" ");
-    put_status(out, line, facts.status);
+    put_piece(out, line, Piece::Status(facts.status));
 }
 
 // The bytes that the line of an access shows.
@@ -153,18 +148,30 @@ fn put_event<K: Sink>(out: &mut K, line: &mut Line, what: &What)
     }
 }
 
-// What happened at this place of the log.
+// What happened, where it is no access, after a space and with the end of the line.
+fn put_told<K: Sink>(out: &mut K, line: &mut Line, what: &What)
+    requires { is_access what.now ≡ false }
+    ensures { Puts (page (K.taken out.old) (K.faults out.old) line.old)
+        (page (K.taken out.new) (K.faults out.new) line.new) (codes " " ++ line_of (what_words what.now)) }
+{
+    put(out, line, b" ");
+    put_event(out, line, what);
+    put(out, line, b"\n");
+}
+
+// What happened at this place of the log, after a space and with the end of the line.
+#[inline(always)]
 fn put_what<K: Sink>(out: &mut K, line: &mut Line, log: &Log, index: u64)
     requires { index < length log.now.entries }
     ensures { (e : Entry) → slice_get log.now.entries index ≡ Some e →
         Puts (page (K.taken out.old) (K.faults out.old) line.old)
-        (page (K.taken out.new) (K.faults out.new) line.new) (join_with_byte 32 (what_words e.what)) }
+        (page (K.taken out.new) (K.faults out.new) line.new) (codes " " ++ line_of (what_words e.what)) }
 {
     if let Some(facts) = log.facts(index) {
         let shown = shown(log, index, facts.command);
         put_access(out, line, facts, log.enables(index), shown);
     } else if let Some(what) = log.what(index) {
-        put_event(out, line, &what);
+        put_told(out, line, &what);
     }
 }
 
@@ -184,7 +191,7 @@ pub fn put_entry<K: Sink>(
 {
     put_head(out, line, platform, log.head(index), ends);
     put_what(out, line, log, index);
-    end_line(out, line);
+    flush(out, line);
 }
 
 /// The trace shows the entry at this place.

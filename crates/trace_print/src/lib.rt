@@ -26,6 +26,7 @@ pub mod laws;
 mod line;
 mod memories;
 mod names;
+mod pieces;
 #[cfg(test)]
 mod tests;
 mod words;

@@ -1,14 +1,20 @@
 // The line that is made for a sink.
-ghost use Rattle.std.specs.Prelude.{◌≡◌, ◌+◌, ◌≤◌, ◌∷◌, [], ◌++◌, false, drop, length, take, IfOk};
+ghost use Rattle.std.specs.Prelude.{◌≡◌, ◌+◌, ◌≤◌, ◌∷◌, [], false, length, IfOk};
+ghost use Rattle.tlm_model.specs.Text.{hex_of};
+ghost use Rattle.trace_print.specs.Pieces.{piece_text};
 ghost use Rattle.trace_print.specs.Putting.{Puts, page};
 
+use crate::pieces::{PIECE_MAX, Piece, write_data, write_piece, write_word};
 use outside::Sink;
 use std::alloc::{AllocError, Global};
 use std::marker::Model;
 
 // The longest line of a run: an access of 4,096 bytes with as many enables, two digits each, and 512 more
-// bytes for its numbers, names and words.
+// bytes for its numbers, names and words, and for a piece behind them.
 const ROOM: usize = 16896;
+
+/// How many bytes are put as digits at once.
+pub const CHUNK: usize = PIECE_MAX / 2;
 
 /// A line that is made for a sink, and whether a write to the sink has failed. After a failure nothing
 /// more is written.
@@ -87,30 +93,37 @@ fn put_through<K: Sink>(out: &mut K, line: &mut Line, bytes: &[u8])
     write_through(out, line, bytes);
 }
 
-// Copies a piece into these bytes, from a place on.
+// Writes what waits, where there is no room for a piece behind it.
 #[inline(always)]
-fn copy_at(bytes: &mut [u8], start: usize, piece: &[u8])
-    requires { start + length piece.now ≤ length bytes.old }
-    ensures { bytes.new ≡ take start bytes.old ++ piece.now ++ drop (start + length piece.now) bytes.old }
+fn make_room<K: Sink>(out: &mut K, line: &mut Line)
+    ensures puts { Puts (page (K.taken out.old) (K.faults out.old) line.old)
+        (page (K.taken out.new) (K.faults out.new) line.new) [] }
+    ensures roomy { length line.new.waiting + 128 ≤ 16896 }
 {
-    let end = start + piece.len();
-    bytes[start..end].copy_from_slice(piece);
+    if line.len > ROOM - PIECE_MAX {
+        flush(out, line);
+    }
 }
 
-/// Puts the first `count` of these bytes into the line. All of them are copied: where it is known how
-/// many they are, that takes less than a copy of as many as are put.
+/// Puts a piece.
+// The kind of the piece is known where this is inlined.
 #[inline(always)]
-pub fn put_first<K: Sink>(out: &mut K, line: &mut Line, bytes: &[u8], count: usize)
-    requires { count ≤ length bytes.now }
+pub fn put_piece<K: Sink>(out: &mut K, line: &mut Line, piece: Piece)
     ensures { Puts (page (K.taken out.old) (K.faults out.old) line.old)
-        (page (K.taken out.new) (K.faults out.new) line.new) (take count bytes.now) }
+        (page (K.taken out.new) (K.faults out.new) line.new) (piece_text piece) }
 {
-    if bytes.len() <= ROOM && line.len <= ROOM - bytes.len() {
-        copy_at(&mut line.bytes, line.len, bytes);
-        line.len += count;
-        return;
-    }
-    put_through(out, line, &bytes[..count]);
+    make_room(out, line);
+    line.len = write_piece(&mut line.bytes, line.len, piece);
+}
+
+/// Puts each of at most 64 bytes as two digits.
+pub fn put_chunk<K: Sink>(out: &mut K, line: &mut Line, source: &[u8])
+    requires { length source.now ≤ 64 }
+    ensures { Puts (page (K.taken out.old) (K.faults out.old) line.old)
+        (page (K.taken out.new) (K.faults out.new) line.new) (hex_of source.now) }
+{
+    make_room(out, line);
+    line.len = write_data(&mut line.bytes, line.len, source);
 }
 
 /// Puts these bytes into the line. It has room for each line of a run; a line that grows past it is
@@ -121,7 +134,11 @@ pub fn put<K: Sink>(out: &mut K, line: &mut Line, bytes: &[u8])
     ensures { Puts (page (K.taken out.old) (K.faults out.old) line.old)
         (page (K.taken out.new) (K.faults out.new) line.new) bytes.now }
 {
-    put_first(out, line, bytes, bytes.len());
+    if bytes.len() <= ROOM && line.len <= ROOM - bytes.len() {
+        line.len = write_word(&mut line.bytes, line.len, bytes);
+        return;
+    }
+    put_through(out, line, bytes);
 }
 
 /// Ends the line with a line feed, and writes it.

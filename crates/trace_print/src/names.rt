@@ -1,11 +1,12 @@
 // Names of a platform's components, as the report has them.
-ghost use Rattle.std.specs.Prelude.{◌≡◌, slice_get};
+ghost use Rattle.std.specs.Prelude.{◌≡◌, ◌++◌, codes, slice_get};
 ghost use Rattle.tlm_model.specs.Report.{initiator_name, memory_name, name_of_router, seq_word, target_name, txn_word};
 ghost use Rattle.trace_print.specs.Hops.{ends_at, hop_word_of, object_word_by, up_name};
 ghost use Rattle.trace_print.specs.Putting.{Puts, page};
 
-use crate::line::{Line, put};
-use crate::words::{put_number, put_text};
+use crate::line::{Line, put, put_piece};
+use crate::pieces::Piece;
+use crate::words::put_text;
 use outside::Sink;
 use route_plan::{HopEnds, Plan, Up};
 use tlm_model::{Platform, Target};
@@ -66,20 +67,19 @@ fn put_ends<K: Sink>(out: &mut K, line: &mut Line, platform: &Platform, ends: Ho
     put_text(out, line, target_name(platform, ends.down));
 }
 
-/// Puts the name of a transaction: that of its initiator, and its number.
+/// Puts the name of a transaction, that of its initiator and its number, and a space.
 pub fn put_seq<K: Sink>(out: &mut K, line: &mut Line, name: &str, seq: u64)
     ensures { Puts (page (K.taken out.old) (K.faults out.old) line.old)
-        (page (K.taken out.new) (K.faults out.new) line.new) (seq_word name.now seq) }
+        (page (K.taken out.new) (K.faults out.new) line.new) (seq_word name.now seq ++ codes " ") }
 {
     put_text(out, line, name);
-    put(out, line, b".");
-    put_number(out, line, seq);
+    put_piece(out, line, Piece::Seq(seq));
 }
 
-/// Puts the name of a transaction of a platform.
+/// Puts the name of a transaction of a platform, and a space.
 pub fn put_txn<K: Sink>(out: &mut K, line: &mut Line, platform: &Platform, txn: TxnId)
     ensures { Puts (page (K.taken out.old) (K.faults out.old) line.old)
-        (page (K.taken out.new) (K.faults out.new) line.new) (txn_word platform.now txn) }
+        (page (K.taken out.new) (K.faults out.new) line.new) (txn_word platform.now txn ++ codes " ") }
 {
     put_seq(out, line, initiator_name(platform, txn.initiator), txn.seq);
 }

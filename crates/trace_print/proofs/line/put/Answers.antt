@@ -1,7 +1,14 @@
-use Rattle.std.proofs.Common.{length, arith}
-use Rattle.std.proofs.lemmas.List.{take_all}
-use Rattle.trace_print.proofs.Putting.{puts-as}
+use Rattle.std.proofs.Common.{◌≡◌, ap, arith}
+use Rattle.std.proofs.lemmas.List.{with_items_is}
+use Rattle.std.specs.Vec.{with_items}
+use Rattle.trace_print.specs.LineView.{LineView}
+use Rattle.trace_print.proofs.Putting.{puts-adds}
 use Rattle.trace_print.proofs.line.put.Goals as goal
 
-pub returns : goal.returns
-returns g c = puts-as _ _ _ _ c.put_first.ensures (take_all (length c.args.bytes.now) c.args.bytes.now (omega arith))
+pub returns-then-line-bytes : goal.returns-then-line-bytes
+returns-then-line-bytes g c =
+    let l = c.line.inside in
+    let after = c.write_word-line-inside.new.bytes in
+    let kept : (with_items l.bytes after).items ≡ after = with_items_is l.bytes after (omega (arith, c.write_word-line-inside.auto.bytes, c.deref_mut.ensures.len)) in
+    let holds = rw c.deref_mut.ensures.value at c.write_word-line-inside.ensures.holds in
+    puts-adds _ _ _ _ _ _ _ _ _ _ (ap (λ (v : LineView). v.waiting) c.line.view_is) (ap (λ (v : LineView). v.failed) c.line.view_is) kept holds

@@ -1,0 +1,81 @@
+// The building of nets.
+ghost use Rattle.std.specs.Prelude.{◌≡◌, ◌+◌, ◌<◌, [], All, IfOk, length};
+ghost use Rattle.plat_build.specs.Kept.{all_waiting, AreFreshFrom, IsBlank};
+
+use crate::kept::Kept;
+use crate::law::{PlatHistory, PlatNote, PlatSeat, TlmLaw};
+use crate::memories::make_memories;
+use crate::net::Net;
+use crate::objects::notes_of;
+use crate::opened::Opened;
+use crate::wallets::empty_wallets;
+use route_plan::Plan;
+use shared_object::Naming;
+use std::alloc::{AllocError, Global};
+use tlm_types::Memory;
+
+/// What is built for a plan.
+#[derive(Drop)]
+pub struct Built<N: Naming<Plan, TlmLaw>> {
+    /// What threads share.
+    pub net: Net<N>,
+    /// What waits to be handed out.
+    pub kept: Kept<N>,
+    /// The seats of the hops and pools, in order, which aren't built.
+    pub seats: Vec<PlatSeat>,
+}
+
+// So many notes of a note that stands for as many.
+fn make_notes(
+    alloc: Global,
+    history: &PlatHistory,
+    mut note: PlatNote,
+    count: u32,
+) -> Result<Vec<PlatNote>, AllocError>
+    requires some { 0 < count }
+    requires table { note.table ≡ history.now.table }
+    requires fresh { (note.knows.notes ≡ count) × (note.knows.seen ≡ 0) × (note.knows.known ≡ []) × (note.knows.looks ≡ []) }
+    ensures blank { IfOk result (λ notes. All (IsBlank history.now.table) notes.items) }
+    ensures count { IfOk result (λ notes. length notes.items ≡ count) }
+{
+    let mut notes = Vec::new(alloc);
+    for _part in 1..count {
+        notes.push(history.split(&mut note))?;
+    }
+    notes.push(note)?;
+    Ok(notes)
+}
+
+/// Builds the net of a plan: every memory, with room in its log for all that is planned, and for each
+/// initiator an engine, a payload with room for 4,096 bytes, a note and a wallet with its tickets, and a
+/// note for each router and memory. What was opened was opened for this plan, and N names its history
+/// and its tokens. The history is empty. Its only error is want of memory.
+pub fn build<N: Naming<Plan, TlmLaw>>(
+    alloc: Global,
+    opened: Opened,
+    plan: &Plan,
+) -> Result<Built<N>, Memory>
+    requires history { (opened.table ≡ N.table) × (opened.frame ≡ N.frame) }
+    requires tickets { opened.tokens ≡ N.tokens }
+    requires plan { plan.now ≡ N.frame.world }
+    ensures net { IfOk result (λ built. built.net ≡ plan.now) }
+    ensures kept { IfOk result (λ built. built.kept ≡ all_waiting plan.now.platform) }
+    ensures seats { IfOk result (λ built. AreFreshFrom N.table N.frame (length plan.now.platform.memories) built.seats.items) }
+    ensures count { IfOk result (λ built. length built.seats.items + length plan.now.platform.memories ≡ length N.frame.planned) }
+{
+    let _ = plan.platform();
+    let Opened {
+        history,
+        mut seats,
+        note,
+        tickets,
+        mut books,
+    } = opened;
+    let count = notes_of(plan);
+    let mut wallets = empty_wallets(alloc, &tickets, plan, seats.len() as u32)?;
+    let memories = make_memories::<N>(alloc, plan, &tickets, &mut seats, &mut books, &mut wallets)?;
+    let notes = make_notes(alloc, &history, note, count)?;
+    let kept = Kept::new(alloc, plan, notes, wallets)?;
+    let net = Net::of_parts(plan.copy(alloc)?, history, tickets, memories);
+    Ok(Built { net, kept, seats })
+}

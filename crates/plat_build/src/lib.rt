@@ -1,0 +1,33 @@
+//! The net of a platform: its objects under their locks, with their history and their tickets.
+//!
+//! - `Opened` is the history of a plan with the books of its tokens. Its objects are the memories, the
+//!   hops and the pools of four-phase initiators, numbered in this order; hops and pools aren't built.
+//! - `build` makes a `Net` of it, which threads share: the plan, the history, the tokens, and each memory
+//!   with its log. What it makes for the initiators, routers and memories waits in `Kept`.
+//! - `TlmLaw` is the law of the history. It backs every entry.
+//! - `Net::call_memory` makes a call at a memory, and `Net::debug` a debug read along its route.
+//!
+//! Promises: the history is made with what the plan counts, in the world that is the plan; each memory is
+//! built as its row says, and has room for all that is planned. Each initiator gets a wallet with the
+//! tickets that the plan counts for it, which are all that are out. A call adds one entry, by the
+//! definitions, and takes one ticket. `build` is refused for want of memory alone, and no call takes memory.
+#![tactic(auto)]
+
+mod building;
+mod calls;
+mod kept;
+mod law;
+mod memories;
+mod net;
+mod objects;
+mod opened;
+#[cfg(test)]
+mod tests;
+mod wallets;
+
+pub use building::{Built, build};
+pub use calls::Carried;
+pub use kept::{Kept, Start};
+pub use law::{PlatHistory, PlatNote, PlatSeat, SharedMemory, TlmLaw};
+pub use net::{Net, NetParts};
+pub use opened::Opened;

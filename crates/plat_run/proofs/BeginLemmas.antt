@@ -1,0 +1,190 @@
+-- An initiator before its first turn has the tickets for all that its script asks for.
+use Rattle.std.proofs.Common.{◌≡◌, ℕ, zero, suc, ◌+◌, ◌*◌, ◌<◌, ◌≤◌, ◌&&◌, Bool, true, false, cond, List, [], ◌∷◌, ◌++◌, length, set, replicate, Option, Some, None, refl, ap, sym, subst, ◌∙◌, ⊎_elim, arith}
+use Rattle.std.specs.List.{AllByRecursion, flat_map, list_any}
+use Rattle.std.specs.Prelude.{slice_get, sum_by, IsSomeAnd}
+use Rattle.std.proofs.lemmas.Bool.{cases_lt}
+use Rattle.std.proofs.lemmas.List.{get_or_append_left, get_or_push, length_push}
+use Rattle.std.proofs.lemmas.List.Sums.{sum_by-cons}
+use Rattle.atomic_table.specs.Seated.{TableId}
+use Rattle.view_lists.proofs.Members.{has_none}
+use Rattle.one_history.specs.declared.view.View.{View}
+use Rattle.token_book.specs.Purse.{Purse}
+use Rattle.tlm_types.specs.declared.entry.Content.{Content}
+use Rattle.tlm_types.specs.declared.words.ObjectNo.TheVariants.{Memory}
+use Rattle.tlm_model.specs.declared.operation.Operation.{Operation}
+use Rattle.tlm_model.specs.declared.operation.Operation.TheVariants.{Write, Read, Ignore, Debug, Copy, Add, Wait, Sync, Fence, Invalidate}
+use Rattle.tlm_model.specs.declared.platform.InitiatorRow.{InitiatorRow}
+use Rattle.tlm_model.specs.declared.platform.MemoryRow.{MemoryRow}
+use Rattle.tlm_model.specs.declared.platform.Style.{Style}
+use Rattle.tlm_model.specs.declared.platform.Style.TheVariants.{Blocking}
+use Rattle.tlm_model.specs.declared.platform.Target.TheVariants.{Memory as memory_target}
+use Rattle.tlm_model.specs.Plan.{Plan, Initiator, initiators_from, initiators_of}
+use Rattle.generic_payload.specs.Payload.{PayloadView}
+use Rattle.route_plan.specs.Counted.{logged_share_at, logged_share_by, share_at, share_by}
+use Rattle.route_plan.specs.Paths.{has_path, once}
+use Rattle.route_plan.specs.Planned.{AnAccess, ADebugRead, AnInvalidation, asks_in, asks_of, gates_by, invalidates, is_direct, logged_at, logged_share, share_of}
+use Rattle.script_engine.specs.State.{State, begun as begun_engine}
+use Rattle.script_engine.proofs.Steps.{begins}
+use Rattle.run_queue.specs.Queue.{AreNumbered}
+use Rattle.plat_core.specs.Come.{HasCome, IsServed}
+use Rattle.plat_core.specs.Core.{IsServable}
+use Rattle.plat_core.specs.Left.{asked_in, logged_in}
+use Rattle.plat_core.specs.Run.{Run, begun}
+use Rattle.plat_core.proofs.BeginLemmas.{asked_planned, numbers_bound, script_at, syncs_bound}
+use Rattle.plat_core.proofs.CoreLemmas.{blocking_from, initiators_count}
+use Rattle.plat_core.proofs.EndLemmas.{HasCome-begun}
+use Rattle.plat_core.proofs.ListLemmas.{has_element}
+use Rattle.plat_core.proofs.RunLemmas.{initiator_number}
+use Rattle.plat_build.specs.declared.kept.Start.{Start}
+use Rattle.plat_build.specs.Kept.{HasShares, IsStart, Waiting}
+use Rattle.plat_run.specs.Job.{HasTickets, IsInitiator, IsJob}
+
+-- a script that is served invalidates nothing
+never_invalidates : (p : Plan) (i : Initiator) (m : ℕ) (ops : List Operation) → AllByRecursion IsServed ops → list_any (invalidates p i m) (flat_map asks_of ops) ≡ false
+never_invalidates p i m [] served = refl
+never_invalidates p i m (Write a bytes enables width ∷ ops) served = never_invalidates p i m ops served.1
+never_invalidates p i m (Read a n enables width ∷ ops) served = never_invalidates p i m ops served.1
+never_invalidates p i m (Ignore a ∷ ops) served = never_invalidates p i m ops served.1
+never_invalidates p i m (Debug a n ∷ ops) served = never_invalidates p i m ops served.1
+never_invalidates p i m (Copy from to n ∷ ops) served = never_invalidates p i m ops served.1
+never_invalidates p i m (Add a n ∷ ops) served = never_invalidates p i m ops served.1
+never_invalidates p i m (Wait n ∷ ops) served = never_invalidates p i m ops served.1
+never_invalidates p i m (Sync ∷ ops) served = never_invalidates p i m ops served.1
+never_invalidates p i m (Fence ∷ ops) served = never_invalidates p i m ops served.1
+never_invalidates p i m (Invalidate a n ∷ ops) served = absurd served.0
+
+-- a blocking initiator opens and closes no gates
+no_gates : (p : Plan) (i : Initiator) (m : ℕ) (row : Option MemoryRow) → i.row.style ≡ Blocking → AllByRecursion IsServed i.script → gates_by p i m row ≡ 0
+no_gates p i m None blocking served = refl
+no_gates p i m (Some row) blocking served = by_cases row.traits.dmi
+  where
+    direct : once (is_direct i.row.style && has_path p.platform i.row (memory_target m)) ≡ 0
+    direct = ap (λ (style : Style). once (is_direct style && has_path p.platform i.row (memory_target m))) blocking
+
+    closes : once (list_any (invalidates p i m) (asks_in i)) ≡ 0
+    closes = ap once (never_invalidates p i m i.script served)
+
+    by_cases : (b : Bool) → cond b (row.traits.gates * (once (is_direct i.row.style && has_path p.platform i.row (memory_target m)) + once (list_any (invalidates p i m) (asks_in i)))) 0 ≡ 0
+    by_cases true = let a = direct in let b = closes in rw (a, b) (omega arith)
+    by_cases false = refl
+
+-- it may add as many entries as its script asks for
+asks_shared : (p : Plan) (i : Initiator) (m : ℕ) → i.row.style ≡ Blocking → AllByRecursion IsServed i.script → asked_in p i m i.script ≡ share_of p i (Memory m)
+unfolding share_of
+asks_shared p i m blocking served = omega (arith, asked_planned p i m i.script, no_gates p i m (slice_get p.platform.memories m) blocking served)
+
+-- and log as many bytes
+logged_planned : (p : Plan) (i : Initiator) (m : ℕ) (ops : List Operation) → logged_in p i m ops ≡ sum_by (logged_at p i m) (flat_map asks_of ops)
+logged_planned p i m [] = refl
+logged_planned p i m (Write a bytes enables width ∷ ops) = omega (arith, logged_planned p i m ops, sum_by-cons (logged_at p i m) (AnAccess a (length bytes + length enables)) (flat_map asks_of ops))
+logged_planned p i m (Read a n enables width ∷ ops) = omega (arith, logged_planned p i m ops, sum_by-cons (logged_at p i m) (AnAccess a (n + length enables)) (flat_map asks_of ops))
+logged_planned p i m (Ignore a ∷ ops) = omega (arith, logged_planned p i m ops, sum_by-cons (logged_at p i m) (AnAccess a 0) (flat_map asks_of ops))
+logged_planned p i m (Debug a n ∷ ops) = omega (arith, logged_planned p i m ops, sum_by-cons (logged_at p i m) (ADebugRead a n) (flat_map asks_of ops))
+logged_planned p i m (Copy from to n ∷ ops) = omega (arith, logged_planned p i m ops, sum_by-cons (logged_at p i m) (AnAccess to n) (flat_map asks_of ops), sum_by-cons (logged_at p i m) (AnAccess from n) ((AnAccess to n) ∷ flat_map asks_of ops))
+logged_planned p i m (Add a n ∷ ops) = omega (arith, logged_planned p i m ops, sum_by-cons (logged_at p i m) (AnAccess a 4) (flat_map asks_of ops), sum_by-cons (logged_at p i m) (AnAccess a 4) ((AnAccess a 4) ∷ flat_map asks_of ops))
+logged_planned p i m (Wait n ∷ ops) = omega (arith, logged_planned p i m ops)
+logged_planned p i m (Sync ∷ ops) = omega (arith, logged_planned p i m ops)
+logged_planned p i m (Fence ∷ ops) = omega (arith, logged_planned p i m ops)
+logged_planned p i m (Invalidate a n ∷ ops) = omega (arith, logged_planned p i m ops, sum_by-cons (logged_at p i m) (AnInvalidation a) (flat_map asks_of ops))
+
+bytes_shared : (p : Plan) (i : Initiator) (m : ℕ) → logged_in p i m i.script ≡ logged_share p i m
+unfolding logged_share
+bytes_shared p i m = logged_planned p i m i.script
+
+module _ (p : Plan) (servable : IsServable p) (n : ℕ) (i : Initiator) (at : slice_get (initiators_of p) n ≡ Some i) (w : Purse) where
+  tickets_begun : (tokens : TableId) → HasShares tokens p n w → (m : ℕ) → m < length p.platform.memories → HasTickets p i (begun n i.script p.platform.quantum (2 * length i.script)) w [] m
+  tickets_begun tokens shares m below =
+      let blocking = blocking_from 0 n p.platform.initiators p.scripts i servable.blocking at in
+      let script = script_at p servable n i at in
+      let share : share_at p n (Memory m) ≡ share_of p i (Memory m) = ap (share_by p (Memory m)) at in
+      let logged : logged_share_at p n m ≡ logged_share p i m = ap (logged_share_by p m) at in
+      let left = shares.left m below in
+      let bytes = shares.bytes m below in
+      let asks = asks_shared p i m blocking script.served in
+      let logs = bytes_shared p i m in
+      record { left = omega arith; bytes = omega arith; all = omega arith }
+
+  pub initiator_begun : (tokens : TableId) (v : View Content Plan) → HasShares tokens p n w → IsInitiator p (begun n i.script p.platform.quantum (2 * length i.script)) v w
+  initiator_begun tokens v shares =
+      let script = script_at p servable n i at in
+      let number = initiator_number p n i at in
+      record {
+        servable = servable;
+        initiator = i;
+        mine = [];
+        is = at;
+        made = record {
+          rising = tt;
+          known = λ e has. absurd (has_none e has);
+          below = λ e has. absurd (has_none e has);
+          own = λ e has. absurd (has_none e has);
+          come = subst (λ (k : ℕ). HasCome p.platform i [] (begun k i.script p.platform.quantum (2 * length i.script))) number
+              (HasCome-begun begins p.platform i (2 * length i.script) (omega (arith, syncs_bound p.platform i 0 0 i.script, script.few)) (numbers_bound i.script) script.served);
+          keeps = record { scripts = record { replies = tt; ways = tt; order = tt; places = tt }; times = tt };
+          decoupled = tt;
+        };
+        tickets = tickets_begun tokens shares;
+        finished = λ f. cc;
+      }
+
+-- an initiator's script is that of its number
+script_from : (k n : ℕ) (rows : List InitiatorRow) (scripts : List (List Operation)) (i : Initiator) → slice_get (initiators_from k rows scripts) n ≡ Some i → slice_get scripts n ≡ Some i.script
+script_from k n [] scripts i is = cc
+script_from k n (row ∷ rows) [] i is = cc
+script_from k zero (row ∷ rows) (script ∷ scripts) i is =
+    let same : record { number = k; row = row; script = script } ≡ i = cc in
+    ap (λ (x : Initiator). Some x.script) same
+script_from k (suc n) (row ∷ rows) (script ∷ scripts) i is = script_from (k + 1) n rows scripts i is
+
+same_script : (a b : List Operation) → Some a ≡ Some b → a ≡ b
+same_script a b q = cc
+
+-- a job before its first turn
+pub job_begun : (p : Plan) (table tokens : TableId) (n : ℕ) (s : Start) (run : Run) (quantum room : ℕ) (script : List Operation) → IsServable p → n < length p.platform.initiators → IsStart table tokens p n s → slice_get p.scripts n ≡ Some script → quantum ≡ p.platform.quantum → room ≡ 2 * length script
+    → run ≡ record (begun 0 [] quantum room) { engine = s.engine } → IsJob table tokens p run s.payload s.note s.wallet
+job_begun p table tokens n s run quantum room script servable below start at quantum_is room_is run_is =
+    let found = has_element (initiators_of p) n (omega (arith, initiators_count 0 p.platform.initiators p.scripts servable.scripts)) in
+    let i = found.element in
+    let mine : i.script ≡ script = same_script i.script script (sym (script_from 0 n p.platform.initiators p.scripts i found.at) ∙ at) in
+    let engine : s.engine ≡ begun_engine n i.script = subst (λ (o : Option (List Operation)). IsSomeAnd o (λ (x : List Operation). s.engine ≡ begun_engine n x)) at start.engine ∙ ap (begun_engine n) (sym mine) in
+    let first : run ≡ begun n i.script p.platform.quantum (2 * length i.script) =
+    run_is
+    ∙ (ap (λ (q : ℕ). record (begun 0 [] q room) { engine = s.engine }) quantum_is
+    ∙ (ap (λ (k : ℕ). record (begun 0 [] p.platform.quantum k) { engine = s.engine }) (room_is ∙ ap (λ (x : List Operation). 2 * length x) (sym mine))
+    ∙ ap (λ (e : State). record (begun 0 [] p.platform.quantum (2 * length i.script)) { engine = e }) engine)) in
+    record {
+      note_of = start.note.is_note;
+      wallet_of = start.wallet.of;
+      roomy = ap (λ (x : PayloadView). x.room) start.payload;
+      is = subst (λ (r : Run). IsInitiator p r s.note.knows s.wallet) (sym first) (initiator_begun p servable n i found.at s.wallet tokens s.note.knows start.wallet);
+    }
+
+-- all wait at first
+pub all_wait : (n k : ℕ) → k < n → slice_get (replicate n true) k ≡ Some true
+all_wait zero k below = absurd (omega arith)
+all_wait (suc n) zero below = refl
+all_wait (suc n) (suc k) below = all_wait n k (omega arith)
+
+-- those after the one that is handed out still wait
+still_wait : (waiting : List Bool) (n k : ℕ) → n < k → slice_get waiting k ≡ Some true → slice_get (set waiting n false) k ≡ Some true
+still_wait [] n k late at = at
+still_wait (x ∷ waiting) zero zero late at = absurd (omega arith)
+still_wait (x ∷ waiting) zero (suc k) late at = at
+still_wait (x ∷ waiting) (suc n) zero late at = absurd (omega arith)
+still_wait (x ∷ waiting) (suc n) (suc k) late at = still_wait waiting n k (omega arith) at
+
+pub still_wait_in : (old new : Waiting) (n k : ℕ) → new ≡ record old { starts = set old.starts n false } → n + 1 ≤ k → slice_get old.starts k ≡ Some true → slice_get new.starts k ≡ Some true
+still_wait_in old new n k is late at = subst (λ (w : Waiting). slice_get w.starts k ≡ Some true) (sym is) (still_wait old.starts n k (omega arith) at)
+
+-- one more job, with the next number
+pub numbered_more : {J : Type 0} (number_of : J → ℕ) (jobs after : List J) (job : J) → AreNumbered number_of jobs → after ≡ jobs ++ job ∷ [] → number_of job ≡ length jobs → AreNumbered number_of after
+numbered_more {J} number_of jobs after job numbered pushed number = subst (AreNumbered number_of) (sym pushed) (λ k d within.
+    ⊎_elim
+    (λ (before : k < length jobs). ap number_of (get_or_append_left jobs (job ∷ []) d k before) ∙ numbered k d before)
+    (λ (here : length jobs ≤ k).
+    let last : length jobs ≡ k = omega (arith, length_push jobs job) in
+    ap number_of (get_or_push jobs job d k last) ∙ number ∙ last)
+    (cases_lt k (length jobs)))
+
+pub counted_more : {J : Type 0} (jobs after : List J) (job : J) (n : ℕ) → length jobs ≡ n → after ≡ jobs ++ job ∷ [] → length after ≡ n + 1
+counted_more jobs after job n count pushed = ap length pushed ∙ (length_push jobs job ∙ ap (λ (k : ℕ). k + 1) count)

@@ -1,0 +1,63 @@
+// The kinds of jobs.
+ghost use Rattle.std.specs.Prelude.{◌≡◌};
+ghost use Rattle.plat_run.specs.Actors.{is_done, number_of};
+ghost use Rattle.plat_run.specs.Run.{HandsIn};
+
+use crate::initiator::BlockingInitiator;
+use outside::Pace;
+use plat_build::{Net, PlatNote, TlmLaw};
+use plat_core::InitiatorRun;
+use route_plan::Plan;
+use run_queue::Job;
+use shared_object::Naming;
+use std::sync::Wait;
+use time_board::Board;
+
+/// A job of a run.
+#[derive(Drop)]
+pub enum Actor<N: Naming<Plan, TlmLaw>> {
+    Blocking(BlockingInitiator<N>),
+}
+
+impl<N: Naming<Plan, TlmLaw>> Job for Actor<N> {
+    ghost use Rattle.plat_run.specs.Actors.{is_done, number_of};
+
+    ghost number_of = { number_of };
+
+    ghost is_done = { is_done };
+
+    fn number(&self) -> u32 {
+        match self {
+            Actor::Blocking(job) => job.number(),
+        }
+    }
+
+    fn done(&self) -> bool {
+        match self {
+            Actor::Blocking(job) => job.done(),
+        }
+    }
+}
+
+impl<N: Naming<Plan, TlmLaw>> Actor<N> {
+    /// A turn of a job of any kind.
+    pub fn turn<P: Pace, R: Wait>(self, rt: &R, net: &Net<N>, board: &Board, pace: &P) -> Actor<N>
+        ensures { number_of result ≡ number_of self }
+    {
+        match self {
+            Actor::Blocking(job) => Actor::Blocking(job.turn(rt, net, board, pace)),
+        }
+    }
+
+    /// The run of an initiator, and its note.
+    pub fn into_parts(self) -> (InitiatorRun, PlatNote)
+        ensures { HandsIn N.table N.frame.world (number_of self) (is_done self) result.0 result.1 }
+    {
+        match self {
+            Actor::Blocking(job) => {
+                let (run, note, _) = job.into_parts();
+                (run, note)
+            }
+        }
+    }
+}

@@ -1,0 +1,150 @@
+// The run of a net.
+ghost use Rattle.std.specs.Prelude.{◌≡◌, ◌+◌, length, IfOk};
+ghost use Rattle.plat_build.specs.Kept.{all_waiting, AreFreshFrom};
+ghost use Rattle.plat_build.specs.Objects.{frame_of};
+ghost use Rattle.plat_core.specs.Core.{IsServable};
+ghost use Rattle.plat_core.specs.Outcome.{IsWhole};
+ghost use Rattle.plat_run.specs.Entries.{entries_read};
+ghost use Rattle.plat_run.specs.Run.{AreDoneWith, AreFinished, IsCoreRun};
+
+use crate::actor::Actor;
+use crate::begin::begin_jobs;
+use crate::ending::{DoneWith, HandedIn, hand_in, take_apart};
+use crate::workers::work_all;
+use one_history::{Closed, Sealed};
+use outside::Pace;
+use plat_build::{Built, NetParts, Opened, PlatHistory, PlatNote, PlatSeat, TlmLaw, build};
+use plat_core::{MergedLog, Outcome, look_through};
+use route_plan::Plan;
+use run_queue::RunQueue;
+use shared_object::Naming;
+use std::alloc::Global;
+use std::marker::Brand;
+use std::sync::Wait;
+use std::thread::Threads;
+use time_board::Board;
+use tlm_model::Rows;
+use tlm_types::{Content, EndOf, Memory};
+
+/// The history of a run that has ended.
+pub type PlatSealed = Sealed<Content, Plan, TlmLaw>;
+
+/// Runs the initiators of a net that was just built by so many workers, 1 to 16, until all have
+/// finished. Each access and each debug read is told to the pace before it is made, while no lock is
+/// held. The history is good for the plan whatever the workers do in which order, and it is sealed. Its
+/// only error is want of memory, before the first worker starts or after the last one has ended.
+pub fn run<N: Naming<Plan, TlmLaw> + Send + Sync, P: Pace + Sync, R: Threads + Wait + Sync>(
+    rt: &R,
+    alloc: Global,
+    built: Built<N>,
+    workers: u32,
+    pace: &P,
+) -> Result<(Outcome, PlatSealed), Memory>
+    requires frame { N.frame ≡ frame_of built.net }
+    requires kept { built.kept ≡ all_waiting built.net.platform }
+    requires seats { AreFreshFrom N.table N.frame (length built.net.platform.memories) built.seats.items }
+    requires count { length built.seats.items + length built.net.platform.memories ≡ length N.frame.planned }
+    ensures whole { IfOk result (λ r. IsWhole built.net r.0) }
+    ensures core { IfOk result (λ r. IsCoreRun built.net r.0.history.entries) }
+    ensures sealed { IfOk result (λ r. entries_read r.1.entries ≡ r.0.history.entries) }
+    ensures world { IfOk result (λ r. (r.1.table ≡ N.table) × (r.1.world ≡ built.net)) }
+{
+    let Built {
+        net,
+        mut kept,
+        seats,
+    } = built;
+    look_through(net.plan());
+    let jobs = begin_jobs(alloc, &net, &mut kept)?;
+    let count = jobs.len() as u32;
+    let board = Board::new(alloc, count)?;
+    let queue = RunQueue::new(alloc, jobs, count)?;
+    work_all(rt, &net, &board, &queue, workers, pace);
+    let HandedIn { ends, notes } = hand_in(alloc, queue.into_jobs(rt))?;
+    let NetParts {
+        history,
+        tickets: _,
+        memories,
+    } = net.into_parts();
+    let done = take_apart(rt, alloc, memories)?;
+    finish::<N>(alloc, history, ends, notes, done, seats)
+}
+
+/// Builds the net of a plan and runs it. Its only error is want of memory, before the first worker starts
+/// or after the last one has ended.
+pub fn run_plan<P: Pace + Sync, R: Threads + Wait + Sync>(
+    rt: &R,
+    alloc: Global,
+    plan: &Plan,
+    workers: u32,
+    pace: &P,
+) -> Result<(Outcome, PlatSealed), Memory>
+    ensures whole { IfOk result (λ r. IsWhole plan.now r.0) }
+    ensures core { IfOk result (λ r. IsCoreRun plan.now r.0.history.entries) }
+    ensures sealed { IfOk result (λ r. entries_read r.1.entries ≡ r.0.history.entries) }
+    ensures world { IfOk result (λ r. r.1.world ≡ plan.now) }
+{
+    let opened = Opened::new(alloc, plan)?;
+    run_opened::<Brand, P, R>(rt, alloc, plan, opened, workers, pace)
+}
+
+// The same of a history that has been opened. The call picks N.
+fn run_opened<N: Naming<Plan, TlmLaw> + Send + Sync, P: Pace + Sync, R: Threads + Wait + Sync>(
+    rt: &R,
+    alloc: Global,
+    plan: &Plan,
+    opened: Opened,
+    workers: u32,
+    pace: &P,
+) -> Result<(Outcome, PlatSealed), Memory>
+    requires history { (opened.table ≡ N.table) × (opened.frame ≡ N.frame) }
+    requires tickets { opened.tokens ≡ N.tokens }
+    requires frame { N.frame ≡ frame_of plan.now }
+    ensures whole { IfOk result (λ r. IsWhole plan.now r.0) }
+    ensures core { IfOk result (λ r. IsCoreRun plan.now r.0.history.entries) }
+    ensures sealed { IfOk result (λ r. entries_read r.1.entries ≡ r.0.history.entries) }
+    ensures world { IfOk result (λ r. r.1.world ≡ plan.now) }
+{
+    let built = build::<N>(alloc, opened, plan)?;
+    run::<N, P, R>(rt, alloc, built, workers, pace)
+}
+
+// Seals the history, and makes the outcome of what the jobs and the memories have left. Its only error is
+// want of memory.
+fn finish<N: Naming<Plan, TlmLaw>>(
+    alloc: Global,
+    history: PlatHistory,
+    ends: Vec<EndOf>,
+    notes: Vec<PlatNote>,
+    done: DoneWith,
+    mut more: Vec<PlatSeat>,
+) -> Result<(Outcome, PlatSealed), Memory>
+    requires history { (history.table ≡ N.table) × (history.frame ≡ N.frame) }
+    requires frame { N.frame ≡ frame_of N.frame.world }
+    requires servable { IsServable N.frame.world }
+    requires finished { AreFinished N.table N.frame.world (length N.frame.world.platform.initiators) ends.items notes.items }
+    requires done { AreDoneWith N.table N.frame (length N.frame.world.platform.memories) done.logs.items done.stores.items done.seats.items }
+    requires fresh { AreFreshFrom N.table N.frame (length N.frame.world.platform.memories) more.items }
+    requires count { length more.items + length N.frame.world.platform.memories ≡ length N.frame.planned }
+    ensures whole { IfOk result (λ r. IsWhole N.frame.world r.0) }
+    ensures core { IfOk result (λ r. IsCoreRun N.frame.world r.0.history.entries) }
+    ensures sealed { IfOk result (λ r. entries_read r.1.entries ≡ r.0.history.entries) }
+    ensures world { IfOk result (λ r. (r.1.table ≡ N.table) × (r.1.world ≡ N.frame.world)) }
+{
+    let DoneWith {
+        logs,
+        stores,
+        mut seats,
+    } = done;
+    seats.append(&mut more)?;
+    let Closed::Done(sealed) = history.close(seats, notes) else {
+        unreachable!()
+    };
+    let outcome = Outcome {
+        history: MergedLog::of_logs(alloc, logs, sealed.len())?,
+        stores: Rows::from_vec(stores),
+        ends: Rows::from_vec(ends),
+        complete: true,
+    };
+    Ok((outcome, sealed))
+}

@@ -1,0 +1,314 @@
+// Pieces of a line, written at a place of some bytes. Each call answers the place behind what it wrote.
+// The place goes from one write to the next in a register, and digits are written where they stay.
+ghost use Rattle.std.specs.Prelude.{◌≡◌, ◌+◌, ◌*◌, ◌<◌, ◌≤◌, ◌++◌, false, codes, drop, length, take};
+ghost use Rattle.std.specs.Fmt.{decimal, digits, digit_glyph};
+ghost use Rattle.tlm_model.specs.Report.{command_word, status_word, way_word};
+ghost use Rattle.tlm_model.specs.Text.{address_word, hex_of};
+ghost use Rattle.trace_print.specs.Pieces.{Adds, asked_text, piece_text, status_text, times_text, width_text};
+
+use itoa::write_digits;
+use tlm_types::{Command, Facts, Ps, Response, Way};
+
+/// How many bytes a piece takes at most.
+pub const PIECE_MAX: usize = 128;
+
+/// Words of a line that follow one another, with the spaces between them.
+#[derive(Clone, Copy)]
+pub enum Piece {
+    Number(u64),
+    Address(u64),
+    // A position and a time, each with a space after it.
+    Times { position: u64, time: Ps },
+    // The number of a transaction, between a dot and a space.
+    Seq(u64),
+    // What an access asked for, from the space before it to its enables.
+    Asked(Facts),
+    // The same where there are no enables, with the width and a space.
+    Unmasked(Facts),
+    // A width, with the space before its word and one behind it.
+    Width(u64),
+    // A status after a space, with the end of the line.
+    Status(Response),
+}
+
+// Copies a word into these bytes, from a place on.
+#[inline(always)]
+fn copy_at(bytes: &mut [u8], start: usize, word: &[u8])
+    requires { start + length word.now ≤ length bytes.old }
+    ensures { bytes.new ≡ take start bytes.old ++ word.now ++ drop (start + length word.now) bytes.old }
+{
+    let end = start + word.len();
+    bytes[start..end].copy_from_slice(word);
+}
+
+/// Writes a word. Where its length is known, that takes no call.
+#[inline(always)]
+pub fn write_word(bytes: &mut [u8], start: usize, word: &[u8]) -> usize
+    requires { start + length word.now ≤ length bytes.old }
+    ensures { Adds bytes.old bytes.new start result word.now }
+{
+    copy_at(bytes, start, word);
+    start + word.len()
+}
+
+// How many digits a number has that has four at most.
+#[inline(always)]
+fn few_digits(number: u64) -> usize
+    requires { number < 10000 }
+    ensures { result ≡ length (decimal number) }
+{
+    if number < 10 {
+        1
+    } else if number < 100 {
+        2
+    } else if number < 1000 {
+        3
+    } else {
+        4
+    }
+}
+
+// How many digits a number has.
+#[inline(always)]
+fn digit_count(number: u64) -> usize
+    ensures { result ≡ length (decimal number) }
+{
+    let mut rest = number;
+    let mut count = 0;
+    while rest >= 10_000 {
+        rest /= 10_000;
+        count += 4;
+    }
+    count + few_digits(rest)
+}
+
+fn write_number(bytes: &mut [u8], start: usize, number: u64) -> usize
+    requires { start + 20 ≤ length bytes.old }
+    ensures adds { Adds bytes.old bytes.new start result (decimal number) }
+    ensures within { result ≤ start + 20 }
+{
+    let end = start + digit_count(number);
+    write_digits(number, bytes, end);
+    end
+}
+
+// A number and a space.
+#[inline(always)]
+fn write_spaced(bytes: &mut [u8], start: usize, number: u64) -> usize
+    requires { start + 21 ≤ length bytes.old }
+    ensures adds { Adds bytes.old bytes.new start result (decimal number ++ codes " ") }
+    ensures within { result ≤ start + 21 }
+{
+    let end = write_number(bytes, start, number);
+    write_word(bytes, end, b" ")
+}
+
+// A digit below 16, as a lower-case hexadecimal one. Without a table a compiler makes several at once.
+fn glyph(digit: u8) -> u8
+    requires { digit < 16 }
+    ensures { result ≡ digit_glyph false digit }
+{
+    if digit < 10 {
+        b'0' + digit
+    } else {
+        b'a' - 10 + digit
+    }
+}
+
+// Writes each byte as two digits, which are the first of these.
+#[inline(always)]
+fn write_pairs(bytes: &[u8], digits: &mut [u8])
+    requires { 2 * length bytes.now ≤ length digits.old }
+    ensures { take (2 * length bytes.now) digits.new ≡ hex_of bytes.now }
+{
+    for (k, byte) in bytes.iter().enumerate() {
+        digits[2 * k] = glyph(*byte / 16);
+        digits[2 * k + 1] = glyph(*byte % 16);
+    }
+}
+
+/// Writes each byte as two digits.
+#[inline(always)]
+pub fn write_data(bytes: &mut [u8], start: usize, source: &[u8]) -> usize
+    requires { start + 2 * length source.now ≤ length bytes.old }
+    ensures { Adds bytes.old bytes.new start result (hex_of source.now) }
+{
+    write_pairs(source, &mut bytes[start..]);
+    start + 2 * source.len()
+}
+
+// How many hexadecimal digits a number has.
+#[inline(always)]
+fn hex_count(number: u64) -> usize
+    ensures { result ≡ length (digits 16 false number) }
+{
+    let mut rest = number;
+    let mut count = 1;
+    while rest >= 16 {
+        rest /= 16;
+        count += 1;
+    }
+    count
+}
+
+// Writes a number in hexadecimal, without leading zeros, so that its digits end at `end`, and returns
+// where they start.
+#[inline(always)]
+fn write_hex(number: u64, bytes: &mut [u8], end: usize) -> usize
+    requires { (length (digits 16 false number) ≤ end) × (end ≤ length bytes.old) }
+    ensures start { result + length (digits 16 false number) ≡ end }
+    ensures written { drop result bytes.new ≡ digits 16 false number ++ drop end bytes.old }
+    ensures before { take result bytes.new ≡ take result bytes.old }
+{
+    let mut place = end - 1;
+    let mut rest = number;
+    while rest >= 16 {
+        bytes[place] = glyph((rest % 16) as u8);
+        rest /= 16;
+        place -= 1;
+    }
+    bytes[place] = glyph(rest as u8);
+    place
+}
+
+// An address or an offset of an access.
+fn write_address(bytes: &mut [u8], start: usize, address: u64) -> usize
+    requires { start + 18 ≤ length bytes.old }
+    ensures adds { Adds bytes.old bytes.new start result (address_word address) }
+    ensures within { result ≤ start + 18 }
+{
+    let place = write_word(bytes, start, b"0x");
+    let end = place + hex_count(address);
+    write_hex(address, bytes, end);
+    end
+}
+
+// A position and a time, each with a space after it.
+#[inline(always)]
+fn write_times(bytes: &mut [u8], start: usize, position: u64, time: Ps) -> usize
+    requires { start + 42 ≤ length bytes.old }
+    ensures adds { Adds bytes.old bytes.new start result (times_text position time) }
+    ensures within { result ≤ start + 42 }
+{
+    let place = write_spaced(bytes, start, position);
+    write_spaced(bytes, place, time)
+}
+
+// The number of a transaction, between a dot and a space.
+#[inline(always)]
+fn write_seq(bytes: &mut [u8], start: usize, seq: u64) -> usize
+    requires { start + 22 ≤ length bytes.old }
+    ensures adds { Adds bytes.old bytes.new start result (codes "." ++ (decimal seq ++ codes " ")) }
+    ensures within { result ≤ start + 22 }
+{
+    let place = write_word(bytes, start, b".");
+    write_spaced(bytes, place, seq)
+}
+
+// The way of an access, and a space.
+#[inline(always)]
+fn write_way(bytes: &mut [u8], start: usize, way: Way) -> usize
+    requires { start + 28 ≤ length bytes.old }
+    ensures adds { Adds bytes.old bytes.new start result (way_word way ++ codes " ") }
+    ensures within { result ≤ start + 28 }
+{
+    match way {
+        Way::Blocking => write_word(bytes, start, b"blocking "),
+        Way::FourPhase => write_word(bytes, start, b"fourphase "),
+        Way::Direct(gate) => {
+            let place = write_word(bytes, start, b"direct:");
+            write_spaced(bytes, place, gate as u64)
+        }
+        Way::Debug => write_word(bytes, start, b"debug "),
+    }
+}
+
+// A command, and a space.
+#[inline(always)]
+fn write_command(bytes: &mut [u8], start: usize, command: Command) -> usize
+    requires { start + 7 ≤ length bytes.old }
+    ensures adds { Adds bytes.old bytes.new start result (command_word command ++ codes " ") }
+    ensures within { result ≤ start + 7 }
+{
+    match command {
+        Command::Read => write_word(bytes, start, b"read "),
+        Command::Write => write_word(bytes, start, b"write "),
+        Command::Ignore => write_word(bytes, start, b"ignore "),
+    }
+}
+
+// What an access asked for, from the space before it to its enables.
+#[inline(always)]
+fn write_asked(bytes: &mut [u8], start: usize, facts: Facts) -> usize
+    requires { start + 79 ≤ length bytes.old }
+    ensures adds { Adds bytes.old bytes.new start result (asked_text facts) }
+    ensures within { result ≤ start + 79 }
+{
+    let way = write_word(bytes, start, b" ");
+    let command = write_way(bytes, way, facts.way);
+    let offset = write_command(bytes, command, facts.command);
+    let length = write_address(bytes, offset, facts.offset);
+    let number = write_word(bytes, length, b" ");
+    let enables = write_number(bytes, number, facts.length);
+    write_word(bytes, enables, b" be=")
+}
+
+// A width, with the space before its word and one behind it.
+#[inline(always)]
+fn write_width(bytes: &mut [u8], start: usize, width: u64) -> usize
+    requires { start + 25 ≤ length bytes.old }
+    ensures adds { Adds bytes.old bytes.new start result (width_text width) }
+    ensures within { result ≤ start + 25 }
+{
+    let number = write_word(bytes, start, b" sw=");
+    write_spaced(bytes, number, width)
+}
+
+// What an access without enables asked for, with the space behind it.
+#[inline(always)]
+fn write_unmasked(bytes: &mut [u8], start: usize, facts: Facts) -> usize
+    requires { start + 105 ≤ length bytes.old }
+    ensures adds { Adds bytes.old bytes.new start result (asked_text facts ++ (codes "-" ++ width_text facts.width)) }
+    ensures within { result ≤ start + 105 }
+{
+    let enables = write_asked(bytes, start, facts);
+    let width = write_word(bytes, enables, b"-");
+    write_width(bytes, width, facts.width)
+}
+
+// A status after a space, with the end of the line.
+#[inline(always)]
+fn write_status(bytes: &mut [u8], start: usize, status: Response) -> usize
+    requires { start + 19 ≤ length bytes.old }
+    ensures adds { Adds bytes.old bytes.new start result (status_text status) }
+    ensures within { result ≤ start + 19 }
+{
+    match status {
+        Response::Ok => write_word(bytes, start, b" ok\n"),
+        Response::Incomplete => write_word(bytes, start, b" incomplete\n"),
+        Response::GenericError => write_word(bytes, start, b" generic_error\n"),
+        Response::AddressError => write_word(bytes, start, b" address_error\n"),
+        Response::CommandError => write_word(bytes, start, b" command_error\n"),
+        Response::BurstError => write_word(bytes, start, b" burst_error\n"),
+        Response::ByteEnableError => write_word(bytes, start, b" byte_enable_error\n"),
+    }
+}
+
+/// Writes a piece.
+#[inline(always)]
+pub fn write_piece(bytes: &mut [u8], start: usize, piece: Piece) -> usize
+    requires { start + 128 ≤ length bytes.old }
+    ensures adds { Adds bytes.old bytes.new start result (piece_text piece) }
+    ensures within { result ≤ start + 128 }
+{
+    match piece {
+        Piece::Number(number) => write_number(bytes, start, number),
+        Piece::Address(address) => write_address(bytes, start, address),
+        Piece::Times { position, time } => write_times(bytes, start, position, time),
+        Piece::Seq(seq) => write_seq(bytes, start, seq),
+        Piece::Asked(facts) => write_asked(bytes, start, facts),
+        Piece::Unmasked(facts) => write_unmasked(bytes, start, facts),
+        Piece::Width(width) => write_width(bytes, start, width),
+        Piece::Status(status) => write_status(bytes, start, status),
+    }
+}
