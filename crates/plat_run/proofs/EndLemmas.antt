@@ -1,14 +1,13 @@
 -- Where all initiators have finished, the history is good.
-use Rattle.std.proofs.Common.{◌≡◌, ◌⊎◌, ℕ, zero, suc, ◌+◌, ◌<◌, ◌≤◌, ◌==◌, Bool, true, false, cond, nat_eq, List, [], ◌∷◌, length, take, map, Option, Some, None, refl, ap, sym, subst, ◌∙◌, ⊎_elim, arith}
-use Rattle.std.specs.List.{AllByRecursion, filter}
+use Rattle.std.proofs.Common.{◌≡◌, ℕ, zero, suc, ◌+◌, ◌<◌, ◌≤◌, ◌==◌, true, List, [], ◌∷◌, length, take, map, Option, Some, None, refl, ap, sym, subst, ◌∙◌, arith}
+use Rattle.std.specs.List.{AllByRecursion}
 use Rattle.std.specs.Prelude.{slice_get, sum_by}
 use Rattle.std.proofs.lemmas.Bool.{eq-eqb, eqb-true}
 use Rattle.std.proofs.lemmas.List.Sums.{sum_by-append, sum_by-cons}
-use Rattle.view_lists.specs.Lists.{Has, Within}
+use Rattle.view_lists.specs.Lists.{Has}
 use Rattle.view_lists.proofs.Members.{has_later, has_none}
 use Rattle.tlm_types.specs.declared.ends.EndOf.{EndOf}
 use Rattle.tlm_types.specs.declared.entry.Entry.{Entry}
-use Rattle.tlm_types.specs.declared.words.ObjectNo.{ObjectNo}
 use Rattle.tlm_types.specs.declared.words.ObjectNo.TheVariants.{Memory}
 use Rattle.tlm_model.specs.declared.platform.MemoryRow.{MemoryRow}
 use Rattle.tlm_model.specs.History.{IsNumberedFrom, entries_at, is_object}
@@ -22,13 +21,13 @@ use Rattle.joined_runs.specs.Own.{own}
 use Rattle.joined_runs.proofs.CountLemmas.{IsRising-filter, each_owned, has_kept, kept_has, rising_same}
 use Rattle.joined_runs.proofs.OwnLemmas.{own_is_enough}
 use Rattle.joined_runs.proofs.WholeLemmas.{joined_is_good}
-use Rattle.route_plan.specs.Counted.{share_at, share_by}
+use Rattle.route_plan.specs.Counted.{share_by}
 use Rattle.route_plan.specs.Planned.{planned_at, share_of}
 use Rattle.plat_core.specs.Come.{IsEndOf}
 use Rattle.plat_core.specs.Run.{refused_item}
 use Rattle.plat_core.proofs.ListLemmas.{has_element, take_all, take_next, within}
 use Rattle.plat_core.proofs.RunLemmas.{initiator_number}
-use Rattle.plat_run.specs.End.{HasEnded, HasLeft, HaveEnded}
+use Rattle.plat_run.specs.End.{HaveEnded}
 use Rattle.plat_run.specs.Job.{owner_of, position_of}
 
 -- numbered entries rise

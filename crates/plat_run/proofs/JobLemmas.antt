@@ -1,6 +1,5 @@
 -- One more entry of an initiator that runs beside others.
-use Rattle.std.proofs.Common.{◌≡◌, ◌⊎◌, ℕ, suc, ◌+◌, ◌-◌, ◌*◌, ◌<◌, ◌≤◌, ◌==◌, List, [], ◌∷◌, ◌++◌, length, map, Some, true, false, cond, refl, ap, sym, subst, ◌∙◌, ⊎_elim, arith, length-append, append-nil}
-use Rattle.std.specs.List.{AllByRecursion}
+use Rattle.std.proofs.Common.{◌≡◌, ℕ, suc, ◌+◌, ◌-◌, ◌*◌, ◌<◌, ◌≤◌, ◌==◌, List, [], ◌∷◌, ◌++◌, length, map, Some, true, refl, ap, sym, subst, ◌∙◌, ⊎_elim, arith, length-append, append-nil}
 use Rattle.std.specs.Prelude.{slice_get}
 use Rattle.std.proofs.lemmas.Bool.{cases_eq, cond-true, cond-false, eq-eqb, ne_eqb}
 use Rattle.view_lists.specs.Lists.{Has, Within}
@@ -15,7 +14,7 @@ use Rattle.tlm_types.specs.declared.words.ObjectNo.{ObjectNo}
 use Rattle.tlm_types.specs.declared.words.ObjectNo.TheVariants.{Memory}
 use Rattle.tlm_model.specs.declared.platform.Style.TheVariants.{Blocking}
 use Rattle.tlm_model.specs.History.{entries_at}
-use Rattle.tlm_model.specs.Plan.{Plan, Initiator, initiators_of}
+use Rattle.tlm_model.specs.Plan.{Plan, initiators_of}
 use Rattle.tlm_model.proofs.HistoryLemmas.{AllByRecursion-push}
 use Rattle.flow_plan.specs.Plans.{IsDecoupled}
 use Rattle.joined_runs.proofs.CountLemmas.{IsRising-push}

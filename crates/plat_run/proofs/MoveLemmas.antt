@@ -9,7 +9,7 @@ use Rattle.tlm_types.specs.declared.entry.Content.{Content}
 use Rattle.tlm_types.specs.declared.words.ObjectNo.TheVariants.{Memory}
 use Rattle.tlm_model.specs.declared.operation.Operation.{Operation}
 use Rattle.tlm_model.specs.declared.operation.Operation.TheVariants.{Write, Read, Ignore, Debug, Copy, Add, Wait, Sync, Fence, Invalidate}
-use Rattle.tlm_model.specs.Plan.{Plan, Initiator, initiators_of}
+use Rattle.tlm_model.specs.Plan.{Plan, initiators_of}
 use Rattle.generic_payload.specs.Payload.{PayloadView}
 use Rattle.route_plan.specs.Counted.{share_at}
 use Rattle.script_engine.specs.declared.op.Op.TheVariants as next

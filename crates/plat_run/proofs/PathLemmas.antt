@@ -1,7 +1,7 @@
 -- What a run needs for the access or debug read that is next, whose address has a route.
 use Rattle.std.proofs.Common.{◌≡◌, ℕ, ◌*◌, ◌<◌, List, [], ◌∷◌, length, Option, Some, None, refl, ap, sym, subst, ◌∙◌, arith, rules}
 use Rattle.std.specs.Option.{ForSome}
-use Rattle.std.specs.Prelude.{slice_get, MatchOption}
+use Rattle.std.specs.Prelude.{slice_get}
 use Rattle.std.proofs.lemmas.Option.{MatchOption-at_some}
 use Rattle.token_book.specs.Purse.{Purse}
 use Rattle.tlm_types.specs.declared.words.TxnId.{TxnId}
@@ -20,7 +20,7 @@ use Rattle.script_engine.specs.declared.op.Op.{Op}
 use Rattle.script_engine.specs.declared.op.Op.TheVariants as next
 use Rattle.script_engine.specs.State.{Due, State, op_at, op_of, payload_at, payload_of}
 use Rattle.plat_core.specs.Access.{IsRouteOf, call_at, place_of}
-use Rattle.plat_core.specs.Left.{bytes_at, leads}
+use Rattle.plat_core.specs.Left.{bytes_at}
 use Rattle.plat_core.specs.Moves.{HasReached}
 use Rattle.plat_core.specs.Run.{Run, IsAccessOp, address_of}
 use Rattle.plat_core.proofs.CoreLemmas.{is_within, walk_memory}

@@ -1,5 +1,5 @@
 -- From what the jobs and the memories leave to the whole history.
-use Rattle.std.proofs.Common.{◌≡◌, ℕ, zero, suc, ◌+◌, ◌<◌, ◌≤◌, ◌==◌, Bool, true, false, cond, List, [], ◌∷◌, length, map, Option, Some, None, get_or, refl, ap, sym, subst, ◌∙◌, arith}
+use Rattle.std.proofs.Common.{◌≡◌, ℕ, suc, ◌+◌, ◌==◌, Bool, true, false, cond, List, [], ◌∷◌, length, map, Option, Some, None, refl, ap, sym, subst, ◌∙◌, arith}
 use Rattle.std.specs.Prelude.{slice_get, All}
 use mathlib.Core.Option.{some}
 use lib.ListN.{get_elem?}
@@ -7,7 +7,6 @@ use Rattle.view_lists.specs.Lists.{Has, Within}
 use Rattle.view_lists.proofs.Members.{has_map, has_mapped}
 use Rattle.one_history.specs.declared.entry.Entry.{Entry as HistoryEntry}
 use Rattle.one_history.specs.declared.view.View.{View}
-use Rattle.one_history.specs.Closing.{Numbered}
 use Rattle.one_history.specs.Lists.{entries_at as history_at}
 use Rattle.token_book.specs.Purse.{Purse}
 use Rattle.shared_object.specs.Written.{placed}
@@ -24,7 +23,6 @@ use Rattle.route_plan.specs.Counted.{share_at}
 use Rattle.script_engine.specs.declared.op.Op.TheVariants as next
 use Rattle.script_engine.specs.State.{Due, State, op_at, op_of}
 use Rattle.script_engine.proofs.Steps.{ends}
-use Rattle.plat_core.specs.Come.{IsEndOf}
 use Rattle.plat_core.specs.Left.{asked_due, asked_in, asks_left}
 use Rattle.plat_core.specs.Run.{Run, end_at}
 use Rattle.plat_core.proofs.CoreLemmas.{blocking_from}

@@ -1,5 +1,5 @@
 -- What is gathered at the end makes the outcome.
-use Rattle.std.proofs.Common.{◌≡◌, ◌⊎◌, ℕ, zero, suc, ◌+◌, ◌-◌, ◌<◌, ◌≤◌, List, [], ◌∷◌, ◌++◌, length, map, Option, Some, None, true, get_or, refl, ap, sym, subst, ◌∙◌, inl, inr, ⊎_elim, arith, length-append}
+use Rattle.std.proofs.Common.{◌≡◌, ◌⊎◌, ℕ, zero, suc, ◌+◌, ◌-◌, ◌<◌, ◌≤◌, List, [], ◌∷◌, ◌++◌, length, map, Some, true, refl, ap, sym, subst, ◌∙◌, inl, inr, ⊎_elim, arith, length-append}
 use Rattle.std.specs.Prelude.{slice_get, slice_index_or, IsSomeAnd}
 use Rattle.std.proofs.lemmas.Bool.{cases_lt, eq-eqb, eqb-true}
 use Rattle.std.proofs.lemmas.List.{length-map}
@@ -13,7 +13,7 @@ use Rattle.view_lists.proofs.Places.{at_once, at_short, empty}
 use Rattle.one_history.specs.declared.entry.Entry.{Entry as HistoryEntry}
 use Rattle.one_history.specs.declared.view.Frame.{Frame}
 use Rattle.one_history.specs.declared.view.View.{View}
-use Rattle.one_history.specs.Closing.{ArePlanned, Numbered}
+use Rattle.one_history.specs.Closing.{ArePlanned}
 use Rattle.one_history.specs.Held.{Held}
 use Rattle.one_history.specs.Lists.{entries_at as history_at, object_of}
 use Rattle.one_history.specs.Moves.{number_of, own_of}
@@ -25,15 +25,15 @@ use Rattle.tlm_types.specs.declared.words.ObjectNo.TheVariants.{Memory}
 use Rattle.tlm_types.specs.Log.{LogView}
 use Rattle.tlm_model.specs.declared.platform.MemoryRow.{MemoryRow}
 use Rattle.tlm_model.specs.History.{IsNumbered, IsNumberedFrom, entries_at, is_object, last_store}
-use Rattle.tlm_model.specs.Log.{IsLog, log_bytes}
-use Rattle.tlm_model.specs.Plan.{Plan, Initiator, initiators_of}
+use Rattle.tlm_model.specs.Log.{IsLog}
+use Rattle.tlm_model.specs.Plan.{Plan, initiators_of}
 use Rattle.good_history.specs.Good.{IsGood}
 use Rattle.joined_runs.proofs.CountLemmas.{IsRising-filter, has_kept, kept_has}
 use Rattle.route_plan.specs.Planned.{planned_at}
 use Rattle.plat_core.specs.declared.outcome.Outcome.{Outcome}
 use Rattle.plat_core.specs.Core.{IsServable}
 use Rattle.plat_core.specs.Merge.{merged}
-use Rattle.plat_core.specs.Outcome.{IsReportable, IsWhole}
+use Rattle.plat_core.specs.Outcome.{IsWhole}
 use Rattle.plat_core.specs.Places.{entries_of_logs}
 use Rattle.plat_core.proofs.CoreLemmas.{initiators_count, some_row}
 use Rattle.plat_core.proofs.EntryLemmas.{bytes_are}
@@ -45,7 +45,7 @@ use Rattle.plat_build.proofs.ObjectLemmas.{planned_at_memory}
 use Rattle.plat_run.specs.End.{HasEnded, HasLeft, HaveEnded}
 use Rattle.plat_run.specs.Entries.{entries_read, entry_read}
 use Rattle.plat_run.specs.Job.{position_of}
-use Rattle.plat_run.specs.Run.{AreDoneWith, AreFinished, IsDoneWith}
+use Rattle.plat_run.specs.Run.{AreDoneWith, AreFinished}
 use Rattle.plat_run.proofs.EndLemmas.{ended_as, history_is_good, rising_from}
 use Rattle.plat_run.proofs.OrderLemmas.{merged_is}
 use Rattle.plat_run.proofs.SealLemmas.{has_ended, log_read, numbered_from, part_read}

@@ -1,5 +1,5 @@
 -- What is gathered once all jobs have finished.
-use Rattle.std.specs.Prelude.{ℕ, ◌≡◌, Bool, true, All, List, length, map, take, IsSomeAnd, Some, slice_get}
+use Rattle.std.specs.Prelude.{ℕ, ◌≡◌, Bool, true, All, List, length, take, IsSomeAnd, Some, slice_get}
 use mathlib.Core.Option.{some}
 use lib.ListN.{get_elem?}
 use Rattle.atomic_table.specs.Seated.{TableId}

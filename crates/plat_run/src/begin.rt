@@ -36,7 +36,8 @@ fn begin_initiator<N: Naming<Plan, TlmLaw>>(
     let plan = net.plan();
     let room = 2 * plan.script(number).len() as u32;
     let run = InitiatorRun::of_engine(alloc, engine, plan.platform().quantum, room)?;
-    Ok(BlockingInitiator::new(run, payload, note, wallet))
+    let boxed = Box::new(alloc, run)?;
+    Ok(BlockingInitiator::new(boxed, payload, note, wallet))
 }
 
 /// The jobs of all initiators, in order. Its only error is want of memory.

@@ -13,15 +13,17 @@ use plat_core::{InitiatorRun, Move, NextAccess};
 use route_plan::Plan;
 use run_queue::Job;
 use shared_object::Naming;
+use std::alloc::Global;
 use std::marker::{Model, PhantomData};
 use std::sync::Wait;
 use time_board::{Advance, Board};
 use token_book::Wallet;
 
 /// A blocking initiator under way, with its payload, its note and its wallet. Contracts see its run.
+// Its run is on the heap: it holds the bytes of a copy under way, and a job is moved at each turn.
 #[derive(Drop)]
 pub struct BlockingInitiator<N: Naming<Plan, TlmLaw>> {
-    run: InitiatorRun,
+    run: Box<InitiatorRun, Global>,
     payload: Payload,
     note: PlatNote,
     wallet: Wallet,
@@ -34,9 +36,9 @@ impl<N: Naming<Plan, TlmLaw>> Model for BlockingInitiator<N> {
 
     ghost Value = { Run };
 
-    ghost view = { λ j. j.run };
+    ghost view = { λ j. j.run.value };
 
-    ghost invariant = { λ j. IsJob N.table N.tokens N.frame.world j.run j.payload j.note j.wallet };
+    ghost invariant = { λ j. IsJob N.table N.tokens N.frame.world j.run.value j.payload j.note j.wallet };
 }
 
 impl<N: Naming<Plan, TlmLaw>> Job for BlockingInitiator<N> {
@@ -56,13 +58,13 @@ impl<N: Naming<Plan, TlmLaw>> Job for BlockingInitiator<N> {
 impl<N: Naming<Plan, TlmLaw>> BlockingInitiator<N> {
     /// An initiator with what it goes about with.
     pub fn new(
-        run: InitiatorRun,
+        run: Box<InitiatorRun, Global>,
         payload: Payload,
         note: PlatNote,
         wallet: Wallet,
     ) -> BlockingInitiator<N>
-        requires { IsJob N.table N.tokens N.frame.world run payload note wallet }
-        ensures { result ≡ run }
+        requires { IsJob N.table N.tokens N.frame.world run.value payload note wallet }
+        ensures { result ≡ run.value }
     {
         BlockingInitiator {
             run,
@@ -86,7 +88,7 @@ impl<N: Naming<Plan, TlmLaw>> BlockingInitiator<N> {
             wallet,
             of: _,
         } = self;
-        (run, note, wallet)
+        (Box::into_inner(run), note, wallet)
     }
 
     /// One access or debug read, or one other operation, and the sync that is due after it. If the board
@@ -132,13 +134,22 @@ impl<N: Naming<Plan, TlmLaw>> BlockingInitiator<N> {
             mut run,
             mut payload,
             note,
-            wallet,
+            mut wallet,
             of: _,
         } = self;
         match run.step(net.plan(), &mut payload, pace) {
             Move::Went | Move::Ended => BlockingInitiator::new(run, payload, note, wallet),
             Move::Reached(next) => {
-                BlockingInitiator::access(rt, net, run, &next, payload, note, wallet)
+                let (payload, note) = BlockingInitiator::<N>::access(
+                    rt,
+                    net,
+                    &mut *run,
+                    &next,
+                    payload,
+                    note,
+                    &mut wallet,
+                );
+                BlockingInitiator::new(run, payload, note, wallet)
             }
         }
     }
@@ -147,29 +158,30 @@ impl<N: Naming<Plan, TlmLaw>> BlockingInitiator<N> {
     fn access<R: Wait>(
         rt: &R,
         net: &Net<N>,
-        mut run: InitiatorRun,
+        run: &mut InitiatorRun,
         next: &NextAccess,
         mut payload: Payload,
         note: PlatNote,
-        mut wallet: Wallet,
-    ) -> BlockingInitiator<N>
+        wallet: &mut Wallet,
+    ) -> (Payload, PlatNote)
         requires world { net.now ≡ N.frame.world }
-        requires job { IsJob N.table N.tokens N.frame.world run payload note wallet }
-        requires reached { HasReached N.frame.world run next.now.route }
-        requires next { next.now.op ≡ op_of run.engine }
-        ensures { result.engine.initiator ≡ run.engine.initiator }
+        requires job { IsJob N.table N.tokens N.frame.world run.old payload note wallet.old }
+        requires reached { HasReached N.frame.world run.old next.now.route }
+        requires next { next.now.op ≡ op_of run.old.engine }
+        ensures job { IsJob N.table N.tokens N.frame.world run.new result.0 result.1 wallet.new }
+        ensures number { run.new.engine.initiator ≡ run.old.engine.initiator }
     {
         run.fill_next(&mut payload);
         let who = run.initiator();
         let txn = run.next_txn();
         let at = run.current();
-        let sent = send(net, rt, who, &next.op, payload, note, &mut wallet, txn, at);
+        let sent = send(net, rt, who, &next.op, payload, note, wallet, txn, at);
         let Carried {
             payload,
             note,
             at: _,
         } = sent;
         run.complete(&next.op, next.route.latency, &payload);
-        BlockingInitiator::new(run, payload, note, wallet)
+        (payload, note)
     }
 }

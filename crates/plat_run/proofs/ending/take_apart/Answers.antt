@@ -1,4 +1,4 @@
-use Rattle.std.proofs.Common.{◌≡◌, ℕ, ◌+◌, ◌++◌, [], ◌∷◌, List, length, sym, ap, subst, ◌∙◌, length-append}
+use Rattle.std.proofs.Common.{ℕ, ◌+◌, ◌++◌, [], ◌∷◌, List, length, sym, subst, length-append}
 use Rattle.one_history.specs.Held.{Held}
 use Rattle.shared_object.specs.Standing.{Numbers}
 use Rattle.tlm_types.specs.declared.entry.Content.{Content}

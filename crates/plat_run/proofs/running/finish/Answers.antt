@@ -1,4 +1,4 @@
-use Rattle.std.proofs.Common.{◌≡◌, List, ◌++◌, refl, sym, subst, ◌∙◌}
+use Rattle.std.proofs.Common.{List, ◌++◌, refl, sym, subst, ◌∙◌}
 use Rattle.one_history.specs.declared.view.Frame.{Frame}
 use Rattle.one_history.specs.Held.{Held}
 use Rattle.one_history.specs.Seats.{AreSeats}

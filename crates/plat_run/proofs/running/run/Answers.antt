@@ -1,4 +1,4 @@
-use Rattle.std.proofs.Common.{◌≡◌, ℕ, ◌≤◌, length, ap, subst, arith}
+use Rattle.std.proofs.Common.{◌≡◌, ◌≤◌, length, ap, subst, arith}
 use Rattle.std.specs.Prelude.{count_by}
 use Rattle.run_queue.specs.Counts.{Counts}
 use Rattle.tlm_model.specs.Plan.{Plan}
