@@ -349,17 +349,17 @@ fn shared(alloc: Global, initiators: u32, script: &str) -> Result<String, AllocE
 
 // What stands at 0 by the last write of a report, and by its memory, as little-endian numbers.
 fn counters(report: &str) -> Option<(u32, u32)> {
-    let mut written = "";
-    let mut kept = "";
+    let mut written = None;
+    let mut kept = None;
     for line in report.lines() {
         if line.contains(" write ") {
-            written = line.split(' ').nth(10)?;
+            written = little_endian(line.split(' ').nth(10)?);
         }
         if let Some(row) = line.strip_prefix("00000000 ") {
-            kept = row.get(..8)?;
+            kept = little_endian(row.get(..8)?);
         }
     }
-    Some((little_endian(written)?, little_endian(kept)?))
+    Some((written?, kept?))
 }
 
 fn little_endian(digits: &str) -> Option<u32> {
