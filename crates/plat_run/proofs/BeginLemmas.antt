@@ -159,12 +159,6 @@ job_begun p table tokens n s run quantum room script servable below start at qua
       is = subst (λ (r : Run). IsInitiator p r s.note.knows s.wallet) (sym first) (initiator_begun p servable n i found.at s.wallet tokens s.note.knows start.wallet);
     }
 
--- all wait at first
-pub all_wait : (n k : ℕ) → k < n → slice_get (replicate n true) k ≡ Some true
-all_wait zero k below = absurd (omega arith)
-all_wait (suc n) zero below = refl
-all_wait (suc n) (suc k) below = all_wait n k (omega arith)
-
 -- those after the one that is handed out still wait
 still_wait : (waiting : List Bool) (n k : ℕ) → n < k → slice_get waiting k ≡ Some true → slice_get (set waiting n false) k ≡ Some true
 still_wait [] n k late at = at

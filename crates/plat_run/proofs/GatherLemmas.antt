@@ -65,14 +65,6 @@ one_done table tokens frame m numbers memory log bytes seat are built seat_is lo
     same_number : (a b : ℕ) → Memory a ≡ Memory b → a ≡ b
     same_number a b q = cc
 
-pub none_finished : (table : TableId) (p : Plan) (ends : List EndOf) (notes : List (Held Content Plan)) → ends ≡ [] → notes ≡ [] → AreFinished table p 0 ends notes
-none_finished table p ends notes no_ends no_notes = record {
-  ends_count = ap length no_ends;
-  notes_count = ap length no_notes;
-  of = λ k note at. absurd (some-ne-none note (sym at ∙ ap (λ (l : List (Held Content Plan)). get_elem? l k) no_notes));
-  each = λ k end note at_end at_note. absurd (some-ne-none note (sym at_note ∙ ap (λ (l : List (Held Content Plan)). get_elem? l k) no_notes));
-}
-
 pub finished_more : (table : TableId) (p : Plan) (n : ℕ) (ends : List EndOf) (notes : List (Held Content Plan)) (end : EndOf) (note : Held Content Plan) → AreFinished table p n ends notes → note.table ≡ table → IsFinished p n end note.knows → AreFinished table p (n + 1) (ends ++ end ∷ []) (notes ++ note ∷ [])
 finished_more table p n ends notes end note are of is = record {
   ends_count = length-append ends (end ∷ []) ∙ ap (λ (k : ℕ). k + 1) are.ends_count;
@@ -93,14 +85,6 @@ finished_more table p n ends notes end note are of is = record {
       (subst (λ (x : EndOf). IsFinished p n x other.knows) last.1 (subst (λ (x : Held Content Plan). IsFinished p n end x.knows) late.1 is)))
       (at_end notes note other k at_note))
       (at_push ends end k last_end at_end');
-}
-
-pub none_done : (table : TableId) (frame : Frame Plan) (logs : List LogView) (stores : List (List ℕ)) (seats : List (Held Content Plan)) → logs ≡ [] → stores ≡ [] → seats ≡ [] → AreDoneWith table frame 0 logs stores seats
-none_done table frame logs stores seats no_logs no_stores no_seats = record {
-  logs_count = ap length no_logs;
-  stores_count = ap length no_stores;
-  seats_count = ap length no_seats;
-  each = λ k log bytes seat at_log at_bytes at_seat. absurd (some-ne-none seat (sym at_seat ∙ ap (λ (l : List (Held Content Plan)). get_elem? l k) no_seats));
 }
 
 pub done_more : (table : TableId) (frame : Frame Plan) (n : ℕ) (logs : List LogView) (stores : List (List ℕ)) (seats : List (Held Content Plan)) (log : LogView) (bytes : List ℕ) (seat : Held Content Plan) → AreDoneWith table frame n logs stores seats → IsDoneWith table frame n log bytes seat
