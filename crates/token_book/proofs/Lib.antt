@@ -2,5 +2,6 @@ pub mod Amounts
 pub mod Keeps
 pub mod Purses
 pub mod PlaceLists
+pub mod FoundPlaces
 pub mod Pulls
 pub mod Rooms

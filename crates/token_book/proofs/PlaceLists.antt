@@ -1,14 +1,14 @@
 -- The list of a wallet's places, as the map that it stands for.
-use Rattle.std.proofs.Common.{◌≡◌, ◌≢◌, ℕ, zero, suc, ◌+◌, ◌-◌, ◌<◌, ◌≤◌, ◌==◌, true, false, cond, List, [], ◌∷◌, ◌++◌, length, drop, Option, Some, None, refl, sym, ap, ◌∙◌, subst, ⊎_elim, arith}
-use Rattle.std.specs.Prelude.{slice_get, is_some, IsSome, remove}
+use Rattle.std.proofs.Common.{◌≡◌, ◌≢◌, ℕ, zero, suc, ◌+◌, ◌<◌, ◌==◌, true, false, cond, List, [], ◌∷◌, ◌++◌, length, drop, Option, Some, None, refl, sym, ap, ◌∙◌, subst, ⊎_elim, arith}
+use Rattle.std.specs.Prelude.{slice_get, slice_set, is_some, IsSome, remove}
 use Rattle.std.specs.Ordering.{nat_cmp, eq_by_cmp}
 use Rattle.std.specs.Cmp.{nat_cmp_total}
 use Rattle.std.proofs.lemmas.Bool.{cases_eq, cond-true, cond-false, eq-eqb, ne_eqb}
 use Rattle.std.specs.FinMap as map
-use Rattle.std.specs.FinMap.{FinMap, from_entries_push, get-empty, get-from_entries, empty_of_len, len-empty, len-insert, len-remove, same_map, nat_cmp-IsAntisymmetric}
+use Rattle.std.specs.FinMap.{FinMap, from_entries_push, get-from_entries, len-empty, len-insert, same_map, nat_cmp-IsAntisymmetric}
 use Rattle.token_book.specs.Pocket.{Pocket}
 use Rattle.token_book.specs.Purse.{Purse, purse, left_in, bytes_left_in, left_of, bytes_of, HasPlace, HasRoom, with_pocket, AreApart, AreFull}
-use Rattle.token_book.proofs.Purses.{eq_by_cmp-nat, get-removed, remove-absent}
+use Rattle.token_book.proofs.Purses.{eq_by_cmp-nat, get-inserted, get-removed}
 
 -- what is looked for and stands in front is found, and else it is looked for behind
 find-here : (q : ℕ) (e : ℕ × Pocket) (es : List (ℕ × Pocket)) → q ≡ e.0 → map.find nat_cmp q (e ∷ es) ≡ Some e.1
@@ -107,6 +107,46 @@ pub from_entries-remove : (es : List (ℕ × Pocket)) (i : ℕ) (e : ℕ × Pock
 from_entries-remove es i e apart at = same_map nat_cmp_total nat_cmp-IsAntisymmetric (map.from_entries (remove es i)) (map.remove (map.from_entries es) e.0) (λ q.
     get-from_entries nat_cmp_total (remove es i) q ∙ find-remove es i e q apart at ∙ ap (λ (o : Option Pocket). cond (q == e.0) None o) (sym (get-from_entries nat_cmp_total es q)) ∙ sym (get-removed (map.from_entries es) e.0 q))
 
+-- what is found after a place has another pocket
+find-set : (es : List (ℕ × Pocket)) (i : ℕ) (e : ℕ × Pocket) (p : Pocket) (q : ℕ) → AreApart es → slice_get es i ≡ Some e
+    → map.find nat_cmp q (slice_set es i (e.0, p)) ≡ cond (q == e.0) (Some p) (map.find nat_cmp q es)
+find-set [] i e p q apart at = absurd (cc (at))
+find-set (x ∷ xs) zero e p q apart at =
+    let same : x ≡ e = cc (at) in
+    ⊎_elim
+    (λ (is : q ≡ e.0). find-here q (e.0, p) xs is ∙ sym (cond-true (q == e.0) (Some p) (map.find nat_cmp q (x ∷ xs)) (eq-eqb q e.0 is)))
+    (λ (no : q ≢ e.0).
+    find-later q (e.0, p) xs no
+    ∙ sym (cond-false (q == e.0) (Some p) (map.find nat_cmp q (x ∷ xs)) (ne_eqb q e.0 no) ∙ find-later q x xs (λ k. no (k ∙ ap (λ (y : ℕ × Pocket). y.0) same))))
+    (cases_eq q e.0)
+find-set (x ∷ xs) (suc i) e p q apart at =
+    ⊎_elim
+    (λ (is : q ≡ x.0).
+    find-here q x (slice_set xs i (e.0, p)) is
+    ∙ sym (cond-false (q == e.0) (Some p) (map.find nat_cmp q (x ∷ xs)) (ne_eqb q e.0 (λ k. not_at xs i e x.0 apart.0 at (sym is ∙ k))) ∙ find-here q x xs is))
+    (λ (no : q ≢ x.0).
+    find-later q x (slice_set xs i (e.0, p)) no ∙ find-set xs i e p q apart.1 at ∙ ap (λ (o : Option Pocket). cond (q == e.0) (Some p) o) (sym (find-later q x xs no)))
+    (cases_eq q x.0)
+
+pub AreApart-set : (es : List (ℕ × Pocket)) (i : ℕ) (e : ℕ × Pocket) (p : Pocket) → AreApart es → slice_get es i ≡ Some e → AreApart (slice_set es i (e.0, p))
+AreApart-set [] i e p apart at = absurd (cc (at))
+AreApart-set (x ∷ xs) zero e p apart at = let same : x ≡ e = cc (at) in (subst (λ (y : ℕ × Pocket). map.find nat_cmp y.0 xs ≡ None) same apart.0, apart.1)
+AreApart-set (x ∷ xs) (suc i) e p apart at = (
+  find-set xs i e p x.0 apart.1 at ∙ cond-false (x.0 == e.0) (Some p) (map.find nat_cmp x.0 xs) (ne_eqb x.0 e.0 (not_at xs i e x.0 apart.0 at)) ∙ apart.0,
+  AreApart-set xs i e p apart.1 at,
+)
+
+pub AreFull-set : (es : List (ℕ × Pocket)) (i : ℕ) (e : ℕ × Pocket) → AreFull es → 0 < e.1.left + e.1.bytes → AreFull (slice_set es i e)
+AreFull-set [] i e full more = tt
+AreFull-set (x ∷ xs) zero e full more = (more, full.1)
+AreFull-set (x ∷ xs) (suc i) e full more = (full.0, AreFull-set xs i e full.1 more)
+
+-- to give a place another pocket is to insert it into the map
+pub from_entries-set : (es : List (ℕ × Pocket)) (i : ℕ) (e : ℕ × Pocket) (p : Pocket) → AreApart es → slice_get es i ≡ Some e
+    → map.from_entries {R = nat_cmp} (slice_set es i (e.0, p)) ≡ map.insert (map.from_entries es) e.0 p
+from_entries-set es i e p apart at = same_map nat_cmp_total nat_cmp-IsAntisymmetric (map.from_entries (slice_set es i (e.0, p))) (map.insert (map.from_entries es) e.0 p) (λ q.
+    get-from_entries nat_cmp_total (slice_set es i (e.0, p)) q ∙ find-set es i e p q apart at ∙ ap (λ (o : Option Pocket). cond (q == e.0) (Some p) o) (sym (get-from_entries nat_cmp_total es q)) ∙ sym (get-inserted (map.from_entries es) e.0 p q))
+
 -- to keep a place that isn't empty is to give its object that pocket
 pub with_pocket-push : (most : ℕ) (es : List (ℕ × Pocket)) (k : ℕ) (p : Pocket) → map.find nat_cmp k es ≡ None → (p.left + p.bytes == 0) ≡ false
     → purse most (es ++ (k, p) ∷ []) ≡ with_pocket (purse most es) k p
@@ -123,25 +163,10 @@ placed most es o full = one (map.get (map.from_entries {R = nat_cmp} es) o) (λ 
     one None h = ((λ is. absurd (cc (is))), λ more. absurd (omega arith))
     one (Some p) h = ((λ _. h p refl), λ _. refl)
 
--- the map has fewer entries after one was removed
-pub len-removed : (m : FinMap nat_cmp Pocket) (o : ℕ) (p : Pocket) → map.get m o ≡ Some p → map.len (map.remove m o) < map.len m
-len-removed m o p is =
-    let there : map.contains_key m o ≡ true = ap (λ (x : Option Pocket). is_some x) is in
-    let less : map.len (map.remove m o) ≡ map.len m - 1 = len-remove nat_cmp_total m o ∙ cond-true (map.contains_key m o) (map.len m - 1) (map.len m) there in
+-- where an object has room but no place, a place is free
+pub free_place : (w : Purse) (o : ℕ) → HasRoom w o → map.get w.held o ≡ None → map.len w.held < w.places
+free_place w o room none =
     ⊎_elim
-    (λ (none : map.len m ≡ 0). let e : None ≡ Some p = sym (get-empty nat_cmp o) ∙ ap (λ (x : FinMap nat_cmp Pocket). map.get x o) (sym (empty_of_len m none)) ∙ is in absurd (cc (e)))
-    (λ (some : map.len m ≢ 0). omega arith)
-    (cases_eq (map.len m) 0)
-
--- where an object has room, there is a free place once its own is taken out
-pub room-removed : (w : Purse) (o : ℕ) → HasRoom w o → map.len w.held ≤ w.places → map.len (map.remove w.held o) < w.places
-room-removed w o room few = one (map.get w.held o) refl
-  where
-    one : (x : Option Pocket) → map.get w.held o ≡ x → map.len (map.remove w.held o) < w.places
-    one (Some p) is = let less = len-removed w.held o p is in omega arith
-    one None is =
-        let same : map.len (map.remove w.held o) ≡ map.len w.held = ap (λ (m : FinMap nat_cmp Pocket). map.len m) (remove-absent w.held o is) in
-        ⊎_elim
-        (λ (some : IsSome (map.get w.held o)). let e : false ≡ true = sym (ap (λ (x : Option Pocket). is_some x) is) ∙ some in absurd (cc (e)))
-        (λ (free : map.len w.held < w.places). omega arith)
-        room
+    (λ (some : IsSome (map.get w.held o)). let e : false ≡ true = sym (ap (λ (x : Option Pocket). is_some x) none) ∙ some in absurd (cc (e)))
+    (λ (free : map.len w.held < w.places). free)
+    room

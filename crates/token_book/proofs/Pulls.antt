@@ -6,8 +6,8 @@ use Rattle.std.specs.FinMap as map
 use Rattle.atomic_table.specs.Seated.{TableId}
 use Rattle.token_book.specs.Account.{Slip}
 use Rattle.token_book.specs.Pocket.{Pocket, no_pocket, tickets_in, bytes_in, with_token, without_ticket}
-use Rattle.token_book.specs.Purse.{Purse, left_in, bytes_left_in, left_of, bytes_of, IsOf, with_pocket, pocket_of, pulled, put_in}
-use Rattle.token_book.proofs.Purses.{left_of-with_pocket, bytes_of-with_pocket, IsOf-with_pocket, with_pocket-removed}
+use Rattle.token_book.specs.Purse.{Purse, left_in, bytes_left_in, left_of, bytes_of, IsOf, pocket_of, pulled, put_in}
+use Rattle.token_book.proofs.Purses.{left_of-with_pocket, bytes_of-with_pocket, IsOf-with_pocket}
 
 pocket_left : (table : TableId) (x : Option Pocket) → (unwrap_or x (no_pocket table)).left ≡ left_in x
 pocket_left table None = refl
@@ -61,11 +61,3 @@ pub IsOf-put_in : (table : TableId) (w : Purse) (t : Slip) → t.table ≡ table
 IsOf-put_in table w t is all =
     let own : IsOf t.table w = λ q p at. all q p at ∙ sym is in
     IsOf-with_pocket table w t.owner (with_token t (pocket_of t.table w t.owner)) all (pocket_table t.table w t.owner own ∙ is)
-
--- a place that was taken out, changed and kept
-pub kept-removed : (w taken after : Purse) (o : ℕ) (x : ℕ × Pocket) (p : Pocket) → taken.held ≡ map.remove w.held o → taken.places ≡ w.places → x ≡ (o, p) → after ≡ with_pocket taken x.0 x.1 → after ≡ with_pocket w o p
-kept-removed w taken after o x p held places is kept =
-    kept
-    ∙ ap (λ (y : ℕ × Pocket). with_pocket taken y.0 y.1) is
-    ∙ (let same : taken ≡ record { places = w.places; held = map.remove w.held o } = λ i. record { places = places i; held = held i } in ap (λ (v : Purse). with_pocket v o p) same)
-    ∙ with_pocket-removed w o p

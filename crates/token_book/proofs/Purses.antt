@@ -1,5 +1,5 @@
 -- Wallets as maps from objects to pockets, and the list of places that stands for one.
-use Rattle.std.proofs.Common.{◌≡◌, ◌≢◌, ◌⊎◌, ℕ, ◌+◌, ◌<◌, ◌≤◌, ◌==◌, true, false, cond, Some, None, refl, sym, ap, ◌∙◌, inl, inr, ⊎_elim, arith}
+use Rattle.std.proofs.Common.{◌≡◌, ◌≢◌, ◌⊎◌, ℕ, ◌+◌, ◌<◌, ◌≤◌, ◌==◌, true, cond, Some, None, sym, ap, ◌∙◌, inl, inr, ⊎_elim, arith}
 use Rattle.std.specs.Ordering.{nat_cmp, eq_by_cmp, is_eq}
 use Rattle.std.specs.declared.cmp.Ordering.TheVariants.{Less, Equal, Greater}
 use Rattle.std.specs.Cmp.{nat_cmp_total, nat_cmp_is}
@@ -34,26 +34,6 @@ module _ (m : FinMap nat_cmp Pocket) where
       (λ (is : q ≡ o). cond-true (q == o) None (map.get m q) (eq-eqb q o is) ∙ sym (ap (map.get m) is ∙ none))
       (λ (no : q ≢ o). cond-false (q == o) None (map.get m q) (ne_eqb q o no))
       (cases_eq q o))
-
--- what was removed is gone
-pub get-removed_here : (m : FinMap nat_cmp Pocket) (o : ℕ) → map.get (map.remove m o) o ≡ None
-get-removed_here m o = get-removed m o o ∙ cond-true (o == o) None (map.get m o) (eq-eqb o o refl)
-
--- to insert after a removal is to insert
-pub insert-removed : (m : FinMap nat_cmp Pocket) (o : ℕ) (p : Pocket) → map.insert (map.remove m o) o p ≡ map.insert m o p
-insert-removed m o p = same_map nat_cmp_total nat_cmp-IsAntisymmetric (map.insert (map.remove m o) o p) (map.insert m o p) (λ q. get-inserted (map.remove m o) o p q ∙ ⊎_elim
-    (λ (is : q ≡ o). let t = eq-eqb q o is in cond-true (q == o) (Some p) (map.get (map.remove m o) q) t ∙ sym (get-inserted m o p q ∙ cond-true (q == o) (Some p) (map.get m q) t))
-    (λ (no : q ≢ o). let t = ne_eqb q o no in cond-false (q == o) (Some p) (map.get (map.remove m o) q) t ∙ get-removed m o q ∙ cond-false (q == o) None (map.get m q) t ∙ sym (get-inserted m o p q ∙ cond-false (q == o) (Some p) (map.get m q) t))
-    (cases_eq q o))
-
--- a place that is taken out and kept again with another pocket
-pub with_pocket-removed : (w : Purse) (o : ℕ) (p : Pocket) → with_pocket (record { places = w.places; held = map.remove w.held o }) o p ≡ with_pocket w o p
-with_pocket-removed w o p =
-    ap (λ (h : FinMap nat_cmp Pocket). let x : Purse = record { places = w.places; held = h } in x)
-    (elim (p.left + p.bytes == 0) as (λ b. cond b (map.remove (map.remove w.held o) o) (map.insert (map.remove w.held o) o p) ≡ cond b (map.remove w.held o) (map.insert w.held o p)) [
-      | true ↦ remove-absent (map.remove w.held o) o (get-removed_here w.held o)
-      | false ↦ insert-removed w.held o p
-    ])
 
 -- a wallet that keeps an empty pocket of an object without a place stays the same
 pub with_pocket-empty : (w : Purse) (o : ℕ) (p : Pocket) → map.get w.held o ≡ None → (p.left + p.bytes == 0) ≡ true → with_pocket w o p ≡ w

@@ -1,5 +1,5 @@
 // What a wallet holds of one object.
-ghost use Rattle.std.specs.Prelude.{◌≡◌, ◌+◌, ◌<◌, ◌≤◌, ◌==◌};
+ghost use Rattle.std.specs.Prelude.{◌≡◌, ◌+◌, ◌<◌, ◌≤◌, ◌==◌, Some};
 ghost use Rattle.token_book.specs.Account.{amount_of, with_amount};
 ghost use Rattle.token_book.specs.Ticket.{entry_right, bytes_rights};
 ghost use Rattle.token_book.specs.Pocket.{IsLike, no_pocket, with_token, without_ticket};
@@ -40,39 +40,30 @@ fn amount(token: &Option<Token>) -> u64
     }
 }
 
-// One token of both.
-fn joined(tokens: &Tokens, kept: Option<Token>, token: Token) -> Token
+// Adds a token to one of its like, if there is one.
+fn add(tokens: &Tokens, kept: &mut Option<Token>, token: Token)
     requires table { token.table ≡ tokens.now }
-    requires alike { IsLike tokens.now token.owner token.name kept }
-    ensures { result ≡ with_amount token (amount_of kept + token.amount) }
+    requires alike { IsLike tokens.now token.owner token.name kept.old }
+    ensures { kept.new ≡ Some (with_amount token (amount_of kept.old + token.amount)) }
 {
     match kept {
-        Some(mut kept) => {
-            tokens.merge(&mut kept, token);
-            kept
-        }
-        None => token,
+        Some(kept) => tokens.merge(kept, token),
+        None => *kept = Some(token),
     }
 }
 
-// What is left of the bytes, and the bytes that were taken.
-fn take_bytes(
-    tokens: &Tokens,
-    kept: Option<Token>,
-    object: u32,
-    bytes: u64,
-) -> (Option<Token>, Option<Token>)
-    requires alike { IsLike tokens.now object 1 kept }
-    requires enough { bytes ≤ amount_of kept }
-    ensures left { (amount_of result.0 + bytes ≡ amount_of kept) × IsLike tokens.now object 1 result.0 }
-    ensures taken { result.1 ≡ bytes_rights tokens.now object bytes }
+// Takes so many bytes off, and answers them.
+fn take_bytes(tokens: &Tokens, kept: &mut Option<Token>, object: u32, bytes: u64) -> Option<Token>
+    requires alike { IsLike tokens.now object 1 kept.old }
+    requires enough { bytes ≤ amount_of kept.old }
+    ensures left { (amount_of kept.new + bytes ≡ amount_of kept.old) × IsLike tokens.now object 1 kept.new }
+    ensures taken { result ≡ bytes_rights tokens.now object bytes }
 {
     if bytes == 0 {
-        return (kept, None);
+        return None;
     }
-    let Some(mut kept) = kept else { unreachable!() };
-    let taken = tokens.part(&mut kept, bytes);
-    (Some(kept), Some(taken))
+    let Some(kept) = kept else { unreachable!() };
+    Some(tokens.part(kept, bytes))
 }
 
 impl Place {
@@ -125,62 +116,33 @@ impl Place {
         }
     }
 
-    /// The place with this token too.
-    pub fn with(self, tokens: &Tokens, token: Token) -> Place
-        requires table { (self.1.table ≡ tokens.now) × (token.table ≡ tokens.now) }
-        requires token { (token.owner ≡ self.0) × (token.name < 2) }
-        ensures { result ≡ (self.0, with_token token self.1) }
+    /// Puts a token of its object in.
+    pub fn add(&mut self, tokens: &Tokens, token: Token)
+        requires table { (self.old.1.table ≡ tokens.now) × (token.table ≡ tokens.now) }
+        requires token { (token.owner ≡ self.old.0) × (token.name < 2) }
+        ensures { self.new ≡ (self.old.0, with_token token self.old.1) }
     {
-        let Place {
-            object,
-            entries,
-            bytes,
-        } = self;
         if token.name() == 0 {
-            Place {
-                object,
-                entries: Some(joined(tokens, entries, token)),
-                bytes,
-            }
+            add(tokens, &mut self.entries, token);
         } else {
-            Place {
-                object,
-                entries,
-                bytes: Some(joined(tokens, bytes, token)),
-            }
+            add(tokens, &mut self.bytes, token);
         }
     }
 
-    /// The place without a ticket for so many bytes, and that ticket.
-    pub fn split(self, tokens: &Tokens, bytes: u64) -> (Place, Ticket)
-        requires table { self.1.table ≡ tokens.now }
-        requires left { 0 < self.1.left }
-        requires bytes { bytes ≤ self.1.bytes }
-        ensures place { result.0 ≡ (self.0, without_ticket bytes self.1) }
-        ensures entry { result.1.entry ≡ entry_right tokens.now self.0 }
-        ensures bytes { result.1.bytes ≡ bytes_rights tokens.now self.0 bytes }
+    /// Takes out a ticket for so many bytes.
+    pub fn pull(&mut self, tokens: &Tokens, bytes: u64) -> Ticket
+        requires table { self.old.1.table ≡ tokens.now }
+        requires left { 0 < self.old.1.left }
+        requires bytes { bytes ≤ self.old.1.bytes }
+        ensures place { self.new ≡ (self.old.0, without_ticket bytes self.old.1) }
+        ensures entry { result.entry ≡ entry_right tokens.now self.old.0 }
+        ensures bytes { result.bytes ≡ bytes_rights tokens.now self.old.0 bytes }
     {
-        let Place {
-            object,
-            entries,
-            bytes: kept,
-        } = self;
-        let Some(mut entries) = entries else {
+        let Some(entries) = &mut self.entries else {
             unreachable!()
         };
-        let entry = tokens.part(&mut entries, 1);
-        let (kept, taken) = take_bytes(tokens, kept, object, bytes);
-        let place = Place {
-            object,
-            entries: Some(entries),
-            bytes: kept,
-        };
-        (
-            place,
-            Ticket {
-                entry,
-                bytes: taken,
-            },
-        )
+        let entry = tokens.part(entries, 1);
+        let bytes = take_bytes(tokens, &mut self.bytes, self.object, bytes);
+        Ticket { entry, bytes }
     }
 }

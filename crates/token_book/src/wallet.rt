@@ -1,5 +1,5 @@
 // Wallets: the tickets of many objects.
-ghost use Rattle.std.specs.Prelude.{◌≡◌, ℕ, ◌+◌, ◌-◌, ◌<◌, ◌≤◌, ◌==◌, ◌↔◌, length, slice_get, if◌then◌else◌, IfOk, IfSome, IfNone, Some, None};
+ghost use Rattle.std.specs.Prelude.{◌≡◌, ℕ, ◌+◌, ◌-◌, ◌<◌, ◌≤◌, ◌==◌, ◌↔◌, length, remove, slice_get, vec_len, vec_capacity, if◌then◌else◌, IfOk, IfSome, IfNone, Some, None};
 ghost use Rattle.std.specs.Ordering.{nat_cmp};
 ghost use Rattle.std.specs.FinMap as map;
 ghost use Rattle.atomic_table.specs.Seated.{TableId};
@@ -46,6 +46,18 @@ fn index_of(places: &[Place], object: u32) -> Option<usize>
         }
     }
     None
+}
+
+// Takes the place at an index out if it is empty.
+fn drop_empty(places: &mut Vec<Place>, i: usize)
+    requires { i < vec_len places.old }
+    ensures items { (e : ℕ × Pocket) → slice_get places.old.items i ≡ Some e → places.new.items ≡ (if e.1.left + e.1.bytes == 0 then remove places.old.items i else places.old.items) }
+    ensures len { vec_len places.new ≤ vec_len places.old }
+    ensures capacity { vec_capacity places.new ≡ vec_capacity places.old }
+{
+    if places[i].is_empty() {
+        places.remove(i);
+    }
 }
 
 impl Wallet {
@@ -95,35 +107,6 @@ impl Wallet {
         }
     }
 
-    // Takes the place of an object out.
-    fn take(&mut self, object: u32) -> Option<Place>
-        ensures found { IfSome result (λ place. (place.0 ≡ object) × (map.get self.old.held object ≡ Some place.1)) }
-        ensures none { IfNone result (map.get self.old.held object ≡ None) }
-        ensures held { self.new.held ≡ map.remove self.old.held object }
-        ensures places { self.new.places ≡ self.old.places }
-        ensures few { map.len self.old.held ≤ self.old.places }
-    {
-        let Some(i) = index_of(&self.places, object) else {
-            return None;
-        };
-        Some(self.places.remove(i))
-    }
-
-    // Takes the place of the token's owner out, or a new one, and puts the token into it.
-    fn take_with(&mut self, tokens: &Tokens, token: Token) -> Place
-        requires of { IsOf tokens.now self.old }
-        requires token { (token.table ≡ tokens.now) × (token.name < 2) }
-        ensures place { result ≡ (token.owner, with_token token (pocket_of token.table self.old token.owner)) }
-        ensures held { self.new.held ≡ map.remove self.old.held token.owner }
-        ensures places { self.new.places ≡ self.old.places }
-        ensures few { map.len self.old.held ≤ self.old.places }
-    {
-        match self.take(token.owner()) {
-            Some(place) => place.with(tokens, token),
-            None => Place::of(token),
-        }
-    }
-
     // Keeps a place unless it is empty.
     fn keep(&mut self, place: Place)
         requires new { map.get self.old.held place.0 ≡ None }
@@ -152,11 +135,11 @@ impl Wallet {
         ensures ticket { IsTicket tokens.now object result }
         ensures amount { amount_of result.bytes ≡ bytes }
     {
-        let Some(place) = self.take(object) else {
+        let Some(i) = index_of(&self.places, object) else {
             unreachable!()
         };
-        let (place, ticket) = place.split(tokens, bytes);
-        self.keep(place);
+        let ticket = self.places[i].pull(tokens, bytes);
+        drop_empty(&mut self.places, i);
         ticket
     }
 
@@ -171,7 +154,9 @@ impl Wallet {
         ensures left { (o : ℕ) → left_of self.new o ≡ (if o == token.owner then left_of self.old o + tickets_in token else left_of self.old o) }
         ensures bytes { (o : ℕ) → bytes_of self.new o ≡ (if o == token.owner then bytes_of self.old o + bytes_in token else bytes_of self.old o) }
     {
-        let place = self.take_with(tokens, token);
-        self.keep(place);
+        match index_of(&self.places, token.owner()) {
+            Some(i) => self.places[i].add(tokens, token),
+            None => self.keep(Place::of(token)),
+        }
     }
 }

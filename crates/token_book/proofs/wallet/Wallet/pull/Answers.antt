@@ -1,38 +1,78 @@
-use Rattle.std.proofs.Common.{◌≡◌, ℕ, Option, sym, ap, ◌∙◌, subst, arith}
-use Rattle.std.specs.Prelude.{unwrap_or}
-use Rattle.std.specs.FinMap as map
-use Rattle.token_book.specs.Pocket.{Pocket, no_pocket, without_ticket}
-use Rattle.token_book.specs.Purse.{Purse, left_of, bytes_of, IsOf}
-use Rattle.token_book.proofs.Purses.{get-removed_here}
-use Rattle.token_book.proofs.PlaceLists.{len-removed}
-use Rattle.token_book.proofs.Pulls.{left_of-pulled, bytes_of-pulled, IsOf-pulled, kept-removed}
+use Rattle.std.proofs.Common.{◌≡◌, ℕ, None, sym, ap, ◌∙◌, subst, arith}
+use Rattle.std.proofs.lemmas.Option.{slice_get_within}
+use Rattle.token_book.specs.Ticket.{entry_right, bytes_rights}
+use Rattle.token_book.specs.Pocket.{without_ticket}
+use Rattle.token_book.specs.Purse.{Purse, purse, left_in, bytes_left_in, left_of, bytes_of, IsOf, AreApart, AreFull}
+use Rattle.token_book.proofs.FoundPlaces.{IsFound, found, held_found, get-set, settled, AreApart-settled, AreFull-settled, with_pocket-settled}
+use Rattle.token_book.proofs.Pulls.{left_of-pulled, bytes_of-pulled, IsOf-pulled}
 use Rattle.token_book.proofs.wallet.Wallet.pull.Goals as goal
 
-pub keep-requires-clause-new : goal.keep-requires-clause-new
-keep-requires-clause-new c =
-    let t = c.in-Some.ensures in
-    let o : c.split-place.result.0.0 ≡ c.args.object = ap (λ (x : ℕ × Pocket). x.0) c.split-place.ensures.place ∙ t.found.0 in
-    ap (λ (k : ℕ). map.get c.take.new.self.held k) o ∙ ap (λ m. map.get m c.args.object) t.held ∙ get-removed_here c.args.self.now.held c.args.object
+-- the place that was found
+here : (c : goal.After-index_mut) → IsFound c.args.self.now c.args.object c.in-Some.i c.self.inside.places.items c.index_mut.result.now
+here c = found c.args.self.now c.self.inside.most c.args.object c.in-Some.i c.self.inside.places.items c.deref.result.now c.index_mut.result.now c.self.view_is c.deref.ensures.value c.in-Some.ensures.found c.index_mut.ensures.value
 
-pub keep-requires-clause-room : goal.keep-requires-clause-room
-keep-requires-clause-room c =
-    let t = c.in-Some.ensures in
-    let less = len-removed c.args.self.now.held c.args.object c.in-Some.place.1 t.found.1 in
-    omega (arith, t.few, t.places, ap (λ m. map.len m) t.held)
+after : (c : goal.After-drop_empty) → IsFound c.args.self.now c.args.object c.in-Some.i c.self.inside.places.items c.index_mut.result.now
+after c = found c.args.self.now c.self.inside.most c.args.object c.in-Some.i c.self.inside.places.items c.deref.result.now c.index_mut.result.now c.self.view_is c.deref.ensures.value c.in-Some.ensures.found c.index_mut.ensures.value
+
+-- the places after it was changed
+settles : (c : goal.After-drop_empty) → c.drop_empty.new.places.items ≡ settled c.self.inside.places.items c.in-Some.i (c.index_mut.result.now.0, without_ticket c.args.bytes c.index_mut.result.now.1)
+settles c =
+    c.drop_empty.ensures.items c.pull-ticket.new.self (get-set c.self.inside.places.items c.in-Some.i c.index_mut.result.now c.pull-ticket.new.self (after c).at)
+    ∙ ap (settled c.self.inside.places.items c.in-Some.i) c.pull-ticket.ensures.place
+
+pub unreachable-requires : goal.unreachable-requires
+unreachable-requires c =
+    let none = held_found c.args.self.now c.self.inside.most c.args.object c.self.inside.places.items c.deref.result.now None c.self.view_is c.deref.ensures.value c.in_default.ensures.none in
+    omega (arith, c.requires.left, ap left_in none)
+
+pub index_mut-requires : goal.index_mut-requires
+index_mut-requires c =
+    let there = c.in-Some.ensures.found in
+    omega (arith, slice_get_within c.deref.result.now c.in-Some.i (c.args.object, there.0) there.1, c.deref.ensures.len)
+
+pub pull-ticket-requires-clause-table : goal.pull-ticket-requires-clause-table
+pull-ticket-requires-clause-table c = c.requires.of c.args.object c.index_mut.result.now.1 (here c).held
+
+pub pull-ticket-requires-clause-left : goal.pull-ticket-requires-clause-left
+pull-ticket-requires-clause-left c = omega (arith, c.requires.left, ap left_in (here c).held)
+
+pub pull-ticket-requires-clause-bytes : goal.pull-ticket-requires-clause-bytes
+pull-ticket-requires-clause-bytes c = omega (arith, c.requires.bytes, ap bytes_left_in (here c).held)
+
+pub drop_empty-requires : goal.drop_empty-requires
+drop_empty-requires c =
+    let there = c.in-Some.ensures.found in
+    omega (arith, slice_get_within c.deref.result.now c.in-Some.i (c.args.object, there.0) there.1, c.deref.ensures.len)
+
+pub invariant_of-self : goal.invariant_of-self
+invariant_of-self c =
+    let es = c.self.inside.places.items in
+    let e = c.index_mut.result.now in
+    let p = without_ticket c.args.bytes e.1 in
+    let at = (after c).at in
+    record {
+      apart = subst AreApart (sym (settles c)) (AreApart-settled es c.in-Some.i e p at c.self.invariant.apart);
+      full = subst AreFull (sym (settles c)) (AreFull-settled es c.in-Some.i e p at c.self.invariant.full);
+      few = omega (arith, c.self.invariant.few, c.drop_empty.ensures.len);
+      room = omega (arith, c.self.invariant.room, c.drop_empty.ensures.capacity);
+    }
 
 pub returns-clause-wallet : goal.returns-clause-wallet
 returns-clause-wallet c =
-    let t = c.in-Some.ensures in
-    let own : c.in-Some.place.1 ≡ unwrap_or (map.get c.args.self.now.held c.args.object) (no_pocket c.args.tokens.now) = sym (ap (λ (x : Option Pocket). unwrap_or x (no_pocket c.args.tokens.now)) t.found.1) in
-    let place : c.split-place.result.0 ≡ (c.args.object, without_ticket c.args.bytes (unwrap_or (map.get c.args.self.now.held c.args.object) (no_pocket c.args.tokens.now))) =
-    c.split-place.ensures.place ∙ ap (λ (o : ℕ). (o, without_ticket c.args.bytes c.in-Some.place.1)) t.found.0 ∙ ap (λ (p : Pocket). (c.args.object, without_ticket c.args.bytes p)) own in
-    kept-removed c.args.self.now c.take.new.self c.keep.new.self c.args.object c.split-place.result.0 (without_ticket c.args.bytes (unwrap_or (map.get c.args.self.now.held c.args.object) (no_pocket c.args.tokens.now))) t.held t.places place c.keep.ensures
+    ap (purse c.self.inside.most) (settles c)
+    ∙ with_pocket-settled c.args.tokens.now c.args.self.now c.self.inside.most c.args.object c.in-Some.i c.self.inside.places.items c.index_mut.result.now (without_ticket c.args.bytes) c.self.view_is c.self.invariant.apart (after c)
 
 pub returns-clause-of : goal.returns-clause-of
-returns-clause-of c = subst (λ (w : Purse). IsOf c.args.tokens.now w) (sym (returns-clause-wallet c)) (IsOf-pulled c.args.tokens.now c.args.self.now c.args.object c.args.bytes c.requires.of)
+returns-clause-of c = subst (IsOf c.args.tokens.now) (sym (returns-clause-wallet c)) (IsOf-pulled c.args.tokens.now c.args.self.now c.args.object c.args.bytes c.requires.of)
 
 pub returns-clause-left : goal.returns-clause-left
 returns-clause-left c o = ap (λ (w : Purse). left_of w o) (returns-clause-wallet c) ∙ left_of-pulled c.args.tokens.now c.args.self.now c.args.object c.args.bytes o
 
 pub returns-clause-bytes : goal.returns-clause-bytes
 returns-clause-bytes c o = ap (λ (w : Purse). bytes_of w o) (returns-clause-wallet c) ∙ bytes_of-pulled c.args.tokens.now c.args.self.now c.args.object c.args.bytes o
+
+pub returns-clause-entry : goal.returns-clause-entry
+returns-clause-entry c = c.pull-ticket.ensures.entry ∙ ap (entry_right c.args.tokens.now) (after c).object
+
+pub returns-clause-rights : goal.returns-clause-rights
+returns-clause-rights c = c.pull-ticket.ensures.bytes ∙ ap (λ (o : ℕ). bytes_rights c.args.tokens.now o c.args.bytes) (after c).object
