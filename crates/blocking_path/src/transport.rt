@@ -53,13 +53,13 @@ pub fn b_transport<N: Naming<Plan, TlmLaw>, R: Wait>(
     ensures ticket { MatchOption (route_at net.now who payload.address) (wallet.new ≡ wallet.old)
         (λ route. OneTicketLess route.memory (length payload.bytes + length payload.enables) wallet.old wallet.new) }
 {
-    let after = at.saturating_add(net.plan().latency(who, payload.address()));
     let Some(route) = net.plan().route(who, payload.address()) else {
+        let latency = net.plan().latency(who, payload.address());
         payload.set_status(Response::AddressError);
         return Carried {
             payload,
             note,
-            at: after,
+            at: at.saturating_add(latency),
         };
     };
     payload.set_address(route.offset);
@@ -73,7 +73,7 @@ pub fn b_transport<N: Naming<Plan, TlmLaw>, R: Wait>(
     Carried {
         payload,
         note,
-        at: after,
+        at: at.saturating_add(route.latency),
     }
 }
 

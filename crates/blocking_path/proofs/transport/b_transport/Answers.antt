@@ -5,4 +5,4 @@ use Rattle.blocking_path.proofs.transport.b_transport.Goals as goal
 
 pub call_memory-payload-requires-clause-memory : goal.call_memory-payload-requires-clause-memory
 call_memory-payload-requires-clause-memory g c =
-    subst (λ (p : Plan). c.in-Some.route.memory < length p.platform.memories) c.plan-2.ensures.plan (leads_to_memory c.plan-2.result.now c.args.who c.address-2.result c.in-Some.route c.in-Some.ensures)
+    subst (λ (p : Plan). c.in-Some.route.memory < length p.platform.memories) c.plan.ensures.plan (leads_to_memory c.plan.result.now c.args.who c.address.result c.in-Some.route c.in-Some.ensures)
