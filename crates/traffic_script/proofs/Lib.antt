@@ -1,5 +1,6 @@
 pub mod BuildLemmas
 pub mod DraftLemmas
+pub mod FirstByte
 pub mod Fronts
 pub mod LineLemmas
 pub mod NumberLemmas

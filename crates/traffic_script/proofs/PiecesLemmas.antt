@@ -1,6 +1,5 @@
 -- The operations of pieces, one piece after another.
-use Rattle.std.proofs.Common.{◌≡◌, ℕ, zero, suc, ◌+◌, ◌<◌, List, [], ◌∷◌, ◌++◌, length, get_or, take, refl, sym, ap, ◌∙◌, arith, append_assoc, append-nil}
-use Rattle.std.proofs.lemmas.List.{take_more}
+use Rattle.std.proofs.Common.{◌≡◌, ℕ, zero, suc, List, [], ◌∷◌, ◌++◌, length, refl, sym, ap, ◌∙◌, arith, append_assoc, append-nil}
 use Rattle.tlm_model.specs.declared.operation.Operation.{Operation}
 use Rattle.traffic_script.specs.declared.piece.Piece.{Piece}
 use Rattle.traffic_script.specs.Pieces.{repeated, written_out}
@@ -14,14 +13,6 @@ written_out-append (p ∷ front) back =
 -- the operations of one piece are its rounds
 pub written_out-one : (p : Piece) → written_out (p ∷ []) ≡ repeated p.times p.operations
 written_out-one p = append-nil (repeated p.times p.operations)
-
--- one more piece was copied
-pub copied_more : (copies pieces : List Piece) (i : ℕ) (p copy : Piece) → written_out copies ≡ written_out (take i pieces) → i < length pieces → p ≡ get_or pieces i p → copy.operations ≡ p.operations → copy.times ≡ p.times → written_out (copies ++ copy ∷ []) ≡ written_out (take (i + 1) pieces)
-copied_more copies pieces i p copy so_far h e operations times =
-    let same : written_out (copy ∷ []) ≡ written_out (p ∷ []) = rw (operations, times) refl in
-    let last : p ∷ [] ≡ get_or pieces i p ∷ [] = ap (λ (q : Piece). q ∷ []) e in
-    written_out-append copies (copy ∷ []) ∙ ap (λ ops. ops ++ written_out (copy ∷ [])) so_far ∙ ap (λ ops. written_out (take i pieces) ++ ops) same
-    ∙ sym (written_out-append (take i pieces) (p ∷ [])) ∙ ap (λ qs. written_out (take i pieces ++ qs)) last ∙ ap written_out (sym (take_more pieces i p h))
 
 -- no operations, however often
 pub repeated-none : (n : ℕ) (ops : List Operation) → length ops ≡ 0 → repeated n ops ≡ []

@@ -172,7 +172,7 @@ impl Builder {
     }
 
     /// The script, where no line is left.
-    pub fn finish(self) -> Result<Script, ScriptFault>
+    pub fn finish(self, alloc: Global) -> Result<Script, ScriptFault>
         requires { IsProperDraft self }
         ensures { Gives result (finished self) }
     {
@@ -189,6 +189,7 @@ impl Builder {
             });
         }
         let pieces = with_piece(pieces, last, 1)?;
-        Ok(Script::of_pieces(pieces, count))
+        let script = Script::of_pieces(alloc, pieces, count)?;
+        Ok(script)
     }
 }

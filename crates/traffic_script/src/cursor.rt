@@ -7,27 +7,30 @@ ghost use Rattle.traffic_script.specs.Proper.{AreProper, IsProper};
 use crate::piece::Piece;
 use crate::place::{Place, first_place, next_place, operation_at};
 use crate::script::Script;
+use std::alloc::Global;
 use std::marker::Model;
+use std::sync::Arc;
 use tlm_model::Operation;
 
 /// A script with the number of its operations that are done. Each step takes constant time.
 #[derive(Drop)]
 pub struct Cursor {
-    pieces: Vec<Piece>,
+    pieces: Arc<Vec<Piece>, Global>,
     place: Place,
     count: u64,
     done: u64,
 }
 
 impl Model for Cursor {
+    ghost use Rattle.std.specs.Arc.{arc_value};
     ghost use Rattle.traffic_script.specs.Pieces.{written_out};
     ghost use Rattle.traffic_script.specs.Progress.{Progress, IsReached};
 
     ghost Value = { Progress };
 
-    ghost view = { λ c. record { operations = written_out c.pieces.items; done = c.done } };
+    ghost view = { λ c. record { operations = written_out (arc_value c.pieces).items; done = c.done } };
 
-    ghost invariant = { λ c. IsReached c.pieces.items c.place c.count c.done };
+    ghost invariant = { λ c. IsReached (arc_value c.pieces).items c.place c.count c.done };
 }
 
 impl Cursor {
@@ -38,7 +41,7 @@ impl Cursor {
     {
         let count = script.len();
         let pieces = script.into_pieces();
-        let place = first_place(&pieces, 0);
+        let place = first_place(pieces.as_slice(), 0);
         Cursor {
             pieces,
             place,
@@ -53,7 +56,7 @@ impl Cursor {
         ensures asked { IfSome result (λ operation. IsProper operation.now) }
         ensures proper { IsProperProgress self.now }
     {
-        operation_at(&self.pieces, self.place)
+        operation_at(self.pieces.as_slice(), self.place)
     }
 
     /// One more operation is done, where one is left.
@@ -61,7 +64,7 @@ impl Cursor {
         ensures { self.new ≡ advanced self.old }
     {
         if self.done < self.count {
-            self.place = next_place(&self.pieces, self.place);
+            self.place = next_place(self.pieces.as_slice(), self.place);
             self.done += 1;
         }
     }

@@ -4,7 +4,8 @@
 //!   `invalidate` isn't built yet.
 //! - `Script` is what was read, which contracts see as a list of operations, repeats written out. It
 //!   keeps a `Piece` for operations that are repeated, with their number of times, so its memory goes
-//!   by the text's lines.
+//!   by the text's lines. Its copies, and the cursors made of them, share its pieces, so a copy takes
+//!   constant time, and no memory by the script's length. They may be in different threads.
 //! - `Cursor` walks through a script in constant time a step.
 //! - `ScriptFault` says why nothing was read: a line from 1 with a `ScriptCode`, or want of memory.
 //! - `worked` has worked scripts, proved by computing the definition.
@@ -16,7 +17,6 @@
 #![tactic(auto)]
 
 mod builder;
-mod copies;
 mod cursor;
 mod fault;
 mod keyword;

@@ -2,11 +2,13 @@
 ghost use Rattle.std.specs.Prelude.{◌≡◌, ◌<◌, [], ◌∷◌, length, position, ◌==◌, IfSome, MatchOption};
 ghost use Rattle.std.specs.Str.Lines.{lines, strip_carriage_return};
 
+use memchr::memchr;
+
 /// The place of the first of these bytes.
 pub fn find(text: &[u8], at: u8) -> Option<usize>
     ensures { result ≡ position (λ b. b == at) text.now }
 {
-    text.iter().position(|b| *b == at)
+    memchr(at, text)
 }
 
 fn without_return(line: &[u8]) -> &[u8]

@@ -1,5 +1,5 @@
 // The numbers and bytes that words write.
-ghost use Rattle.std.specs.Prelude.{◌≡◌, ◌+◌, ◌*◌, ◌^◌, ◌<◌, ◌≤◌, true, false, MatchOption, IfSome};
+ghost use Rattle.std.specs.Prelude.{◌≡◌, ◌+◌, ◌*◌, ◌^◌, ◌<◌, ◌≤◌, true, false, MatchOption, IfSome, Ok};
 ghost use Rattle.std.specs.Option.{SomeIff};
 ghost use Rattle.std.specs.Char.{is_digit, digit_value};
 ghost use Rattle.std.specs.List.{list_all};
@@ -100,26 +100,52 @@ pub fn addend(word: &[u8]) -> Result<u32, ScriptCode>
     Ok(addend as u32)
 }
 
-fn byte(high: u8, low: u8) -> Result<u8, ScriptCode>
-    ensures { result ≡ byte_of high low }
+fn is_hex(byte: u8) -> bool
+    ensures { result ≡ is_digit byte 16 }
 {
-    let Some(high) = digit(16, high) else {
-        return Err(ScriptCode::BadHex);
-    };
-    let Some(low) = digit(16, low) else {
-        return Err(ScriptCode::BadHex);
-    };
-    Ok(16 * high + low)
+    (b'0' <= byte && byte <= b'9')
+        || (b'A' <= byte && byte <= b'F')
+        || (b'a' <= byte && byte <= b'f')
+}
+
+// It looks at every byte, since a loop that may stop early takes them one at a time.
+fn all_hex(digits: &[u8]) -> bool
+    ensures { result ≡ list_all (λ b. is_digit b 16) digits.now }
+{
+    let mut all = true;
+    for byte in digits {
+        all &= is_hex(*byte);
+    }
+    all
+}
+
+// The value of a digit, without a test: letters, from 64 on, end in 1 to 6.
+fn hex_value(byte: u8) -> u8
+    requires { is_digit byte 16 ≡ true }
+    ensures { result ≡ digit_value byte }
+{
+    byte % 16 + 9 * (byte / 64)
+}
+
+fn byte(high: u8, low: u8) -> u8
+    requires high { is_digit high 16 ≡ true }
+    requires low { is_digit low 16 ≡ true }
+    ensures { byte_of high low ≡ Ok result }
+{
+    16 * hex_value(high) + hex_value(low)
 }
 
 // The digits are read straight into a vector that has room for all of them.
 fn bytes(alloc: Global, digits: &[u8]) -> Result<Bytes, LineFault>
     ensures { GivesCode result (bytes_of digits.now) }
 {
+    if !all_hex(digits) {
+        return Err(LineFault::Refused(ScriptCode::BadHex));
+    }
     let mut bytes = Vec::with_capacity(alloc, digits.len() / 2)?;
     let mut rest = digits;
     while let [high, low, more @ ..] = rest {
-        bytes.push(byte(*high, *low)?)?;
+        bytes.push_reserved(byte(*high, *low));
         rest = more;
     }
     if !rest.is_empty() {
@@ -137,10 +163,21 @@ fn hex(alloc: Global, word: &[u8]) -> Result<Bytes, LineFault>
     bytes(alloc, word)
 }
 
+fn is_enable(byte: u8) -> bool
+    ensures { result ≡ is_enable byte }
+{
+    byte == 0 || byte == 255
+}
+
+// It looks at every byte, as `all_hex` does.
 fn only_enables(bytes: &[u8]) -> bool
     ensures { result ≡ list_all is_enable bytes.now }
 {
-    bytes.iter().all(|b| *b == 0 || *b == 255)
+    let mut only = true;
+    for byte in bytes {
+        only &= is_enable(*byte);
+    }
+    only
 }
 
 // 1 to 4,096 bytes.

@@ -47,5 +47,5 @@ pub fn read_script(alloc: Global, text: &[u8]) -> Result<Script, ScriptFault>
         });
     }
     let builder = read_lines(alloc, text)?;
-    builder.finish()
+    builder.finish(alloc)
 }

@@ -1,16 +1,19 @@
 // A script.
-use crate::copies::copy_pieces;
+#[cfg(test)]
+mod tests;
+
 use crate::piece::Piece;
 use std::alloc::Global;
 use std::marker::Model;
+use std::sync::Arc;
 use tlm_model::Operation;
 use tlm_types::Memory;
 
 /// The operations that an initiator is asked for, in order, which contracts see as a list. Memory is
-/// taken for the text's lines, not for each round of a repeat.
+/// taken for the text's lines, not for each round of a repeat; copies share it, also between threads.
 #[derive(Drop)]
 pub struct Script {
-    pieces: Vec<Piece>,
+    pieces: Arc<Vec<Piece>, Global>,
     count: u64,
 }
 
@@ -20,25 +23,28 @@ impl Model for Script {
 
     ghost Value = { List Operation };
 
+    ghost use Rattle.std.specs.Arc.{arc_value};
     ghost use Rattle.traffic_script.specs.Pieces.{written_out};
     ghost use Rattle.traffic_script.specs.Proper.{IsCounted};
 
-    ghost view = { λ s. written_out s.pieces.items };
+    ghost view = { λ s. written_out (arc_value s.pieces).items };
 
-    ghost invariant = { λ s. IsCounted s.count (written_out s.pieces.items) };
+    ghost invariant = { λ s. IsCounted s.count (written_out (arc_value s.pieces).items) };
 }
 
 impl Script {
     ghost use Rattle.std.specs.Prelude.{◌≡◌, ◌==◌, length, IfOk};
+    ghost use Rattle.std.specs.Arc.{arc_value};
     ghost use Rattle.traffic_script.specs.Pieces.{written_out};
     ghost use Rattle.traffic_script.specs.Proper.{AreProper, IsCounted};
 
     /// The script of some pieces with their number of operations.
-    pub(crate) fn of_pieces(pieces: Vec<Piece>, count: u64) -> Script
+    pub(crate) fn of_pieces(alloc: Global, pieces: Vec<Piece>, count: u64) -> Result<Script, Memory>
         requires { IsCounted count (written_out pieces.items) }
-        ensures { result ≡ written_out pieces.items }
+        ensures { IfOk result (λ script. script ≡ written_out pieces.items) }
     {
-        Script { pieces, count }
+        let pieces = Arc::new(alloc, pieces)?;
+        Ok(Script { pieces, count })
     }
 
     /// The pieces that make up the script.
@@ -50,8 +56,8 @@ impl Script {
     }
 
     /// The same, where the script isn't used any more.
-    pub(crate) fn into_pieces(self) -> Vec<Piece>
-        ensures written { written_out result.items ≡ self }
+    pub(crate) fn into_pieces(self) -> Arc<Vec<Piece>, Global>
+        ensures written { written_out (arc_value result).items ≡ self }
         ensures proper { AreProper self }
     {
         self.pieces
@@ -71,11 +77,12 @@ impl Script {
         self.count == 0
     }
 
-    /// A script of the same operations. Its only error is want of memory.
-    pub fn copy(&self, alloc: Global) -> Result<Script, Memory>
+    /// A script of the same operations, which both share, so that none of them is copied. Its only error
+    /// is want of memory, where no more owners can be counted.
+    pub fn copy(&self, _alloc: Global) -> Result<Script, Memory>
         ensures { IfOk result (λ script. script ≡ self.now) }
     {
-        let pieces = copy_pieces(alloc, self.pieces.as_slice())?;
+        let pieces = Arc::try_clone(&self.pieces)?;
         Ok(Script {
             pieces,
             count: self.count,

@@ -106,6 +106,21 @@ fn expect_wait(rt: &impl Abort, cursor: &Cursor, wanted: Option<u64>) {
     assert_eq!(rt; found, wanted);
 }
 
+// A value may be shared by threads, and go from one to another.
+fn may_be_shared<T: Send + Sync>(_value: &T) {}
+
+#[test]
+fn a_copy_outlives_its_script(rt: HostRuntime) -> Result<(), Fail> {
+    let script = read_script(rt.alloc(), b"wait 1\nwait 2\n")?;
+    let copy = script.copy(rt.alloc())?;
+    may_be_shared(&copy);
+    drop(script);
+    let cursor = Cursor::new(copy);
+    may_be_shared(&cursor);
+    expect_wait(&rt, &cursor, Some(1));
+    Ok(())
+}
+
 #[test]
 fn a_script_is_copied_and_walked_through(rt: HostRuntime) -> Result<(), Fail> {
     let text = b"wait 1\nwait 2\nrepeat 2\nwait 3\nwait 4\nend\nwait 5\n";

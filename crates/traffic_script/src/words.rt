@@ -5,6 +5,7 @@ ghost use Rattle.traffic_script.specs.Words.{is_plain, is_blank, words_of, text_
 
 use crate::fault::ScriptCode;
 use crate::lines::find;
+use memchr::memchr2;
 
 fn is_blank(byte: u8) -> bool
     ensures { result ≡ is_blank byte }
@@ -12,10 +13,21 @@ fn is_blank(byte: u8) -> bool
     byte == b' ' || byte == b'\t'
 }
 
+fn is_plain(byte: u8) -> bool
+    ensures { result ≡ is_plain byte }
+{
+    byte == b'\t' || (b' ' <= byte && byte <= b'~')
+}
+
+// It looks at every byte, since a loop that may stop early takes them one at a time.
 fn all_plain(line: &[u8]) -> bool
     ensures { result ≡ list_all is_plain line.now }
 {
-    line.iter().all(|b| *b == 9 || (32 <= *b && *b <= 126))
+    let mut plain = true;
+    for byte in line {
+        plain &= is_plain(*byte);
+    }
+    plain
 }
 
 fn without_comment(line: &[u8]) -> &[u8]
@@ -40,7 +52,7 @@ pub fn text_of(line: &[u8]) -> Result<&[u8], ScriptCode>
 fn find_blank(text: &[u8]) -> Option<usize>
     ensures { result ≡ position is_blank text.now }
 {
-    text.iter().position(|b| *b == b' ' || *b == b'\t')
+    memchr2(b' ', b'\t', text)
 }
 
 fn without_blanks(text: &[u8]) -> &[u8]
