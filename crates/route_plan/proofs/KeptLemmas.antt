@@ -6,10 +6,11 @@ use Rattle.tlm_model.specs.Plan.{Plan}
 use Rattle.route_plan.specs.declared.plans.Plan.TheInside.{Inside}
 use Rattle.route_plan.specs.declared.shares.Share.{Share}
 use Rattle.route_plan.specs.Counted.{logged_share_at, share_at}
+use Rattle.route_plan.specs.Counts.{capped}
 use Rattle.route_plan.specs.Planned.{logged_bytes, planned_at}
 use Rattle.route_plan.specs.Ready.{IsReady}
 use Rattle.route_plan.specs.Shape.{IsShape}
-use Rattle.route_plan.specs.Shares.{capped, entries_in, logged_in, memory_shares, pair_share, shares_of, with_scripts}
+use Rattle.route_plan.specs.Shares.{entries_in, logged_in, memory_shares, pair_share, shares_of, with_scripts}
 use Rattle.route_plan.specs.Valid.{IsObject, checked_plan}
 use Rattle.route_plan.proofs.TotalLemmas.{bytes_at, bytes_le, count_memories, count_shares, entries_at, few_bytes, few_entries, memory_kept, none_at_hops, none_at_pools, share_kept, share_le}
 

@@ -1,6 +1,6 @@
 -- No two windows of a router of a good shape lead to one component: some initiator has a path to each router.
-use Rattle.std.proofs.Common.{◌≡◌, ◌≢◌, ◌⊎◌, ℕ, zero, suc, ◌+◌, ◌<◌, ◌≤◌, Bool, true, false, ◌||◌, List, [], ◌∷◌, length, map, get_or, sum_by, Option, Some, None, slice_get, Result, Ok, Err, eqb, nat_lt, true≢false, refl, sym, ap, subst, ◌∙◌, inl, inr, ⊎_elim, zero-add, arith}
-use Rattle.std.specs.List.{AllByRecursion, AllPairs, IsDistinct, list_any, range_with_len}
+use Rattle.std.proofs.Common.{◌≡◌, ◌≢◌, ◌⊎◌, ℕ, zero, suc, ◌+◌, ◌<◌, ◌≤◌, Bool, true, false, ◌||◌, List, [], ◌∷◌, length, get_or, sum_by, Option, Some, None, slice_get, Result, Ok, eqb, nat_lt, true≢false, refl, sym, ap, subst, ◌∙◌, inl, inr, ⊎_elim, zero-add, arith}
+use Rattle.std.specs.List.{AllByRecursion, AllPairs, IsDistinct, list_any}
 use Rattle.std.proofs.lemmas.Bool.{eq-eqb, eqb-true, lt-ltb, ltb-false, ltb-true, or_parts}
 use Rattle.std.proofs.lemmas.List.Folds.{Any-from_list_any, fold-map}
 use Rattle.std.proofs.lemmas.List.Sums.{get_or-le-sum_by, sum_by-cons, sum_by-le-sum_by}
@@ -8,7 +8,7 @@ use Rattle.std.proofs.lemmas.Map.Keys.{IsDistinct-cons}
 use Rattle.std.proofs.lemmas.Map.Steps.{length-le_from_distinct_below}
 use Rattle.std.proofs.lemmas.Option.{get_or_from_slice_get, slice_get-get_or, slice_get_within}
 use Rattle.platform_file.specs.Bounded.{IsBoundedRouter, is_there}
-use Rattle.platform_file.specs.Reading.{Refusal, ◌>>=◌, rows_from}
+use Rattle.platform_file.specs.Reading.{Refusal, rows_from}
 use Rattle.platform_file.proofs.ReadLemmas.{bind_ok, if_ok, unless_ok}
 use Rattle.tlm_model.specs.declared.platform.InitiatorRow.{InitiatorRow}
 use Rattle.tlm_model.specs.declared.platform.Platform.{Platform}
@@ -16,8 +16,8 @@ use Rattle.tlm_model.specs.declared.platform.RouterRow.{RouterRow}
 use Rattle.tlm_model.specs.declared.platform.WindowRow.{WindowRow}
 use Rattle.tlm_model.specs.declared.platform.Target.{Target}
 use Rattle.tlm_model.specs.declared.platform.Target.TheVariants.{Router, Memory}
-use Rattle.route_plan.specs.Paths.{has_path, is_named, is_on_cycle, is_target, once, paths_to, reaches, targets_of}
-use Rattle.route_plan.specs.Shape.{IsShape, checked_acyclic, checked_depth, checked_memory_named, checked_router_named, checked_shape, checked_single, checked_style, checked_windowed, has_two_paths}
+use Rattle.route_plan.specs.Paths.{is_named, is_on_cycle, is_target, once, paths_to, reaches, targets_of}
+use Rattle.route_plan.specs.Shape.{IsShape, checked_acyclic, checked_depth, checked_memory_named, checked_router_named, checked_shape, checked_single, checked_windowed, has_two_paths}
 use Rattle.route_plan.proofs.PathLemmas.{along, any-some, number_found, reaches-some}
 
 pub some_same : {A : Type 0} (x y : A) → ◌≡◌ {A = Option A} (Some x) (Some y) → x ≡ y

@@ -6,13 +6,18 @@ use Rattle.tlm_model.specs.declared.operation.Operation.{Operation}
 use Rattle.tlm_model.specs.declared.platform.InitiatorRow.{InitiatorRow}
 use Rattle.tlm_model.specs.declared.platform.Platform.{Platform}
 use Rattle.tlm_model.specs.Plan.{Plan, Initiator, initiators_of}
-use Rattle.route_plan.specs.declared.counts.Counted.{Counted}
-use Rattle.route_plan.specs.declared.counts.Counted.TheVariants.{Entries, Logged, Invalidations}
 use Rattle.tlm_model.specs.declared.platform.Target.TheVariants.{Memory}
 use Rattle.route_plan.specs.Paths.{has_path, once}
 use Rattle.route_plan.specs.Planned.{Ask, asks_of, leads_to, is_direct, share_of, logged_share}
 use Rattle.route_plan.specs.Planned.Ask.{AnAccess, ADebugRead, AnInvalidation}
 use Rattle.route_plan.specs.Routes.{bound_walk}
+
+-- what is counted at a memory: the entries that accesses, debug reads and invalidations add to its log, the bytes that
+-- accesses and debug reads log, or the invalidations
+pub data Counted : Type 0 where
+  Entries : Counted
+  Logged : Counted
+  Invalidations : Counted
 
 -- an address of the initiator with number n leads to memory m
 abbrev pub is_led_to : Platform → ℕ → ℕ → ℕ → Bool

@@ -7,6 +7,7 @@ pub mod Routes
 pub mod Kept
 pub mod Plans
 pub mod Counted
+pub mod Counts
 pub mod Shares
 pub mod Ready
 pub mod Latencies

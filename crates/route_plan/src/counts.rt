@@ -1,157 +1,182 @@
 // What is counted of scripts at memories.
-ghost use Rattle.std.specs.Prelude.{◌≡◌, ◌<◌, ◌≤◌, ◌*◌, ◌+◌, length, sum_by};
+ghost use Rattle.std.specs.Prelude.{◌≡◌, ◌<◌, ◌≤◌, ◌*◌, ◌+◌, All, IfOk, length, sum_by};
 ghost use Rattle.std.specs.List.{AllByRecursion};
-ghost use Rattle.route_plan.specs.Counted.{is_led_to, counted_of, counted_in};
+ghost use Rattle.route_plan.specs.Counted.{Counted, is_led_to, counted_of, counted_in};
+ghost use Rattle.route_plan.specs.Counts.{AreMore, capped, counts_of, number_of};
+ghost use Rattle.route_plan.specs.Paths.{once};
 ghost use Rattle.route_plan.specs.Planned.{asks_of};
 ghost use Rattle.route_plan.specs.Planned.Ask.{AnAccess, ADebugRead, AnInvalidation};
-ghost use Rattle.traffic_script.specs.Pieces.{repeated, written_out};
+ghost use Rattle.traffic_script.specs.Pieces.{written_out};
 ghost use Rattle.traffic_script.specs.Proper.{IsProper, AreProper};
 
 use crate::routes::Routes;
+use std::alloc::{AllocError, Global};
 use tlm_model::Operation;
 use traffic_script::{Piece, Script};
 
 /// What is counted at a memory: the entries that accesses, debug reads and invalidations routed there
-/// add to its log, the bytes that accesses and debug reads log, or the invalidations.
+/// add to its log, the bytes that accesses and debug reads log, and the invalidations. Sums stand
+/// still at the greatest number, which no script comes near.
 #[derive(Clone, Copy)]
-pub enum Counted {
-    Entries,
-    Logged,
-    Invalidations,
+pub struct Count {
+    pub entries: u64,
+    pub logged: u64,
+    pub invalidations: u64,
 }
 
-/// A count of what an initiator asks for that is routed to a memory.
+impl Count {
+    /// This and so many times more.
+    fn plus(self, more: Count, times: u64) -> Count
+        ensures { (c : Counted) → number_of c result ≡ capped (number_of c self + number_of c more * times) }
+    {
+        Count {
+            entries: self
+                .entries
+                .saturating_add(more.entries.saturating_mul(times)),
+            logged: self
+                .logged
+                .saturating_add(more.logged.saturating_mul(times)),
+            invalidations: self
+                .invalidations
+                .saturating_add(more.invalidations.saturating_mul(times)),
+        }
+    }
+}
+
+/// A count of what an initiator asks for, at all memories at once: each address is routed, and what it
+/// adds is added so many times at the place of the memory that it leads to.
 #[derive(Clone, Copy)]
-pub struct Tally<'p> {
-    pub routes: &'p Routes,
-    pub initiator: u32,
-    pub memory: u32,
-    pub counted: Counted,
+struct Tally<'p> {
+    routes: &'p Routes,
+    initiator: u32,
     ghost there: { initiator < length routes.now.initiators },
 }
 
 impl<'p> Tally<'p> {
-    /// Whether an address of the initiator leads to the memory.
-    fn is_led_to(&self, address: u64) -> bool
-        ensures { result ≡ is_led_to self.now.routes.now self.now.initiator self.now.memory address }
+    fn add(&self, counts: &mut [Count], address: u64, more: Count, times: u64)
+        ensures { AreMore (λ c m. number_of c more * once (is_led_to self.now.routes.now self.now.initiator m address) * times) counts.old counts.new }
     {
-        match self.routes.route(self.initiator, address) {
-            Some(route) => route.memory == self.memory,
-            None => false,
+        let Some(route) = self.routes.route(self.initiator, address) else {
+            return;
+        };
+        let place = route.memory as usize;
+        if place < counts.len() {
+            counts[place] = counts[place].plus(more, times);
         }
     }
 
-    /// An access that logs so many bytes: its length and its enables.
-    fn of_access(&self, address: u64, bytes: u64) -> u64
-        requires { bytes ≤ 8192 }
-        ensures counted { result ≡ counted_of self.now.counted self.now.routes.now self.now.initiator self.now.memory (AnAccess address bytes) }
-        ensures few { result ≤ 8192 }
+    /// Accesses of one address that log so many bytes each: their length and their enables.
+    fn add_accesses(&self, counts: &mut [Count], address: u64, bytes: u64, times: u64)
+        ensures { AreMore (λ c m. counted_of c self.now.routes.now self.now.initiator m (AnAccess address bytes) * times) counts.old counts.new }
     {
-        if !self.is_led_to(address) {
-            return 0;
-        }
-        match self.counted {
-            Counted::Entries => 1,
-            Counted::Logged => bytes,
-            Counted::Invalidations => 0,
-        }
+        let access = Count {
+            entries: 1,
+            logged: bytes,
+            invalidations: 0,
+        };
+        self.add(counts, address, access, times);
     }
 
-    fn of_debug_read(&self, address: u64, bytes: u64) -> u64
-        requires { bytes ≤ 8192 }
-        ensures counted { result ≡ counted_of self.now.counted self.now.routes.now self.now.initiator self.now.memory (ADebugRead address bytes) }
-        ensures few { result ≤ 8192 }
+    fn add_debug_reads(&self, counts: &mut [Count], address: u64, bytes: u64, times: u64)
+        ensures { AreMore (λ c m. counted_of c self.now.routes.now self.now.initiator m (ADebugRead address bytes) * times) counts.old counts.new }
     {
-        self.of_access(address, bytes)
+        self.add_accesses(counts, address, bytes, times);
     }
 
-    fn of_invalidation(&self, address: u64) -> u64
-        ensures counted { result ≡ counted_of self.now.counted self.now.routes.now self.now.initiator self.now.memory (AnInvalidation address) }
-        ensures few { result ≤ 1 }
+    fn add_invalidations(&self, counts: &mut [Count], address: u64, times: u64)
+        ensures { AreMore (λ c m. counted_of c self.now.routes.now self.now.initiator m (AnInvalidation address) * times) counts.old counts.new }
     {
-        if !self.is_led_to(address) {
-            return 0;
-        }
-        match self.counted {
-            Counted::Entries | Counted::Invalidations => 1,
-            Counted::Logged => 0,
-        }
+        let invalidation = Count {
+            entries: 1,
+            logged: 0,
+            invalidations: 1,
+        };
+        self.add(counts, address, invalidation, times);
     }
 
-    fn of_operation(&self, operation: &Operation) -> u64
+    fn add_operation(&self, counts: &mut [Count], operation: &Operation, times: u32)
         requires { IsProper operation.now }
-        ensures counted { result ≡ sum_by (counted_of self.now.counted self.now.routes.now self.now.initiator self.now.memory) (asks_of operation.now) }
-        ensures few { result ≤ 16384 }
+        ensures { AreMore (λ c m. sum_by (counted_of c self.now.routes.now self.now.initiator m) (asks_of operation.now) * times) counts.old counts.new }
     {
+        let times = times as u64;
         match operation {
             Operation::Write {
                 address,
                 bytes,
                 enables,
                 width: _,
-            } => self.of_access(
-                *address,
-                bytes.as_slice().len() as u64 + enables.as_slice().len() as u64,
-            ),
+            } => {
+                let logged = bytes.as_slice().len() as u64 + enables.as_slice().len() as u64;
+                self.add_accesses(counts, *address, logged, times);
+            }
             Operation::Read {
                 address,
                 length,
                 enables,
                 width: _,
-            } => self.of_access(*address, *length + enables.as_slice().len() as u64),
-            Operation::Ignore { address } => self.of_access(*address, 0),
-            Operation::Debug { address, length } => self.of_debug_read(*address, *length),
+            } => {
+                let logged = *length + enables.as_slice().len() as u64;
+                self.add_accesses(counts, *address, logged, times);
+            }
+            Operation::Ignore { address } => self.add_accesses(counts, *address, 0, times),
+            Operation::Debug { address, length } => {
+                self.add_debug_reads(counts, *address, *length, times);
+            }
             Operation::Copy { from, to, length } => {
-                self.of_access(*from, *length) + self.of_access(*to, *length)
+                self.add_accesses(counts, *from, *length, times);
+                self.add_accesses(counts, *to, *length, times);
             }
             Operation::Add { address, number: _ } => {
-                self.of_access(*address, 4) + self.of_access(*address, 4)
+                self.add_accesses(counts, *address, 4, 2 * times);
             }
-            Operation::Wait { time: _ } => 0,
-            Operation::Sync => 0,
-            Operation::Fence => 0,
-            Operation::Invalidate { address, length: _ } => self.of_invalidation(*address),
+            Operation::Wait { time: _ } => {}
+            Operation::Sync => {}
+            Operation::Fence => {}
+            Operation::Invalidate { address, length: _ } => {
+                self.add_invalidations(counts, *address, times);
+            }
         }
     }
 
-    fn of_operations(&self, operations: &[Operation]) -> u64
-        requires { AreProper operations.now }
-        ensures counted { result ≡ counted_in self.now.counted self.now.routes.now self.now.initiator self.now.memory operations.now }
-        ensures few { result ≤ 16384 * length operations.now }
+    /// Operations that are repeated: each is looked at once.
+    fn add_operations(&self, counts: &mut [Count], operations: &[Operation], times: u32)
+        requires { AllByRecursion IsProper operations.now }
+        ensures { AreMore (λ c m. counted_in c self.now.routes.now self.now.initiator m operations.now * times) counts.old counts.new }
     {
-        let mut sum = 0;
         for operation in operations {
-            sum += self.of_operation(operation);
+            self.add_operation(counts, operation, times);
         }
-        sum
     }
 
-    /// Operations that are repeated: they are counted once.
-    fn of_piece(&self, piece: &Piece) -> u64
-        requires { AreProper (repeated piece.now.times piece.now.operations) }
-        ensures counted { result ≡ counted_in self.now.counted self.now.routes.now self.now.initiator self.now.memory (repeated piece.now.times piece.now.operations) }
-        ensures few { result ≤ 16384 * length (repeated piece.now.times piece.now.operations) }
-    {
-        self.of_operations(piece.operations.as_slice()) * piece.times as u64
-    }
-
-    fn of_pieces(&self, pieces: &[Piece]) -> u64
+    fn add_pieces(&self, counts: &mut [Count], pieces: &[Piece])
         requires { AreProper (written_out pieces.now) }
-        ensures counted { result ≡ counted_in self.now.counted self.now.routes.now self.now.initiator self.now.memory (written_out pieces.now) }
-        ensures few { result ≤ 16384 * length (written_out pieces.now) }
+        ensures { AreMore (λ c m. counted_in c self.now.routes.now self.now.initiator m (written_out pieces.now)) counts.old counts.new }
     {
-        let mut sum = 0;
         for piece in pieces {
-            sum += self.of_piece(piece);
+            self.add_operations(counts, piece.operations.as_slice(), piece.times);
         }
-        sum
     }
+}
 
-    /// What is counted of a script: at most 1,638,400,000.
-    pub fn of_script(&self, script: &Script) -> u64
-        ensures counted { result ≡ counted_in self.now.counted self.now.routes.now self.now.initiator self.now.memory script.now }
-        ensures few { result ≤ 1638400000 }
-    {
-        self.of_pieces(script.pieces())
-    }
+/// What is counted of a script at each memory, in one pass. Its only error is want of memory.
+pub fn counts(
+    alloc: Global,
+    routes: &Routes,
+    initiator: u32,
+    script: &Script,
+) -> Result<Vec<Count>, AllocError>
+    requires { initiator < length routes.now.initiators }
+    ensures counted { IfOk result (λ counts. counts.items ≡ counts_of routes.now initiator script.now) }
+    ensures few { IfOk result (λ counts. All (λ count. count.entries ≤ 1638400000) counts.items) }
+{
+    let none = Count {
+        entries: 0,
+        logged: 0,
+        invalidations: 0,
+    };
+    let few = routes.platform().memories.as_slice().len();
+    let mut counts = vec![in alloc; none; few]?;
+    let tally = Tally { routes, initiator };
+    tally.add_pieces(counts.as_mut_slice(), script.pieces());
+    Ok(counts)
 }

@@ -9,8 +9,9 @@
 //! - Inside, `Walks` are walks along windows, whatever the addresses. They are counted level by level,
 //!   a count for each router, where two stand for any more: no path is listed, so sixteen routers of
 //!   sixteen windows take no longer than their windows times their number. `Routes` are the tables of
-//!   a platform's windows and hops. A `Tally` counts a script at a memory, where what is repeated is
-//!   counted once and multiplied, and a `Share` is what was counted of an initiator at a memory.
+//!   a platform's windows and hops. A `Tally` counts a script at all memories in one pass, where what
+//!   is repeated is counted once and multiplied, and a `Share` is what was counted of an initiator at a
+//!   memory.
 //!
 //! Promises: a platform is refused just where `checked_shape` of `specs/Shape.antt` refuses it, with
 //! that refusal, and a `Shape` is the platform that it was made of. A plan is refused just where

@@ -1,13 +1,14 @@
 // What each initiator may add to each memory.
-ghost use Rattle.std.specs.Prelude.{◌≡◌, ◌<◌, ◌≤◌, ◌^◌, IfOk, List, length, sum_by};
+ghost use Rattle.std.specs.Prelude.{◌≡◌, ◌<◌, ◌≤◌, ◌^◌, All, IfOk, List, length, map, slice_index_or, sum_by};
 ghost use Rattle.std.specs.List.{range_with_len};
 ghost use Rattle.tlm_model.specs.declared.operation.Operation.{Operation};
 ghost use Rattle.tlm_model.specs.declared.platform.Platform.{Platform};
 ghost use Rattle.tlm_model.specs.Plan.{Plan};
-ghost use Rattle.route_plan.specs.Counted.{counted_in, is_granted_at};
-ghost use Rattle.route_plan.specs.Shares.{capped, entries_in, gates_in, logged_in, memory_shares, share_in, shares_of, with_scripts};
+ghost use Rattle.route_plan.specs.Counted.{is_granted_at};
+ghost use Rattle.route_plan.specs.Counts.{capped};
+ghost use Rattle.route_plan.specs.Shares.{entries_in, gates_in, logged_in, no_share, script_shares, share_in, shares_by_initiator, shares_of, with_scripts};
 
-use crate::counts::{Counted, Tally};
+use crate::counts::{Count, counts};
 use crate::paths::has_path;
 use crate::routes::Routes;
 use crate::walks::Component;
@@ -20,21 +21,6 @@ use traffic_script::Script;
 pub struct Share {
     pub entries: u64,
     pub logged: u64,
-}
-
-/// The count of what the initiator asks for that is routed to a memory.
-fn tally(routes: &Routes, script: &Script, initiator: u32, memory: u32, counted: Counted) -> u64
-    requires { initiator < length routes.now.initiators }
-    ensures counted { result ≡ counted_in counted routes.now initiator memory script.now }
-    ensures few { result ≤ 1638400000 }
-{
-    let tally = Tally {
-        routes,
-        initiator,
-        memory,
-        counted,
-    };
-    tally.of_script(script)
 }
 
 /// Whether the initiator is direct and has a path to a memory. Its only error is want of memory.
@@ -54,66 +40,98 @@ fn is_granted(
     }
 }
 
-/// The entries of the gates of a memory: granted to the initiator, and closed by it.
+/// The entries of the gates of a memory: granted to the initiator, and closed by its invalidations.
 fn gates(
     alloc: Global,
-    routes: &Routes,
-    script: &Script,
+    platform: &Platform,
     initiator: u32,
     memory: u32,
+    invalidations: u64,
 ) -> Result<u64, AllocError>
-    requires initiator { initiator < length routes.now.initiators }
-    requires memory { memory < length routes.now.memories }
-    ensures gates { IfOk result (λ n. n ≡ gates_in routes.now initiator memory script.now) }
+    requires initiator { initiator < length platform.now.initiators }
+    requires memory { memory < length platform.now.memories }
+    ensures gates { IfOk result (λ n. n ≡ gates_in platform.now initiator memory invalidations) }
     ensures few { IfOk result (λ n. n < 2 ^ 33) }
 {
-    let row = &routes.platform().memories.as_slice()[memory as usize];
+    let row = &platform.memories.as_slice()[memory as usize];
     if !row.traits.dmi {
         return Ok(0);
     }
-    let granted = is_granted(alloc, routes.platform(), initiator, memory)?;
-    let closed = tally(routes, script, initiator, memory, Counted::Invalidations) > 0;
+    let granted = is_granted(alloc, platform, initiator, memory)?;
+    let closed = invalidations > 0;
     Ok(row.traits.gates as u64 * (granted as u64 + closed as u64))
 }
 
-/// What the initiator with this script may add to a memory.
+/// What an initiator may add to a memory where this is counted of its script.
 fn counted_share(
     alloc: Global,
-    routes: &Routes,
-    script: &Script,
+    platform: &Platform,
     initiator: u32,
     memory: u32,
+    count: Count,
 ) -> Result<Share, AllocError>
-    requires initiator { initiator < length routes.now.initiators }
-    requires memory { memory < length routes.now.memories }
-    ensures { IfOk result (λ share. share ≡ share_in routes.now initiator memory script.now) }
+    requires initiator { initiator < length platform.now.initiators }
+    requires memory { memory < length platform.now.memories }
+    requires few { count.entries ≤ 1638400000 }
+    ensures { IfOk result (λ share. share ≡ share_in platform.now initiator memory count) }
 {
-    let entries = tally(routes, script, initiator, memory, Counted::Entries);
-    let gates = gates(alloc, routes, script, initiator, memory)?;
-    let logged = tally(routes, script, initiator, memory, Counted::Logged);
+    let gates = gates(alloc, platform, initiator, memory, count.invalidations)?;
     Ok(Share {
-        entries: entries + gates,
-        logged,
+        entries: count.entries + gates,
+        logged: count.logged,
     })
 }
 
-/// What each initiator may add to a memory.
-fn memory_shares(
+/// What the initiator with this script may add to each memory.
+fn script_shares(
+    alloc: Global,
+    routes: &Routes,
+    initiator: u32,
+    script: &Script,
+) -> Result<Rows<Share>, AllocError>
+    requires { initiator < length routes.now.initiators }
+    ensures { IfOk result (λ shares. shares ≡ script_shares routes.now initiator script.now) }
+{
+    let platform = routes.platform();
+    let counts = counts(alloc, routes, initiator, script)?;
+    let mut shares = Vec::new(alloc);
+    for memory in 0..platform.memories.as_slice().len() {
+        let count = counts[memory];
+        let share = counted_share(alloc, platform, initiator, memory as u32, count)?;
+        shares.push(share)?;
+    }
+    Ok(Rows::from_vec(shares))
+}
+
+/// The same of each initiator.
+fn all_shares(
     alloc: Global,
     routes: &Routes,
     scripts: &[Script],
-    memory: u32,
-) -> Result<Rows<Share>, AllocError>
-    requires memory { memory < length routes.now.memories }
-    requires each { length scripts.now ≡ length routes.now.initiators }
-    ensures { IfOk result (λ shares. shares ≡ memory_shares (with_scripts routes.now scripts.now) memory) }
+) -> Result<Vec<Rows<Share>>, AllocError>
+    requires { length scripts.now ≡ length routes.now.initiators }
+    ensures { IfOk result (λ rows. rows.items ≡ shares_by_initiator (with_scripts routes.now scripts.now)) }
 {
-    let few = routes.platform().initiators.as_slice().len();
+    let mut rows = Vec::new(alloc);
+    for initiator in 0..routes.platform().initiators.as_slice().len() {
+        let row = script_shares(alloc, routes, initiator as u32, &scripts[initiator])?;
+        rows.push(row)?;
+    }
+    Ok(rows)
+}
+
+/// What each initiator may add to the memory in this place of its row.
+fn memory_shares(
+    alloc: Global,
+    rows: &[Rows<Share>],
+    memory: usize,
+) -> Result<Rows<Share>, AllocError>
+    requires { All (λ row. memory < length row) rows.now }
+    ensures { IfOk result (λ shares. shares ≡ map (λ row. slice_index_or row memory no_share) rows.now) }
+{
     let mut shares = Vec::new(alloc);
-    for initiator in 0..few {
-        let script = &scripts[initiator];
-        let more = counted_share(alloc, routes, script, initiator as u32, memory)?;
-        shares.push(more)?;
+    for row in rows {
+        shares.push(row.as_slice()[memory])?;
     }
     Ok(Rows::from_vec(shares))
 }
@@ -127,9 +145,10 @@ pub fn shares(
     requires { length scripts.now ≡ length routes.now.initiators }
     ensures { IfOk result (λ shares. shares ≡ shares_of (with_scripts routes.now scripts.now)) }
 {
+    let rows = all_shares(alloc, routes, scripts)?;
     let mut shares = Vec::new(alloc);
     for memory in 0..routes.platform().memories.as_slice().len() {
-        let more = memory_shares(alloc, routes, scripts, memory as u32)?;
+        let more = memory_shares(alloc, rows.as_slice(), memory)?;
         shares.push(more)?;
     }
     Ok(Rows::from_vec(shares))

@@ -1,5 +1,6 @@
 use Rattle.std.proofs.Common.{◌≡◌, take}
-use Rattle.route_plan.specs.Shares.{capped, entries_in}
+use Rattle.route_plan.specs.Counts.{capped}
+use Rattle.route_plan.specs.Shares.{entries_in}
 use Rattle.route_plan.proofs.shares.entries_in.Given as goal
 
 abbrev pub invariant-loop-share : goal.invariant-loop-share

@@ -1,5 +1,6 @@
 use Rattle.std.proofs.Common.{◌≡◌, take, sum_by}
-use Rattle.route_plan.specs.Shares.{capped, entries_in}
+use Rattle.route_plan.specs.Counts.{capped}
+use Rattle.route_plan.specs.Shares.{entries_in}
 use Rattle.route_plan.proofs.shares.entries_in_all.Given as goal
 
 abbrev pub invariant-loop-of_memory : goal.invariant-loop-of_memory

@@ -1,5 +1,6 @@
 use Rattle.std.proofs.Common.{◌≡◌, take}
-use Rattle.route_plan.specs.Shares.{capped, logged_in}
+use Rattle.route_plan.specs.Counts.{capped}
+use Rattle.route_plan.specs.Shares.{logged_in}
 use Rattle.route_plan.proofs.shares.logged_in.Given as goal
 
 abbrev pub invariant-loop-share : goal.invariant-loop-share
