@@ -9,3 +9,4 @@ pub mod Carried
 pub mod LegLaws
 pub mod Benches
 pub mod SeatedHops
+pub mod NewLemmas

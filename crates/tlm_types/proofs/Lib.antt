@@ -1,1 +1,2 @@
+mod ShortForms
 mod Stored

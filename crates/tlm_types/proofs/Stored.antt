@@ -1,20 +1,20 @@
 -- The items of a log read the same after bytes were appended, and an access reads as its parts.
-use Rattle.std.proofs.Common.{◌≡◌, ℕ, false, suc, ◌+◌, ◌-◌, ◌≤◌, List, [], ◌∷◌, ◌++◌, length, drop, slice_range, All, refl, sym, ◌∙◌, arith, append_assoc, length-append}
+use Rattle.std.proofs.Common.{◌≡◌, ℕ, zero, suc, ◌+◌, ◌-◌, ◌≤◌, List, [], ◌∷◌, ◌++◌, length, drop, slice_range, slice_get, get_or, All, refl, sym, ◌∙◌, arith, append_assoc, length-append}
+use Rattle.std.specs.Prelude.{option_and_then}
 use Rattle.std.proofs.lemmas.List.{map-append, take_at, drop_at, take-append-le, drop-append-le, length-drop, append-nil}
+use Rattle.std.proofs.lemmas.List.Elements.{All-push}
 use Rattle.tlm_types.specs.declared.entry.Facts.{Facts}
 use Rattle.tlm_types.specs.declared.entry.Head.{Head}
-use Rattle.tlm_types.specs.declared.log.Event.{Event}
-use Rattle.tlm_types.specs.declared.log.Event.TheVariants.{Plain as Simple, Access}
-use Rattle.tlm_types.specs.declared.log.Item.{Item}
-use Rattle.tlm_types.specs.declared.log.Span.{Span}
-use Rattle.tlm_types.specs.declared.log.StoredAccess.{StoredAccess}
+use Rattle.tlm_types.specs.declared.log.long.Event.{Event}
+use Rattle.tlm_types.specs.declared.log.long.Event.TheVariants.{Plain as Simple, Access}
+use Rattle.tlm_types.specs.declared.log.long.LongItem.{LongItem}
+use Rattle.tlm_types.specs.declared.log.long.Plain.TheVariants as plains
+use Rattle.tlm_types.specs.declared.log.long.Span.{Span}
 use Rattle.tlm_types.specs.declared.words.Command.{Command}
 use Rattle.tlm_types.specs.declared.words.Way.{Way}
 use Rattle.tlm_types.specs.declared.words.Command.TheVariants.{Read, Write, Ignore}
-use Rattle.tlm_types.specs.declared.entry.What.{What}
-use Rattle.tlm_types.specs.declared.entry.What.TheVariants.{Access as Accessed, Granted, Invalidated, Closed, Call, Take, Acquire, Release}
-use Rattle.tlm_types.specs.Log.{access_by, entry_at, is_access, kept_of, kept_sent, sent_by}
-use Rattle.tlm_types.specs.LogItem.{what_in, entry_of, entries_of, item_for, stored_at, IsKept}
+use Rattle.tlm_types.specs.Log.{access_by, entry_at, kept_of, kept_sent, plain_of, read_at, sent_by}
+use Rattle.tlm_types.specs.LogItem.{what_in, entry_of, entries_of, item_for, plain_in, stored_at, IsKept, IsLast}
 
 -- a part of the bytes is the same after more were appended
 pub slice_range-append : (xs ys : List ℕ) (i j : ℕ) → i ≤ j → j ≤ length xs → slice_range (xs ++ ys) i j ≡ slice_range xs i j
@@ -37,19 +37,12 @@ what_in-append bytes more start (Access a) kept =
     let got = slice_range-append bytes more a.got_start a.end kept.2 kept.3 in
     rw (sent, enables, got) refl
 
-pub entries_of-append : (bytes more : List ℕ) (items : List Item) → All (λ i. IsKept (length bytes) i.start i.event) items → entries_of (bytes ++ more) items ≡ entries_of bytes items
+pub entries_of-append : (bytes more : List ℕ) (items : List LongItem) → All (λ i. IsKept (length bytes) i.start i.event) items → entries_of (bytes ++ more) items ≡ entries_of bytes items
 entries_of-append bytes more [] kept = refl
 entries_of-append bytes more (item ∷ items) kept =
     let first = what_in-append bytes more item.start item.event (kept 0 item (omega arith)) in
     let rest = entries_of-append bytes more items (λ k d below. kept (suc k) d (omega arith)) in
     rw (first, rest) refl
-
--- where the bytes of an access stand that were appended to n bytes
-pub record IsLast (n sent enables got : ℕ) (s : Span) : Type 0 where
-  pub start : s.start ≡ n
-  pub enables_start : s.enables_start ≡ s.start + sent
-  pub got_start : s.got_start ≡ s.enables_start + enables
-  pub end : s.end ≡ s.got_start + got
 
 -- an access whose bytes were appended last
 pub what_in-last : (bytes sent enables got : List ℕ) (f : Facts) (s : Span) → IsLast (length bytes) (length sent) (length enables) (length got) s → what_in (bytes ++ (sent ++ (enables ++ got))) s.start (Access (stored_at f s)) ≡ access_by f sent enables got
@@ -67,7 +60,7 @@ what_in-last bytes sent enables got f s last =
     rw (first, second', third') refl
 
 -- the entries after an access whose bytes were appended
-pub entries_of-access : (bytes sent enables got : List ℕ) (items : List Item) (head : Head) (f : Facts) (s : Span) → All (λ i. IsKept (length bytes) i.start i.event) items → IsLast (length bytes) (length sent) (length enables) (length got) s → entries_of (bytes ++ (sent ++ (enables ++ got))) (items ++ item_for head s.start (Access (stored_at f s)) ∷ []) ≡ entries_of bytes items ++ entry_at head (access_by f sent enables got) ∷ []
+pub entries_of-access : (bytes sent enables got : List ℕ) (items : List LongItem) (head : Head) (f : Facts) (s : Span) → All (λ i. IsKept (length bytes) i.start i.event) items → IsLast (length bytes) (length sent) (length enables) (length got) s → entries_of (bytes ++ (sent ++ (enables ++ got))) (items ++ item_for head s.start (Access (stored_at f s)) ∷ []) ≡ entries_of bytes items ++ entry_at head (access_by f sent enables got) ∷ []
 entries_of-access bytes sent enables got items head f s kept last =
     let more = sent ++ (enables ++ got) in
     let split = map-append (entry_of (bytes ++ more)) items (item_for head s.start (Access (stored_at f s)) ∷ []) in
@@ -75,16 +68,19 @@ entries_of-access bytes sent enables got items head f s kept last =
     let pushed = what_in-last bytes sent enables got f s last in
     rw (split, before, pushed) refl
 
--- of what isn't an access no bytes are kept
-pub kept_of-plain : (w : What) → is_access w ≡ false → kept_of w ≡ 0
-kept_of-plain (Accessed way access status got) plain = cc
-kept_of-plain (Granted gate first last kind) plain = refl
-kept_of-plain (Invalidated first last) plain = refl
-kept_of-plain (Closed gate) plain = refl
-kept_of-plain (Call phase answer) plain = refl
-kept_of-plain (Take slot) plain = refl
-kept_of-plain (Acquire slot) plain = refl
-kept_of-plain (Release slot freed) plain = refl
+IsKept-more : (m n start : ℕ) (event : Event) → m ≤ n → IsKept m start event → IsKept n start event
+IsKept-more m n start (Simple plain) more kept = tt
+IsKept-more m n start (Access a) more kept = (kept.0, kept.1, kept.2, omega arith)
+
+-- the items after an access whose bytes were appended
+pub kept-access : (m n sent enables got : ℕ) (items : List LongItem) (head : Head) (f : Facts) (s : Span) → All (λ i. IsKept m i.start i.event) items → IsLast m sent enables got s → n ≡ s.end → All (λ i. IsKept n i.start i.event) (items ++ item_for head s.start (Access (stored_at f s)) ∷ [])
+kept-access m n sent enables got items head f s kept last all =
+    let start = last.start in
+    let enables_start = last.enables_start in
+    let got_start = last.got_start in
+    let end = last.end in
+    let before : All (λ i. IsKept n i.start i.event) items = λ k d below. IsKept-more m n (get_or items k d).start (get_or items k d).event (omega arith) (kept k d below) in
+    All-push (λ i. IsKept n i.start i.event) items (item_for head s.start (Access (stored_at f s))) before (omega arith, omega arith, omega arith, omega arith)
 
 kept_sent-sent_by : (command : Command) (way : Way) (n : ℕ) (sent : List ℕ) → (command ≡ Read → sent ≡ []) → kept_sent command (sent_by command way n sent) ≡ sent
 kept_sent-sent_by Read way n sent none = sym (none refl)
@@ -94,3 +90,19 @@ kept_sent-sent_by Ignore way n sent none = refl
 -- of an access those bytes are kept that were handed in
 pub kept_of-access_by : (f : Facts) (sent enables got : List ℕ) → (f.command ≡ Read → sent ≡ []) → kept_of (access_by f sent enables got) ≡ length sent + length enables + length got
 kept_of-access_by f sent enables got none = rw (kept_sent-sent_by f.command f.way f.length sent none) refl
+
+-- what is read of an event is what happened, where it is no access
+pub plain_of-what_in : (bytes : List ℕ) (start : ℕ) (event : Event) → plain_of (what_in bytes start event) ≡ plain_in event
+plain_of-what_in bytes start (Access a) = refl
+plain_of-what_in bytes start (Simple (plains.Granted gate kind first last)) = refl
+plain_of-what_in bytes start (Simple (plains.Invalidated first last)) = refl
+plain_of-what_in bytes start (Simple (plains.Closed gate)) = refl
+plain_of-what_in bytes start (Simple (plains.Call phase answer)) = refl
+plain_of-what_in bytes start (Simple (plains.Take slot)) = refl
+plain_of-what_in bytes start (Simple (plains.Acquire slot)) = refl
+plain_of-what_in bytes start (Simple (plains.Release slot freed)) = refl
+
+pub read_at-plain : (bytes : List ℕ) (items : List LongItem) (index : ℕ) → read_at plain_of (entries_of bytes items) index ≡ option_and_then (λ i. plain_in i.event) (slice_get items index)
+read_at-plain bytes [] index = refl
+read_at-plain bytes (item ∷ items) zero = plain_of-what_in bytes item.start item.event
+read_at-plain bytes (item ∷ items) (suc index) = read_at-plain bytes items index

@@ -1,24 +1,31 @@
 -- How a log keeps its entries: as items, whose accesses have their bytes in one list.
-use Rattle.std.specs.Prelude.{ℕ, ◌+◌, ◌^◌, ◌<◌, ◌≤◌, List, All, Option, Some, None, length, map, slice_range, slice_get, option_and_then}
+use Rattle.std.specs.Prelude.{◌≡◌, ℕ, ◌+◌, ◌^◌, ◌<◌, ◌≤◌, List, All, Option, Some, None, length, map, [], get_or, slice_range, slice_get, option_and_then}
 use Rattle.tlm_types.specs.declared.entry.Entry.{Entry}
 use Rattle.tlm_types.specs.declared.entry.Facts.{Facts}
 use Rattle.tlm_types.specs.declared.entry.Head.{Head}
 use Rattle.tlm_types.specs.declared.entry.What.{What}
 use Rattle.tlm_types.specs.declared.entry.What.TheVariants as whats
-use Rattle.tlm_types.specs.declared.log.Event.{Event}
-use Rattle.tlm_types.specs.declared.log.Event.TheVariants.{Plain as Simple, Access}
-use Rattle.tlm_types.specs.declared.log.Item.{Item}
-use Rattle.tlm_types.specs.declared.log.Plain.{Plain}
-use Rattle.tlm_types.specs.declared.log.Plain.TheVariants.{Granted, Invalidated, Closed, Call, Take, Acquire, Release}
-use Rattle.tlm_types.specs.declared.log.Span.{Span}
-use Rattle.tlm_types.specs.declared.log.StoredAccess.{StoredAccess}
+use Rattle.tlm_types.specs.declared.log.item.Item.{Item}
+use Rattle.tlm_types.specs.declared.log.item.Item.TheVariants as items
+use Rattle.tlm_types.specs.declared.log.item.ShortHead.{ShortHead}
+use Rattle.tlm_types.specs.declared.log.long.Event.{Event}
+use Rattle.tlm_types.specs.declared.log.long.Event.TheVariants.{Plain as Simple, Access}
+use Rattle.tlm_types.specs.declared.log.long.LongItem.{LongItem}
+use Rattle.tlm_types.specs.declared.log.long.Plain.{Plain}
+use Rattle.tlm_types.specs.declared.log.long.Plain.TheVariants.{Granted, Invalidated, Closed, Call, Take, Acquire, Release}
+use Rattle.tlm_types.specs.declared.log.long.Span.{Span}
+use Rattle.tlm_types.specs.declared.log.long.StoredAccess.{StoredAccess}
+use Rattle.tlm_types.specs.declared.words.Command.{Command}
+use Rattle.tlm_types.specs.declared.words.Command.TheVariants.{Read, Write, Ignore}
+use Rattle.tlm_types.specs.declared.words.ObjectNo.{ObjectNo}
+use Rattle.tlm_types.specs.declared.words.ObjectNo.TheVariants.{Memory, Hop, Pool}
 use Rattle.tlm_types.specs.Log.{access_by, entry_at}
 
--- the item of an event at this place and time, and back
-abbrev pub item_for : Head → ℕ → Event → Item
+-- the long item of an event at this place and time, and back
+abbrev pub item_for : Head → ℕ → Event → LongItem
 item_for h start event = record { position = h.position; time = h.time; seq = h.txn.seq; initiator = h.txn.initiator; start = start; object = h.object; event = event }
 
-abbrev pub head_in : Item → Head
+abbrev pub head_in : LongItem → Head
 head_in i = record { position = i.position; object = i.object; txn = record { initiator = i.initiator; seq = i.seq }; time = i.time }
 
 -- the access with these parts whose bytes stand there, and back
@@ -38,15 +45,31 @@ plain_what (Take slot) = whats.Take slot
 plain_what (Acquire slot) = whats.Acquire slot
 plain_what (Release slot freed) = whats.Release slot freed
 
+abbrev pub plain_in : Event → Option What
+plain_in (Simple plain) = Some (plain_what plain)
+plain_in (Access a) = None
+
+-- the plain parts of an access, and where its bytes stand
+abbrev pub facts_from : Event → Option Facts
+facts_from (Simple plain) = None
+facts_from (Access a) = Some (facts_in a)
+
+abbrev pub span_from : ℕ → Event → Option Span
+span_from start (Simple plain) = None
+span_from start (Access a) = Some (record { start = start; enables_start = a.enables_start; got_start = a.got_start; end = a.end })
+
+abbrev pub span_at : List LongItem → ℕ → Option Span
+span_at items index = option_and_then (λ i. span_from i.start i.event) (slice_get items index)
+
 -- what happened, where these are the bytes of the accesses, and an access's begin there
 abbrev pub what_in : List ℕ → ℕ → Event → What
 what_in bytes start (Simple plain) = plain_what plain
 what_in bytes start (Access a) = access_by (facts_in a) (slice_range bytes start a.enables_start) (slice_range bytes a.enables_start a.got_start) (slice_range bytes a.got_start a.end)
 
-abbrev pub entry_of : List ℕ → Item → Entry
+abbrev pub entry_of : List ℕ → LongItem → Entry
 entry_of bytes item = entry_at (head_in item) (what_in bytes item.start item.event)
 
-abbrev pub entries_of : List ℕ → List Item → List Entry
+abbrev pub entries_of : List ℕ → List LongItem → List Entry
 entries_of bytes items = map (entry_of bytes) items
 
 -- the bytes of an access lie among the first n
@@ -54,17 +77,65 @@ abbrev pub IsKept : ℕ → ℕ → Event → Type 0
 IsKept n start (Simple plain) = Unit {0}
 IsKept n start (Access a) = (start ≤ a.enables_start) × (a.enables_start ≤ a.got_start) × (a.got_start ≤ a.end) × (a.end ≤ n)
 
--- a log of these items and bytes, with room for so many in all and for so many bytes more
-pub record IsStored (items : List Item) (bytes : List ℕ) (room room_bytes items_capacity bytes_capacity : ℕ) : Type 0 where
+-- a log of these items and bytes, with room for so many bytes more
+pub record IsStored (items : List LongItem) (bytes : List ℕ) (room_bytes capacity : ℕ) : Type 0 where
   pub kept : All (λ i. IsKept (length bytes) i.start i.event) items
-  pub roomy : room ≤ items_capacity
-  pub roomy_bytes : length bytes + room_bytes ≤ bytes_capacity
+  pub roomy : length bytes + room_bytes ≤ capacity
   pub small : length bytes + room_bytes < 2 ^ 32
 
--- where the bytes of an access stand, if it is one, and of the access at a place
-abbrev pub span_of : ℕ → Event → Option Span
-span_of start (Simple plain) = None
-span_of start (Access a) = Some (record { start = start; enables_start = a.enables_start; got_start = a.got_start; end = a.end })
+-- the parts of an access's bytes stand one after another
+abbrev pub IsOrdered : Span → Type 0
+IsOrdered s = (s.start ≤ s.enables_start) × (s.enables_start ≤ s.got_start) × (s.got_start ≤ s.end)
 
-abbrev pub span_at : List Item → ℕ → Option Span
-span_at items index = option_and_then (λ i. span_of i.start i.event) (slice_get items index)
+-- where the bytes of an access stand that were appended to n bytes
+pub record IsLast (n sent enables got : ℕ) (s : Span) : Type 0 where
+  pub start : s.start ≡ n
+  pub enables_start : s.enables_start ≡ s.start + sent
+  pub got_start : s.got_start ≡ s.enables_start + enables
+  pub end : s.end ≡ s.got_start + got
+
+-- where the n bytes of an access stand that are its data alone: a read got them, and any other command sent them
+abbrev pub short_span : Command → ℕ → ℕ → Span
+short_span Read start n = record { start = start; enables_start = start; got_start = start; end = start + n }
+short_span Write start n = record { start = start; enables_start = start + n; got_start = start + n; end = start + n }
+short_span Ignore start n = record { start = start; enables_start = start + n; got_start = start + n; end = start + n }
+
+-- the head with these numbers at this object
+abbrev pub full_head : ShortHead → ObjectNo → Head
+full_head h object = record { position = h.position; object = object; txn = record { initiator = h.initiator; seq = h.seq }; time = h.time }
+
+-- what stands at a place that no list of long items has
+abbrev pub no_item : LongItem
+no_item = record { position = 0; time = 0; seq = 0; initiator = 0; start = 0; object = Memory 0; event = Simple (Closed 0) }
+
+-- the long form of an item, where these are the long items
+abbrev pub long_form : List LongItem → Item → LongItem
+long_form long (items.Access command status way start n width offset head) = item_for (full_head head (Memory head.object)) start (Access (stored_at (record { way = way; command = command; offset = offset; length = n; width = width; status = status }) (short_span command start n)))
+long_form long (items.Call phase answer head) = item_for (full_head head (Hop head.object)) 0 (Simple (Call phase answer))
+long_form long (items.Take slot head) = item_for (full_head head (Pool head.object)) 0 (Simple (Take slot))
+long_form long (items.Acquire slot head) = item_for (full_head head (Pool head.object)) 0 (Simple (Acquire slot))
+long_form long (items.Release slot freed head) = item_for (full_head head (Pool head.object)) 0 (Simple (Release slot freed))
+long_form long (items.Long place) = get_or long place no_item
+
+-- a place is one of n long items, and the bytes of a short access end below 2^32
+abbrev pub IsPlaced : ℕ → Item → Type 0
+IsPlaced n (items.Access command status way start count width offset head) = start + count < 2 ^ 32
+IsPlaced n (items.Long place) = place < n
+IsPlaced n item = Unit {0}
+
+-- the short form of a long item, which needs no place
+pub record IsShortFor (whole : LongItem) (item : Item) : Type 0 where
+  pub same : long_form [] item ≡ whole
+  pub placed : IsPlaced 0 item
+
+-- the items of a log in their long form, and for how many there is room
+pub record ItemsView : Type 0 where
+  pub items : List LongItem
+  pub room : ℕ
+
+-- lists of these items and long items, with room for so many
+pub record AreItems (items : List Item) (long : List LongItem) (room items_capacity long_capacity : ℕ) : Type 0 where
+  pub placed : All (IsPlaced (length long)) items
+  pub few : length long ≤ length items
+  pub roomy : room ≤ items_capacity
+  pub roomy_long : room ≤ long_capacity

@@ -1,100 +1,27 @@
 // The log of an object: its entries in order, kept without a list of bytes for each.
-ghost use Rattle.std.specs.Prelude.{◌≡◌, ◌≢◌, ◌+◌, ◌^◌, ◌<◌, ◌≤◌, [], ◌++◌, length, max, take, false, Some, IsOk, IsSome, IsSomeAnd, IfSome, IfOk, OnOk, OnErr, IsTrue, ◌↔◌, slice_get, option_map, option_copied, vec_len, vec_capacity};
-ghost use Rattle.tlm_types.specs.declared.words.Command.TheVariants.{Read};
-ghost use Rattle.tlm_types.specs.LogItem.{facts_in, head_in, item_for, plain_what, span_at, stored_at};
+ghost use Rattle.std.specs.Prelude.{◌≡◌, ◌≢◌, ◌+◌, ◌^◌, ◌<◌, ◌≤◌, [], ◌++◌, length, max, false, Some, IsOk, IsSome, IsSomeAnd, IfSome, IfOk, IfErr, OnOk, OnErr, IsTrue, ◌↔◌, slice_get, option_map, vec_len, vec_capacity};
+ghost use Rattle.tlm_types.specs.LogItem.{IsLast};
 ghost use Rattle.tlm_types.specs.Log.{access_by, enables_of, entry_at, facts_of, got_of, head_of, is_access, plain_of, read_at, read_sends, sent_of, with_entry};
+ghost use Rattle.tlm_types.specs.declared.words.Command.TheVariants.{Read};
+
+mod item;
+mod items;
+mod long;
 
 use crate::entry::{Facts, Head, What};
-use crate::words::{Command, Kind, Memory, ObjectNo, Phase, Ps, Response, TlmSync, TxnId, Way};
-use std::alloc::{AllocError, Global};
+use crate::words::Memory;
+use items::Items;
+use long::{Span, plain_event};
+use std::alloc::Global;
 use std::marker::Model;
-use std::mem::size_of;
-
-// An entry, with where the bytes of an access begin. A long history is as large as its items, so the
-// fields are in an order that leaves no room between them.
-#[derive(Clone, Copy)]
-struct Item {
-    position: u64,
-    time: Ps,
-    seq: u64,
-    initiator: u32,
-    start: u32,
-    object: ObjectNo,
-    event: Event,
-}
-
-const _: () = prove!(size_of::<Item>() == 96);
-
-#[derive(Clone, Copy)]
-enum Event {
-    Plain(Plain),
-    Access(StoredAccess),
-}
-
-// What happened, where it is no access.
-#[derive(Clone, Copy)]
-enum Plain {
-    Granted {
-        gate: u32,
-        kind: Kind,
-        first: u64,
-        last: u64,
-    },
-    Invalidated {
-        first: u64,
-        last: u64,
-    },
-    Closed {
-        gate: u32,
-    },
-    Call {
-        phase: Phase,
-        answer: TlmSync,
-    },
-    Take {
-        slot: u32,
-    },
-    Acquire {
-        slot: u32,
-    },
-    Release {
-        slot: u32,
-        freed: bool,
-    },
-}
-
-// An access whose bytes stand in one list with those of the others: what it sent, its enables and
-// what it got, one after another.
-#[derive(Clone, Copy)]
-struct StoredAccess {
-    offset: u64,
-    length: u64,
-    width: u64,
-    enables_start: u32,
-    got_start: u32,
-    end: u32,
-    way: Way,
-    command: Command,
-    status: Response,
-}
-
-// Where the bytes of an access stand.
-#[derive(Clone, Copy)]
-struct Span {
-    start: u32,
-    enables_start: u32,
-    got_start: u32,
-    end: u32,
-}
 
 /// The log of an object: its entries in order. Contracts see the list of them, with the room that was
 /// made for entries and for the bytes of accesses. A log holds less than 4 GiB of bytes: more is
 /// refused as want of memory is.
 #[derive(Drop)]
 pub struct Log {
-    items: Vec<Item>,
+    items: Items,
     bytes: Vec<u8>,
-    room: u64,
     room_bytes: u64,
 }
 
@@ -107,12 +34,11 @@ impl Model for Log {
 
     ghost view = { λ l. record {
       entries = entries_of l.bytes.items l.items.items;
-      room = l.room;
+      room = l.items.room;
       room_bytes = l.room_bytes;
     } };
 
-    ghost invariant = { λ l. IsStored l.items.items l.bytes.items l.room l.room_bytes
-        (vec_capacity l.items) (vec_capacity l.bytes) };
+    ghost invariant = { λ l. IsStored l.items.items l.bytes.items l.room_bytes (vec_capacity l.bytes) };
 }
 
 impl Log {
@@ -124,12 +50,11 @@ impl Log {
         if bytes > BYTES_MAX {
             return Err(Memory);
         }
-        let items = Vec::with_capacity(alloc, entries as usize)?;
+        let items = Items::with_room(alloc, entries)?;
         let stored = Vec::with_capacity(alloc, bytes as usize)?;
         Ok(Log {
             items,
             bytes: stored,
-            room: entries,
             room_bytes: bytes,
         })
     }
@@ -145,7 +70,7 @@ impl Log {
     pub fn room(&self) -> u64
         ensures { result ≡ self.now.room }
     {
-        self.room
+        self.items.room()
     }
 
     /// For how many more bytes of accesses there is room.
@@ -159,7 +84,7 @@ impl Log {
     pub fn is_empty(&self) -> bool
         ensures { IsTrue result ↔ (self.now.entries ≡ []) }
     {
-        self.items.is_empty()
+        self.items.len() == 0
     }
 
     /// Appends an entry that isn't an access. It takes no memory where there is room for it. Its only
@@ -170,10 +95,7 @@ impl Log {
         ensures err { OnErr result (self.new ≡ self.old) }
         ensures roomy { length self.old.entries < self.old.room → IsOk result }
     {
-        let plain = plain_event(what);
-        let item = new_item(head, 0, Event::Plain(plain));
-        self.items.push(item)?;
-        Ok(())
+        self.items.push_event(head, plain_event(what))
     }
 
     /// Appends the entry of an access, with the bytes that it sent, its byte enables, and a read's
@@ -195,22 +117,12 @@ impl Log {
         ensures roomy { length self.old.entries < self.old.room →
             length sent.now + length enables.now + length got.now ≤ self.old.room_bytes → IsOk result }
     {
-        self.items.reserve(1)?;
-        let start = self.bytes.len();
-        append(&mut self.bytes, sent, enables, got)?;
-        let end = self.bytes.len();
-        self.room_bytes = self.room_bytes.saturating_sub((end - start) as u64);
-        let span = Span {
-            start: start as u32,
-            enables_start: (start + sent.len()) as u32,
-            got_start: (end - got.len()) as u32,
-            end: end as u32,
-        };
-        let access = stored_access(facts, span);
-        let item = new_item(head, span.start, Event::Access(access));
-        let Ok(()) = self.items.push(item) else {
-            unreachable!()
-        };
+        let span = span_after(self.bytes.len(), sent.len(), enables.len(), got.len())?;
+        let count = (span.end - span.start) as usize;
+        self.bytes.reserve(count)?;
+        self.items.push_access(head, facts, span)?;
+        append(&mut self.bytes, sent, enables, got);
+        self.room_bytes = self.room_bytes.saturating_sub(count as u64);
         Ok(())
     }
 
@@ -234,7 +146,7 @@ impl Log {
         requires { index < length self.now.entries }
         ensures { option_map head_of (slice_get self.now.entries index) ≡ Some result }
     {
-        head_of(&self.items[index as usize])
+        self.items.head(index as usize)
     }
 
     /// What happened, and for an access none.
@@ -242,10 +154,7 @@ impl Log {
         requires { index < length self.now.entries }
         ensures { result ≡ read_at plain_of self.now.entries index }
     {
-        match &self.items[index as usize].event {
-            Event::Plain(plain) => Some(what_of(*plain)),
-            Event::Access(_) => None,
-        }
+        self.items.what(index as usize)
     }
 
     /// The plain parts of an access, and for any other entry none.
@@ -257,10 +166,7 @@ impl Log {
         ensures reads { IfSome result (λ f. f.command ≡ Read →
             read_at sent_of self.now.entries index ≡ Some (read_sends f.way f.length)) }
     {
-        match &self.items[index as usize].event {
-            Event::Plain(_) => None,
-            Event::Access(access) => Some(facts_of(access)),
-        }
+        self.items.facts(index as usize)
     }
 
     /// The bytes that an access sent, which isn't a read.
@@ -268,7 +174,7 @@ impl Log {
         requires { IsSomeAnd (read_at facts_of self.now.entries index) (λ f. f.command ≢ Read) }
         ensures { read_at sent_of self.now.entries index ≡ Some result.now }
     {
-        let span = span_at(&self.items, index as usize);
+        let span = self.items.span(index as usize);
         &self.bytes[span.start as usize..span.enables_start as usize]
     }
 
@@ -277,7 +183,7 @@ impl Log {
         requires { IsSome (read_at facts_of self.now.entries index) }
         ensures { read_at enables_of self.now.entries index ≡ Some result.now }
     {
-        let span = span_at(&self.items, index as usize);
+        let span = self.items.span(index as usize);
         &self.bytes[span.enables_start as usize..span.got_start as usize]
     }
 
@@ -286,7 +192,7 @@ impl Log {
         requires { IsSome (read_at facts_of self.now.entries index) }
         ensures { read_at got_of self.now.entries index ≡ Some result.now }
     {
-        let span = span_at(&self.items, index as usize);
+        let span = self.items.span(index as usize);
         &self.bytes[span.got_start as usize..span.end as usize]
     }
 }
@@ -294,163 +200,47 @@ impl Log {
 // How many bytes of accesses a log holds at most.
 const BYTES_MAX: u64 = 0xffff_ffff;
 
-fn new_item(head: Head, start: u32, event: Event) -> Item
-    ensures { result ≡ item_for head start event }
+// Where the bytes of an access stand that come after so many. Its only error is that they are too many.
+fn span_after(start: usize, sent: usize, enables: usize, got: usize) -> Result<Span, Memory>
+    ensures ok { IfOk result (IsLast start sent enables got) }
+    ensures err { IfErr result (λ _. 2 ^ 32 ≤ start + (sent + (enables + got))) }
 {
-    Item {
-        position: head.position,
-        time: head.time,
-        seq: head.txn.seq,
-        initiator: head.txn.initiator,
-        start,
-        object: head.object,
-        event,
-    }
-}
-
-fn head_of(item: &Item) -> Head
-    ensures { result ≡ head_in item.now }
-{
-    Head {
-        position: item.position,
-        object: item.object,
-        txn: TxnId {
-            initiator: item.initiator,
-            seq: item.seq,
-        },
-        time: item.time,
-    }
-}
-
-fn stored_access(facts: Facts, span: Span) -> StoredAccess
-    ensures { result ≡ stored_at facts span }
-{
-    StoredAccess {
-        offset: facts.offset,
-        length: facts.length,
-        width: facts.width,
-        enables_start: span.enables_start,
-        got_start: span.got_start,
-        end: span.end,
-        way: facts.way,
-        command: facts.command,
-        status: facts.status,
-    }
-}
-
-fn facts_of(access: &StoredAccess) -> Facts
-    ensures { result ≡ facts_in access.now }
-{
-    Facts {
-        way: access.way,
-        command: access.command,
-        offset: access.offset,
-        length: access.length,
-        width: access.width,
-        status: access.status,
-    }
-}
-
-// Where the bytes of the access among the items at this place stand, where there is one.
-fn span_at(items: &[Item], index: usize) -> Span
-    requires { IsSome (span_at items.now index) }
-    ensures { span_at items.now index ≡ Some result }
-{
-    let item = &items[index];
-    match &item.event {
-        Event::Access(access) => Span {
-            start: item.start,
-            enables_start: access.enables_start,
-            got_start: access.got_start,
-            end: access.end,
-        },
-        Event::Plain(_) => unreachable!(),
-    }
-}
-
-// What happened, as it is kept, where it is no access.
-fn plain_event(what: What) -> Plain
-    requires { is_access what ≡ false }
-    ensures { plain_what result ≡ what }
-{
-    match what {
-        What::Access { .. } => unreachable!(),
-        What::Granted {
-            gate,
-            first,
-            last,
-            kind,
-        } => Plain::Granted {
-            gate,
-            kind,
-            first,
-            last,
-        },
-        What::Invalidated { first, last } => Plain::Invalidated { first, last },
-        What::Closed { gate } => Plain::Closed { gate },
-        What::Call { phase, answer } => Plain::Call { phase, answer },
-        What::Take { slot } => Plain::Take { slot },
-        What::Acquire { slot } => Plain::Acquire { slot },
-        What::Release { slot, freed } => Plain::Release { slot, freed },
-    }
-}
-
-fn what_of(plain: Plain) -> What
-    ensures { result ≡ plain_what plain }
-{
-    match plain {
-        Plain::Granted {
-            gate,
-            kind,
-            first,
-            last,
-        } => What::Granted {
-            gate,
-            first,
-            last,
-            kind,
-        },
-        Plain::Invalidated { first, last } => What::Invalidated { first, last },
-        Plain::Closed { gate } => What::Closed { gate },
-        Plain::Call { phase, answer } => What::Call { phase, answer },
-        Plain::Take { slot } => What::Take { slot },
-        Plain::Acquire { slot } => What::Acquire { slot },
-        Plain::Release { slot, freed } => What::Release { slot, freed },
-    }
-}
-
-// Appends these bytes, or none of them. Its only error is want of memory, or that they are too many.
-fn append(bytes: &mut Vec<u8>, sent: &[u8], enables: &[u8], got: &[u8]) -> Result<(), Memory>
-    ensures ok { OnOk result (bytes.new.items ≡ bytes.old.items ++ (sent.now ++ (enables.now ++ got.now))) }
-    ensures small { OnOk result (vec_len bytes.new < 2 ^ 32) }
-    ensures err { OnErr result (bytes.new.items ≡ bytes.old.items) }
-    ensures capacity { vec_capacity bytes.old ≤ vec_capacity bytes.new }
-    ensures roomy { let all = vec_len bytes.old + (length sent.now + length enables.now + length got.now) in
-        all ≤ vec_capacity bytes.old → all < 2 ^ 32 → IsOk result }
-{
-    let start = bytes.len();
-    let appended = append_some(bytes, sent, enables, got);
-    if appended.is_err() || bytes.len() as u64 > BYTES_MAX {
-        bytes.truncate(start);
+    let enables_start = start.saturating_add(sent);
+    let got_start = enables_start.saturating_add(enables);
+    let end = got_start.saturating_add(got);
+    if end as u64 > BYTES_MAX {
         return Err(Memory);
     }
-    Ok(())
+    Ok(Span {
+        start: start as u32,
+        enables_start: enables_start as u32,
+        got_start: got_start as u32,
+        end: end as u32,
+    })
 }
 
-// Appends these bytes, and after want of memory some of them.
-fn append_some(
-    bytes: &mut Vec<u8>,
-    sent: &[u8],
-    enables: &[u8],
-    got: &[u8],
-) -> Result<(), AllocError>
-    ensures ok { OnOk result (bytes.new.items ≡ bytes.old.items ++ (sent.now ++ (enables.now ++ got.now))) }
-    ensures before { take (length bytes.old.items) bytes.new.items ≡ bytes.old.items }
+// Appends these bytes, for which there is room.
+fn append(bytes: &mut Vec<u8>, sent: &[u8], enables: &[u8], got: &[u8])
+    requires { vec_len bytes.old + (length sent.now + (length enables.now + length got.now)) ≤ vec_capacity bytes.old }
+    ensures items { bytes.new.items ≡ bytes.old.items ++ (sent.now ++ (enables.now ++ got.now)) }
     ensures capacity { vec_capacity bytes.old ≤ vec_capacity bytes.new }
-    ensures roomy { vec_len bytes.old + (length sent.now + length enables.now + length got.now)
-        ≤ vec_capacity bytes.old → IsOk result }
 {
-    bytes.extend_from_slice(sent)?;
-    bytes.extend_from_slice(enables)?;
-    bytes.extend_from_slice(got)
+    append_part(bytes, sent);
+    append_part(bytes, enables);
+    append_part(bytes, got);
+}
+
+// Most accesses have bytes in one part alone.
+fn append_part(bytes: &mut Vec<u8>, part: &[u8])
+    requires { vec_len bytes.old + length part.now ≤ vec_capacity bytes.old }
+    ensures items { bytes.new.items ≡ bytes.old.items ++ part.now }
+    ensures len { vec_len bytes.new ≡ vec_len bytes.old + length part.now }
+    ensures capacity { vec_capacity bytes.old ≤ vec_capacity bytes.new }
+{
+    if part.is_empty() {
+        return;
+    }
+    let Ok(()) = bytes.extend_from_slice(part) else {
+        unreachable!()
+    };
 }

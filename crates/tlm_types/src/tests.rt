@@ -1,6 +1,6 @@
 use crate::{
-    Bytes, Command, Facts, Head, Kind, Log, MemoryTraits, ObjectNo, RefusedItem, RefusedList,
-    Response, Text, TxnId, Way, What, kind_of,
+    Bytes, Command, Facts, Head, Kind, Log, Memory, MemoryTraits, ObjectNo, Phase, RefusedItem,
+    RefusedList, Response, Text, TlmSync, TxnId, Way, What, kind_of,
 };
 use std::process::Abort;
 use std::test::Fail;
@@ -83,18 +83,6 @@ fn a_memory_grants_what_it_allows(rt: HostRuntime) {
     );
 }
 
-fn head(position: u64) -> Head {
-    Head {
-        position,
-        object: ObjectNo::Memory(3),
-        txn: TxnId {
-            initiator: 2,
-            seq: 4,
-        },
-        time: 10,
-    }
-}
-
 // An access with the bytes that it sent, its byte enables, and what it got.
 #[derive(Drop)]
 struct Row<'a> {
@@ -119,7 +107,21 @@ const READ: Facts = Facts {
     ..WRITE
 };
 
-const ROWS: [Row<'static>; 5] = [
+const DEBUG_READ: Facts = Facts {
+    way: Way::Debug,
+    ..READ
+};
+
+const WIDE: u64 = 0x1_0000_0000;
+
+// Accesses with and without enables, of fewer bytes than their length, and with wide numbers.
+const ROWS: [Row<'static>; 9] = [
+    Row {
+        facts: WRITE,
+        sent: &[1, 2, 3, 4],
+        enables: &[],
+        got: &[],
+    },
     Row {
         facts: WRITE,
         sent: &[1, 2, 3, 4],
@@ -143,13 +145,38 @@ const ROWS: [Row<'static>; 5] = [
         got: &[],
     },
     Row {
+        facts: DEBUG_READ,
+        sent: &[],
+        enables: &[],
+        got: &[8, 9],
+    },
+    Row {
         facts: Facts {
-            way: Way::Debug,
-            ..READ
+            length: WIDE + 2,
+            ..DEBUG_READ
         },
         sent: &[],
         enables: &[],
         got: &[8, 9],
+    },
+    Row {
+        facts: Facts {
+            offset: WIDE,
+            width: WIDE - 1,
+            ..READ
+        },
+        sent: &[],
+        enables: &[],
+        got: &[9, 8, 7],
+    },
+    Row {
+        facts: Facts {
+            width: WIDE,
+            ..WRITE
+        },
+        sent: &[4, 3, 2, 1],
+        enables: &[],
+        got: &[],
     },
     Row {
         facts: Facts {
@@ -163,9 +190,55 @@ const ROWS: [Row<'static>; 5] = [
     },
 ];
 
+fn head(object: ObjectNo, position: u64, seq: u64) -> Head {
+    Head {
+        position,
+        object,
+        txn: TxnId { initiator: 2, seq },
+        time: WIDE,
+    }
+}
+
+fn push_rows(rt: &impl Abort, log: &mut Log, head: Head) -> Result<(), Memory> {
+    for row in &ROWS {
+        assert!(rt; row.facts.command != Command::Read || row.sent.is_empty());
+        log.push_access(head, row.facts, row.sent, row.enables, row.got)?;
+    }
+    Ok(())
+}
+
+fn push_events(log: &mut Log, head: Head) -> Result<(), Memory> {
+    log.push(
+        head,
+        What::Call {
+            phase: Phase::BeginReq,
+            answer: TlmSync::Updated(Phase::EndReq),
+        },
+    )?;
+    log.push(head, What::Take { slot: 1 })?;
+    log.push(head, What::Acquire { slot: 2 })?;
+    log.push(
+        head,
+        What::Release {
+            slot: 3,
+            freed: true,
+        },
+    )?;
+    log.push(
+        head,
+        What::Granted {
+            gate: 4,
+            first: 5,
+            last: WIDE,
+            kind: Kind::Write,
+        },
+    )?;
+    log.push(head, What::Invalidated { first: 6, last: 7 })?;
+    log.push(head, What::Closed { gate: 8 })
+}
+
 fn check_access(rt: &impl Abort, log: &Log, index: u64, row: &Row) {
     assert!(rt; index < log.len());
-    assert_eq!(rt; log.head(index), head(index), "entry {index}");
     assert!(rt; log.what(index).is_none(), "entry {index}");
     let Some(facts) = log.facts(index) else {
         panic!(rt; "entry {index} is no access");
@@ -178,29 +251,65 @@ fn check_access(rt: &impl Abort, log: &Log, index: u64, row: &Row) {
     assert_eq!(rt; log.got(index), row.got, "entry {index}");
 }
 
+fn is_event(what: &What, count: u32) -> bool {
+    match (count, what) {
+        (0, What::Call { phase, answer }) => {
+            *phase == Phase::BeginReq && *answer == TlmSync::Updated(Phase::EndReq)
+        }
+        (1, What::Take { slot }) => *slot == 1,
+        (2, What::Acquire { slot }) => *slot == 2,
+        (3, What::Release { slot, freed }) => *slot == 3 && *freed,
+        (
+            4,
+            What::Granted {
+                gate,
+                first,
+                last,
+                kind,
+            },
+        ) => *gate == 4 && *first == 5 && *last == WIDE && *kind == Kind::Write,
+        (5, What::Invalidated { first, last }) => *first == 6 && *last == 7,
+        (6, What::Closed { gate }) => *gate == 8,
+        _ => false,
+    }
+}
+
+fn check_event(rt: &impl Abort, log: &Log, count: u32) {
+    let index = ROWS.len() as u64 + count as u64;
+    assert!(rt; index < log.len());
+    assert!(rt; log.facts(index).is_none(), "entry {index}");
+    let Some(what) = log.what(index) else {
+        panic!(rt; "entry {index} is an access");
+    };
+    assert!(rt; is_event(&what, count), "entry {index}");
+}
+
 #[test]
 fn a_log_reads_back_what_was_pushed(rt: HostRuntime) -> Result<(), Fail> {
-    let mut log = Log::with_room(rt.alloc(), 2, 6)?;
-    assert!(rt; log.is_empty());
-    for (position, row) in ROWS.iter().enumerate() {
-        assert!(rt; row.facts.command != Command::Read || row.sent.is_empty());
-        log.make_room(5)?;
-        log.push_access(
-            head(position as u64),
-            row.facts,
-            row.sent,
-            row.enables,
-            row.got,
-        )?;
+    let heads = [
+        head(ObjectNo::Memory(3), WIDE - 1, 4),
+        head(ObjectNo::Memory(3), WIDE, 4),
+        head(ObjectNo::Memory(3), 7, WIDE),
+        head(ObjectNo::Hop(3), 7, 4),
+        head(ObjectNo::Pool(3), 7, WIDE - 1),
+        head(ObjectNo::Pool(3), WIDE, WIDE),
+    ];
+    for head in heads {
+        let mut log = Log::with_room(rt.alloc(), 2, 6)?;
+        assert!(rt; log.is_empty());
+        log.make_room(8)?;
+        push_rows(&rt, &mut log, head)?;
+        push_events(&mut log, head)?;
+        assert_eq!(rt; log.len(), ROWS.len() as u64 + 7);
+        for index in 0..log.len() {
+            assert_eq!(rt; log.head(index), head, "entry {index}");
+        }
+        for (index, row) in ROWS.iter().enumerate() {
+            check_access(&rt, &log, index as u64, row);
+        }
+        for count in 0..7 {
+            check_event(&rt, &log, count);
+        }
     }
-    log.push(head(5), What::Closed { gate: 4 })?;
-    assert_eq!(rt; log.len(), 6);
-    for (position, row) in ROWS.iter().enumerate() {
-        check_access(&rt, &log, position as u64, row);
-    }
-    assert!(rt; 5 < log.len());
-    assert_eq!(rt; log.head(5), head(5));
-    assert!(rt; log.facts(5).is_none());
-    assert!(rt; matches!(&log.what(5), Some(What::Closed { gate: 4 })));
     Ok(())
 }

@@ -1,0 +1,138 @@
+// The items of a log: those of most entries in a short form, and the others in a second list.
+ghost use Rattle.std.specs.Prelude.{◌≡◌, ◌<◌, [], ◌∷◌, ◌++◌, length, Some, IsOk, IsSome, IfOk, OnOk, OnErr, slice_get, option_map, option_and_then};
+ghost use Rattle.tlm_types.specs.LogItem.{facts_from, head_in, item_for, long_form, plain_in, span_at, stored_at, IsOrdered, IsPlaced};
+ghost use Rattle.tlm_types.specs.declared.log.long.Event.TheVariants as events;
+
+use super::item::{Item, short_access, short_event};
+use super::long::{Event, LongItem, Plain, Span, long_item, stored_access};
+use crate::entry::{Facts, Head, What};
+use crate::words::Memory;
+use std::alloc::Global;
+use std::marker::Model;
+
+// Contracts see the list of the items in their long form, and the room that was made for them.
+#[derive(Drop)]
+pub(super) struct Items {
+    items: Vec<Item>,
+    long: Vec<LongItem>,
+    room: u64,
+}
+
+impl Model for Items {
+    ghost use Rattle.std.specs.Prelude.{map, vec_capacity};
+    ghost use Rattle.tlm_types.specs.LogItem.{AreItems, ItemsView, long_form};
+
+    ghost Value = { ItemsView };
+
+    ghost view = { λ l. record { items = map (long_form l.long.items) l.items.items; room = l.room } };
+
+    ghost invariant = { λ l. AreItems l.items.items l.long.items l.room (vec_capacity l.items) (vec_capacity l.long) };
+}
+
+impl Items {
+    // Memory that no item was written to costs nothing, so there is room for the long form of each.
+    pub(super) fn with_room(alloc: Global, room: u64) -> Result<Items, Memory>
+        ensures { IfOk result (λ l. l ≡ record { items = []; room = room }) }
+    {
+        let items = Vec::with_capacity(alloc, room as usize)?;
+        let long = Vec::with_capacity(alloc, room as usize)?;
+        Ok(Items { items, long, room })
+    }
+
+    pub(super) fn len(&self) -> usize
+        ensures { result ≡ length self.now.items }
+    {
+        self.items.len()
+    }
+
+    pub(super) fn room(&self) -> u64
+        ensures { result ≡ self.now.room }
+    {
+        self.room
+    }
+
+    // Appends an entry that is no access. Its only error is want of memory.
+    pub(super) fn push_event(&mut self, head: Head, event: Plain) -> Result<(), Memory>
+        ensures ok { OnOk result (self.new ≡ record self.old { items = self.old.items ++ item_for head 0 (events.Plain event) ∷ [] }) }
+        ensures err { OnErr result (self.new ≡ self.old) }
+        ensures roomy { length self.old.items < self.old.room → IsOk result }
+    {
+        match short_event(head, event) {
+            Some(item) => self.push_short(item),
+            None => self.push_long(long_item(head, 0, Event::Plain(event))),
+        }
+    }
+
+    // Appends an access whose bytes stand there. Its only error is want of memory.
+    pub(super) fn push_access(&mut self, head: Head, facts: Facts, span: Span) -> Result<(), Memory>
+        requires { IsOrdered span }
+        ensures ok { OnOk result (self.new ≡ record self.old { items = self.old.items ++ item_for head span.start (events.Access (stored_at facts span)) ∷ [] }) }
+        ensures err { OnErr result (self.new ≡ self.old) }
+        ensures roomy { length self.old.items < self.old.room → IsOk result }
+    {
+        match short_access(head, facts, span) {
+            Some(item) => self.push_short(item),
+            None => {
+                let access = stored_access(facts, span);
+                self.push_long(long_item(head, span.start, Event::Access(access)))
+            }
+        }
+    }
+
+    fn push_short(&mut self, item: Item) -> Result<(), Memory>
+        requires { IsPlaced 0 item }
+        ensures ok { OnOk result (self.new ≡ record self.old { items = self.old.items ++ long_form [] item ∷ [] }) }
+        ensures err { OnErr result (self.new ≡ self.old) }
+        ensures roomy { length self.old.items < self.old.room → IsOk result }
+    {
+        self.items.push(item)?;
+        Ok(())
+    }
+
+    // Few entries have no short form.
+    #[cold]
+    fn push_long(&mut self, item: LongItem) -> Result<(), Memory>
+        ensures ok { OnOk result (self.new ≡ record self.old { items = self.old.items ++ item ∷ [] }) }
+        ensures err { OnErr result (self.new ≡ self.old) }
+        ensures roomy { length self.old.items < self.old.room → IsOk result }
+    {
+        self.items.reserve(1)?;
+        let place = self.long.len();
+        self.long.push(item)?;
+        let Ok(()) = self.items.push(Item::Long(place)) else {
+            unreachable!()
+        };
+        Ok(())
+    }
+
+    pub(super) fn head(&self, index: usize) -> Head
+        requires { index < length self.now.items }
+        ensures { option_map head_in (slice_get self.now.items index) ≡ Some result }
+    {
+        self.items[index].head(&self.long)
+    }
+
+    // What happened, and for an access none.
+    pub(super) fn what(&self, index: usize) -> Option<What>
+        requires { index < length self.now.items }
+        ensures { result ≡ option_and_then (λ i. plain_in i.event) (slice_get self.now.items index) }
+    {
+        self.items[index].what(&self.long)
+    }
+
+    // The plain parts of an access, and for any other entry none.
+    pub(super) fn facts(&self, index: usize) -> Option<Facts>
+        requires { index < length self.now.items }
+        ensures { result ≡ option_and_then (λ i. facts_from i.event) (slice_get self.now.items index) }
+    {
+        self.items[index].facts(&self.long)
+    }
+
+    // Where the bytes of an access stand.
+    pub(super) fn span(&self, index: usize) -> Span
+        requires { IsSome (span_at self.now.items index) }
+        ensures { span_at self.now.items index ≡ Some result }
+    {
+        self.items[index].span(&self.long)
+    }
+}

@@ -1,0 +1,216 @@
+// The long form of a log's items, which has room for any entry.
+ghost use Rattle.std.specs.Prelude.{◌≡◌, false, Some, IsSome};
+ghost use Rattle.tlm_types.specs.LogItem.{facts_from, head_in, item_for, plain_in, plain_what, span_from, stored_at};
+ghost use Rattle.tlm_types.specs.Log.{is_access};
+
+use crate::entry::{Facts, Head, What};
+use crate::words::{Command, Kind, ObjectNo, Phase, Ps, Response, TlmSync, TxnId, Way};
+
+// An entry, with where the bytes of an access begin.
+#[derive(Clone, Copy)]
+pub(super) struct LongItem {
+    pub(super) position: u64,
+    pub(super) time: Ps,
+    pub(super) seq: u64,
+    pub(super) initiator: u32,
+    pub(super) start: u32,
+    pub(super) object: ObjectNo,
+    pub(super) event: Event,
+}
+
+#[derive(Clone, Copy)]
+pub(super) enum Event {
+    Plain(Plain),
+    Access(StoredAccess),
+}
+
+// What happened, where it is no access.
+#[derive(Clone, Copy)]
+pub(super) enum Plain {
+    Granted {
+        gate: u32,
+        kind: Kind,
+        first: u64,
+        last: u64,
+    },
+    Invalidated {
+        first: u64,
+        last: u64,
+    },
+    Closed {
+        gate: u32,
+    },
+    Call {
+        phase: Phase,
+        answer: TlmSync,
+    },
+    Take {
+        slot: u32,
+    },
+    Acquire {
+        slot: u32,
+    },
+    Release {
+        slot: u32,
+        freed: bool,
+    },
+}
+
+// An access whose bytes stand in one list with those of the others: what it sent, its enables and
+// what it got, one after another.
+#[derive(Clone, Copy)]
+pub(super) struct StoredAccess {
+    offset: u64,
+    length: u64,
+    width: u64,
+    enables_start: u32,
+    got_start: u32,
+    end: u32,
+    way: Way,
+    command: Command,
+    status: Response,
+}
+
+// Where the bytes of an access stand.
+#[derive(Clone, Copy)]
+pub(super) struct Span {
+    pub(super) start: u32,
+    pub(super) enables_start: u32,
+    pub(super) got_start: u32,
+    pub(super) end: u32,
+}
+
+pub(super) fn long_item(head: Head, start: u32, event: Event) -> LongItem
+    ensures { result ≡ item_for head start event }
+{
+    LongItem {
+        position: head.position,
+        time: head.time,
+        seq: head.txn.seq,
+        initiator: head.txn.initiator,
+        start,
+        object: head.object,
+        event,
+    }
+}
+
+pub(super) fn head_of(item: &LongItem) -> Head
+    ensures { result ≡ head_in item.now }
+{
+    Head {
+        position: item.position,
+        object: item.object,
+        txn: TxnId {
+            initiator: item.initiator,
+            seq: item.seq,
+        },
+        time: item.time,
+    }
+}
+
+pub(super) fn what_of(item: &LongItem) -> Option<What>
+    ensures { result ≡ plain_in item.now.event }
+{
+    match &item.event {
+        Event::Plain(plain) => Some(plain_what(*plain)),
+        Event::Access(_) => None,
+    }
+}
+
+pub(super) fn facts_of(item: &LongItem) -> Option<Facts>
+    ensures { result ≡ facts_from item.now.event }
+{
+    match &item.event {
+        Event::Plain(_) => None,
+        Event::Access(access) => Some(Facts {
+            way: access.way,
+            command: access.command,
+            offset: access.offset,
+            length: access.length,
+            width: access.width,
+            status: access.status,
+        }),
+    }
+}
+
+pub(super) fn span_of(item: &LongItem) -> Span
+    requires { IsSome (span_from item.now.start item.now.event) }
+    ensures { span_from item.now.start item.now.event ≡ Some result }
+{
+    match &item.event {
+        Event::Access(access) => Span {
+            start: item.start,
+            enables_start: access.enables_start,
+            got_start: access.got_start,
+            end: access.end,
+        },
+        Event::Plain(_) => unreachable!(),
+    }
+}
+
+pub(super) fn stored_access(facts: Facts, span: Span) -> StoredAccess
+    ensures { result ≡ stored_at facts span }
+{
+    StoredAccess {
+        offset: facts.offset,
+        length: facts.length,
+        width: facts.width,
+        enables_start: span.enables_start,
+        got_start: span.got_start,
+        end: span.end,
+        way: facts.way,
+        command: facts.command,
+        status: facts.status,
+    }
+}
+
+// What happened, as it is kept, where it is no access.
+pub(super) fn plain_event(what: What) -> Plain
+    requires { is_access what ≡ false }
+    ensures { plain_what result ≡ what }
+{
+    match what {
+        What::Access { .. } => unreachable!(),
+        What::Granted {
+            gate,
+            first,
+            last,
+            kind,
+        } => Plain::Granted {
+            gate,
+            kind,
+            first,
+            last,
+        },
+        What::Invalidated { first, last } => Plain::Invalidated { first, last },
+        What::Closed { gate } => Plain::Closed { gate },
+        What::Call { phase, answer } => Plain::Call { phase, answer },
+        What::Take { slot } => Plain::Take { slot },
+        What::Acquire { slot } => Plain::Acquire { slot },
+        What::Release { slot, freed } => Plain::Release { slot, freed },
+    }
+}
+
+fn plain_what(plain: Plain) -> What
+    ensures { result ≡ plain_what plain }
+{
+    match plain {
+        Plain::Granted {
+            gate,
+            kind,
+            first,
+            last,
+        } => What::Granted {
+            gate,
+            first,
+            last,
+            kind,
+        },
+        Plain::Invalidated { first, last } => What::Invalidated { first, last },
+        Plain::Closed { gate } => What::Closed { gate },
+        Plain::Call { phase, answer } => What::Call { phase, answer },
+        Plain::Take { slot } => What::Take { slot },
+        Plain::Acquire { slot } => What::Acquire { slot },
+        Plain::Release { slot, freed } => What::Release { slot, freed },
+    }
+}
