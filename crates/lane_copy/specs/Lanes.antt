@@ -6,6 +6,10 @@ use Rattle.std.specs.List.{range_with_len}
 abbrev pub is_enabled : List ℕ → ℕ → Bool
 is_enabled enables k = if length enables == 0 then true else (slice_index enables (k % length enables) == 0xff)
 
+-- a byte, where its enable lets it through, and else the old one
+abbrev pub chosen : ℕ → ℕ → ℕ → ℕ
+chosen enable byte old = if enable == 0xff then byte else old
+
 -- byte k of a masked copy: the source's where it is enabled, and else the old one
 abbrev pub merged_byte : List ℕ → List ℕ → List ℕ → ℕ → ℕ
 merged_byte dst src enables k = if is_enabled enables k then slice_index src k else slice_index dst k

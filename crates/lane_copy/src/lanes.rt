@@ -1,5 +1,5 @@
 // Masked copies, as plain loops.
-ghost use Rattle.std.specs.Prelude.{◌≡◌, ◌<◌, ◌↔◌, IsTrue, All, length};
+ghost use Rattle.std.specs.Prelude.{◌≡◌, ℕ, ◌<◌, ◌↔◌, IsTrue, All, length, slice_index};
 ghost use Rattle.lane_copy.specs.Lanes as lanes;
 
 /// The element of byte enables that lets its byte through (`TLM_BYTE_ENABLED`).
@@ -24,14 +24,37 @@ pub fn merge(dst: &mut [u8], src: &[u8], enables: &[u8])
     }
 }
 
+// The enables govern a stretch of as many bytes at a time.
 fn merge_enabled(dst: &mut [u8], src: &[u8], enables: &[u8])
-    requires { length dst.old ≡ length src.now }
+    requires same { length dst.old ≡ length src.now }
+    requires some { 0 < length enables.now }
     ensures { dst.new ≡ lanes.merged dst.old src.now enables.now }
 {
-    for (k, byte) in src.iter().enumerate() {
-        if is_enabled(enables, k) {
-            dst[k] = *byte;
-        }
+    let mut done = 0;
+    while done < src.len() {
+        let count = enables.len().min(src.len() - done);
+        let end = done + count;
+        merge_stretch(&mut dst[done..end], &src[done..end], &enables[..count]);
+        done = end;
+    }
+}
+
+#[inline(always)]
+fn chosen(enable: u8, byte: u8, old: u8) -> u8
+    ensures { result ≡ lanes.chosen enable byte old }
+{
+    if enable == ENABLED { byte } else { old }
+}
+
+// The same where there is an enable for each byte. With no branch a compiler makes many bytes at once.
+fn merge_stretch(dst: &mut [u8], src: &[u8], enables: &[u8])
+    requires same { length dst.old ≡ length src.now }
+    requires each { length dst.old ≡ length enables.now }
+    ensures { (k : ℕ) → k < length dst.old → slice_index dst.new k
+        ≡ lanes.chosen (slice_index enables.now k) (slice_index src.now k) (slice_index dst.old k) }
+{
+    for k in 0..src.len() {
+        dst[k] = chosen(enables[k], src[k], dst[k]);
     }
 }
 
