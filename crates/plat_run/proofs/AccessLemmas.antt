@@ -1,7 +1,9 @@
 -- A job after an access or a debug read.
 use Rattle.std.proofs.Common.{◌≡◌, ℕ, ◌+◌, length, List, Option, Some, true, ap, sym, subst, ◌∙◌}
 use Rattle.std.specs.Prelude.{IfSome, MatchOption}
+use Rattle.atomic_table.specs.Seated.{TableId}
 use Rattle.one_history.specs.declared.view.View.{View}
+use Rattle.one_history.specs.Held.{Held}
 use Rattle.token_book.specs.Purse.{Purse}
 use Rattle.tlm_types.specs.declared.entry.Content.{Content}
 use Rattle.tlm_types.specs.declared.words.TxnId.{TxnId}
@@ -18,8 +20,9 @@ use Rattle.plat_core.specs.Run.{Run, accessed}
 use Rattle.plat_core.proofs.RunLemmas.{accessed_initiator}
 use Rattle.plat_core.proofs.SendLemmas.{room_of_payload}
 use Rattle.plat_build.specs.Calls.{IsCalled, OneTicketLess, route_at}
-use Rattle.plat_run.specs.Job.{IsInitiator}
+use Rattle.plat_run.specs.Job.{IsAtRest, IsInitiator}
 use Rattle.plat_run.proofs.JobLemmas.{HasSent, access_made, whole}
+use Rattle.plat_run.proofs.MoveLemmas.{one_value}
 use Rattle.plat_run.proofs.PathLemmas.{can_pay_next, route_found}
 
 -- what is handed to an access of a run: its number, its transaction, its time, what is next, and the payload of it
@@ -29,6 +32,17 @@ pub record IsHanded (r : Run) (op : Op) (n : ℕ) (txn : TxnId) (t : ℕ) (paylo
   pub txn_is : txn ≡ record { initiator = r.engine.initiator; seq = r.engine.seq }
   pub time : t ≡ current_time r.keeper
   pub filled : payload ≡ payload_of r.engine 4096
+
+-- a job at rest whose note was taken out of it to be carried along
+pub set_out : (table tokens : TableId) (p q : Plan) (r : Run) (payload : Option PayloadView) (place : Option (Held Content Plan)) (note : Held Content Plan) (w : Purse) → IsAtRest table tokens p r payload place w → place ≡ Some note → q ≡ p → IsInitiator q r note.knows w
+set_out table tokens p q r payload place note w rest taken same =
+    subst (λ (x : Plan). IsInitiator x r note.knows w) (sym same)
+    (subst (λ (x : Held Content Plan). IsInitiator p r x.knows w) (one_value place rest.its_note note rest.has_note taken) rest.job.is)
+
+-- the same plan and the same run have reached the same
+pub reached_as : (p q : Plan) (old r : Run) (route : Route) → q ≡ p → r ≡ old → HasReached p old route → HasReached q r route
+reached_as p q old r route same run reached =
+    subst (λ (x : Plan). HasReached x r route) (sym same) (subst (λ (x : Run). HasReached p x route) (sym run) reached)
 
 -- a payload that came back has its room
 pub room_again : (e : State) (filled returned : PayloadView) → filled ≡ payload_of e 4096 → returned.room ≡ filled.room → returned.room ≡ 4096

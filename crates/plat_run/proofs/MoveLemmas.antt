@@ -107,3 +107,10 @@ job_moved table tokens p q old new before after note w move same job keeps is (i
 -- once its sync has been let through
 pub job_let_through : (table tokens : TableId) (p : Plan) (old new : Run) (payload : PayloadView) (note : Held Content Plan) (w : Purse) (n : ℕ) → IsJob table tokens p old payload note w → new ≡ record old { round = n } → IsJob table tokens p new payload note w
 job_let_through table tokens p old new payload note w n job is = job_with table tokens p old new payload payload note w job refl (let_through p old new n note.knows w job.is is)
+
+-- a place has one value
+pub one_value : {A : Type 0} (place : Option A) (x y : A) → place ≡ Some x → place ≡ Some y → x ≡ y
+one_value {A} place x y first second = same (sym first ∙ second)
+  where
+    same : Some x ≡ Some y → x ≡ y
+    same q = cc

@@ -1,5 +1,5 @@
 -- What an initiator that runs beside others knows of its own entries, and its tickets.
-use Rattle.std.specs.Prelude.{ℕ, ◌≡◌, ◌+◌, ◌<◌, ◌≤◌, true, List, length, Some, slice_get}
+use Rattle.std.specs.Prelude.{ℕ, ◌≡◌, ◌+◌, ◌<◌, ◌≤◌, true, List, length, Option, Some, slice_get}
 use Rattle.atomic_table.specs.Seated.{TableId}
 use Rattle.view_lists.specs.Lists.{Has, Within}
 use Rattle.one_history.specs.declared.view.View.{View}
@@ -66,3 +66,11 @@ pub record IsJob (table tokens : TableId) (p : Plan) (r : Run) (payload : Payloa
   pub wallet_of : IsOf tokens w
   pub roomy : payload.room ≡ 4096
   pub is : IsInitiator p r note.knows w
+
+-- The same between its turns: its payload and its note are with it.
+pub record IsAtRest (table tokens : TableId) (p : Plan) (r : Run) (payload : Option PayloadView) (note : Option (Held Content Plan)) (w : Purse) : Type 0 where
+  pub its_payload : PayloadView
+  pub its_note : Held Content Plan
+  pub has_payload : payload ≡ Some its_payload
+  pub has_note : note ≡ Some its_note
+  pub job : IsJob table tokens p r its_payload its_note w

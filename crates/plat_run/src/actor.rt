@@ -10,13 +10,15 @@ use plat_core::InitiatorRun;
 use route_plan::Plan;
 use run_queue::Job;
 use shared_object::Naming;
+use std::alloc::Global;
 use std::sync::Wait;
 use time_board::Board;
 
 /// A job of a run.
+// It is in a box, so that workers hand on the box alone and a turn works in place.
 #[derive(Drop)]
 pub enum Actor<N: Naming<Plan, TlmLaw>> {
-    Blocking(BlockingInitiator<N>),
+    Blocking(Box<BlockingInitiator<N>, Global>),
 }
 
 impl<N: Naming<Plan, TlmLaw>> Job for Actor<N> {
@@ -41,11 +43,11 @@ impl<N: Naming<Plan, TlmLaw>> Job for Actor<N> {
 
 impl<N: Naming<Plan, TlmLaw>> Actor<N> {
     /// A turn of a job of any kind.
-    pub fn turn<P: Pace, R: Wait>(self, rt: &R, net: &Net<N>, board: &Board, pace: &P) -> Actor<N>
-        ensures { number_of result ≡ number_of self }
+    pub fn turn<P: Pace, R: Wait>(&mut self, rt: &R, net: &Net<N>, board: &Board, pace: &P)
+        ensures { number_of self.new ≡ number_of self.old }
     {
         match self {
-            Actor::Blocking(job) => Actor::Blocking(job.turn(rt, net, board, pace)),
+            Actor::Blocking(job) => job.turn(rt, net, board, pace),
         }
     }
 
@@ -55,7 +57,7 @@ impl<N: Naming<Plan, TlmLaw>> Actor<N> {
     {
         match self {
             Actor::Blocking(job) => {
-                let (run, note, _) = job.into_parts();
+                let (run, note, _) = Box::into_inner(job).into_parts();
                 (run, note)
             }
         }

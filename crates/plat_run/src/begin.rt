@@ -21,11 +21,11 @@ fn begin_initiator<N: Naming<Plan, TlmLaw>>(
     net: &Net<N>,
     number: u32,
     start: Start,
-) -> Result<BlockingInitiator<N>, Memory>
+) -> Result<Actor<N>, Memory>
     requires servable { IsServable net.now }
     requires number { number < length net.now.platform.initiators }
     requires start { IsStart N.table N.tokens N.frame.world number start }
-    ensures { IfOk result (λ job. job.engine.initiator ≡ number) }
+    ensures { IfOk result (λ job. number_of job ≡ number) }
 {
     let Start {
         engine,
@@ -36,8 +36,8 @@ fn begin_initiator<N: Naming<Plan, TlmLaw>>(
     let plan = net.plan();
     let room = 2 * plan.script(number).len() as u32;
     let run = InitiatorRun::of_engine(alloc, engine, plan.platform().quantum, room)?;
-    let boxed = Box::new(alloc, run)?;
-    Ok(BlockingInitiator::new(boxed, payload, note, wallet))
+    let job = BlockingInitiator::new(run, payload, note, wallet);
+    Ok(Actor::Blocking(Box::new(alloc, job)?))
 }
 
 /// The jobs of all initiators, in order. Its only error is want of memory.
@@ -55,7 +55,7 @@ pub(crate) fn begin_jobs<N: Naming<Plan, TlmLaw>>(
     for number in 0..net.plan().platform().initiators.as_slice().len() {
         let start = kept.start(number as u32);
         let job = begin_initiator(alloc, net, number as u32, start)?;
-        jobs.push(Actor::Blocking(job))?;
+        jobs.push(job)?;
     }
     Ok(jobs)
 }

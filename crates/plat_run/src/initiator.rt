@@ -13,32 +13,31 @@ use plat_core::{InitiatorRun, Move, NextAccess};
 use route_plan::Plan;
 use run_queue::Job;
 use shared_object::Naming;
-use std::alloc::Global;
 use std::marker::{Model, PhantomData};
 use std::sync::Wait;
 use time_board::{Advance, Board};
 use token_book::Wallet;
 
 /// A blocking initiator under way, with its payload, its note and its wallet. Contracts see its run.
-// Its run is on the heap: it holds the bytes of a copy under way, and a job is moved at each turn.
+// The payload and the note are away only while an access is made, which carries them along.
 #[derive(Drop)]
 pub struct BlockingInitiator<N: Naming<Plan, TlmLaw>> {
-    run: Box<InitiatorRun, Global>,
-    payload: Payload,
-    note: PlatNote,
+    run: InitiatorRun,
+    payload: Option<Payload>,
+    note: Option<PlatNote>,
     wallet: Wallet,
     of: PhantomData<N>,
 }
 
 impl<N: Naming<Plan, TlmLaw>> Model for BlockingInitiator<N> {
     ghost use Rattle.plat_core.specs.Run.{Run};
-    ghost use Rattle.plat_run.specs.Job.{IsJob};
+    ghost use Rattle.plat_run.specs.Job.{IsAtRest};
 
     ghost Value = { Run };
 
-    ghost view = { λ j. j.run.value };
+    ghost view = { λ j. j.run };
 
-    ghost invariant = { λ j. IsJob N.table N.tokens N.frame.world j.run.value j.payload j.note j.wallet };
+    ghost invariant = { λ j. IsAtRest N.table N.tokens N.frame.world j.run j.payload j.note j.wallet };
 }
 
 impl<N: Naming<Plan, TlmLaw>> Job for BlockingInitiator<N> {
@@ -58,18 +57,18 @@ impl<N: Naming<Plan, TlmLaw>> Job for BlockingInitiator<N> {
 impl<N: Naming<Plan, TlmLaw>> BlockingInitiator<N> {
     /// An initiator with what it goes about with.
     pub fn new(
-        run: Box<InitiatorRun, Global>,
+        run: InitiatorRun,
         payload: Payload,
         note: PlatNote,
         wallet: Wallet,
     ) -> BlockingInitiator<N>
-        requires { IsJob N.table N.tokens N.frame.world run.value payload note wallet }
-        ensures { result ≡ run.value }
+        requires { IsJob N.table N.tokens N.frame.world run payload note wallet }
+        ensures { result ≡ run }
     {
         BlockingInitiator {
             run,
-            payload,
-            note,
+            payload: Some(payload),
+            note: Some(note),
             wallet,
             of: PhantomData,
         }
@@ -88,26 +87,19 @@ impl<N: Naming<Plan, TlmLaw>> BlockingInitiator<N> {
             wallet,
             of: _,
         } = self;
-        (Box::into_inner(run), note, wallet)
+        (run, note.unwrap(), wallet)
     }
 
     /// One access or debug read, or one other operation, and the sync that is due after it. If the board
     /// doesn't let that sync through, the turn ends, and the next one begins with it. The pace is told of
     /// an access or a debug read before it is made, while no lock is held.
-    pub fn turn<P: Pace, R: Wait>(
-        mut self,
-        rt: &R,
-        net: &Net<N>,
-        board: &Board,
-        pace: &P,
-    ) -> BlockingInitiator<N>
-        ensures { result.engine.initiator ≡ self.engine.initiator }
+    pub fn turn<P: Pace, R: Wait>(&mut self, rt: &R, net: &Net<N>, board: &Board, pace: &P)
+        ensures { self.new.engine.initiator ≡ self.old.engine.initiator }
     {
         if self.is_let_through(rt, board) {
-            self = self.go_on(rt, net, pace);
+            self.go_on(rt, net, pace);
             let _ = self.is_let_through(rt, board);
         }
-        self
     }
 
     // Whether its last sync is let through the board, now or earlier.
@@ -127,61 +119,40 @@ impl<N: Naming<Plan, TlmLaw>> BlockingInitiator<N> {
     }
 
     // One operation, or one access of it.
-    fn go_on<P: Pace, R: Wait>(self, rt: &R, net: &Net<N>, pace: &P) -> BlockingInitiator<N>
-        ensures { result.engine.initiator ≡ self.engine.initiator }
+    fn go_on<P: Pace, R: Wait>(&mut self, rt: &R, net: &Net<N>, pace: &P)
+        ensures { self.new.engine.initiator ≡ self.old.engine.initiator }
     {
-        let BlockingInitiator {
-            mut run,
-            mut payload,
-            note,
-            mut wallet,
-            of: _,
-        } = self;
-        match run.step(net.plan(), &mut payload, pace) {
-            Move::Went | Move::Ended => BlockingInitiator::new(run, payload, note, wallet),
-            Move::Reached(next) => {
-                let (payload, note) = BlockingInitiator::<N>::access(
-                    rt,
-                    net,
-                    &mut *run,
-                    &next,
-                    payload,
-                    note,
-                    &mut wallet,
-                );
-                BlockingInitiator::new(run, payload, note, wallet)
-            }
+        let Some(payload) = &mut self.payload else {
+            unreachable!()
+        };
+        match self.run.step(net.plan(), payload, pace) {
+            Move::Went | Move::Ended => {}
+            Move::Reached(next) => self.access(rt, net, &next),
         }
     }
 
     // Makes the access or debug read that is next, which has a route.
-    fn access<R: Wait>(
-        rt: &R,
-        net: &Net<N>,
-        run: &mut InitiatorRun,
-        next: &NextAccess,
-        mut payload: Payload,
-        note: PlatNote,
-        wallet: &mut Wallet,
-    ) -> (Payload, PlatNote)
+    fn access<R: Wait>(&mut self, rt: &R, net: &Net<N>, next: &NextAccess)
         requires world { net.now ≡ N.frame.world }
-        requires job { IsJob N.table N.tokens N.frame.world run.old payload note wallet.old }
-        requires reached { HasReached N.frame.world run.old next.now.route }
-        requires next { next.now.op ≡ op_of run.old.engine }
-        ensures job { IsJob N.table N.tokens N.frame.world run.new result.0 result.1 wallet.new }
-        ensures number { run.new.engine.initiator ≡ run.old.engine.initiator }
+        requires reached { HasReached N.frame.world self.old next.now.route }
+        requires next { next.now.op ≡ op_of self.old.engine }
+        ensures { self.new.engine.initiator ≡ self.old.engine.initiator }
     {
-        run.fill_next(&mut payload);
-        let who = run.initiator();
-        let txn = run.next_txn();
-        let at = run.current();
+        let mut payload = self.payload.take().unwrap();
+        let note = self.note.take().unwrap();
+        self.run.fill_next(&mut payload);
+        let who = self.run.initiator();
+        let txn = self.run.next_txn();
+        let at = self.run.current();
+        let wallet = &mut self.wallet;
         let sent = send(net, rt, who, &next.op, payload, note, wallet, txn, at);
         let Carried {
             payload,
             note,
             at: _,
         } = sent;
-        run.complete(&next.op, next.route.latency, &payload);
-        (payload, note)
+        self.run.complete(&next.op, next.route.latency, &payload);
+        self.payload = Some(payload);
+        self.note = Some(note);
     }
 }

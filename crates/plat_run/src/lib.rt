@@ -2,7 +2,7 @@
 //!
 //! - `BlockingInitiator` is a blocking initiator as a job: its run, its payload, its note and its wallet.
 //!   A turn of it is at most one access or debug read, and the sync that is due after it.
-//! - `Actor` is a job of any kind.
+//! - `Actor` is a job of any kind, in a box: workers hand the box on, and a turn works in place.
 //! - `work_all` gives turns by so many workers, until all jobs have finished.
 //! - `run` makes the jobs of a net that was just built, lets the workers go through them, and makes the
 //!   outcome of what the jobs and the memories have. `run_plan` builds the net as well.

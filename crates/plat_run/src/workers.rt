@@ -10,9 +10,9 @@ use std::thread;
 use std::thread::Threads;
 use time_board::Board;
 
-/// Takes jobs, gives each one turn, and gives it back, until none waits: enough have finished, or each of
-/// the others is out with a worker of its own, which goes on with it. One that has finished no longer
-/// holds others back.
+/// Takes a job, gives it a turn, and takes the next one as it gives it back, until none waits: enough have
+/// finished, or each of the others is out with a worker of its own, which goes on with it. One that has
+/// finished no longer holds others back.
 pub fn work<N: Naming<Plan, TlmLaw>, P: Pace, R: Wait>(
     rt: &R,
     net: &Net<N>,
@@ -20,11 +20,12 @@ pub fn work<N: Naming<Plan, TlmLaw>, P: Pace, R: Wait>(
     queue: &RunQueue<Actor<N>>,
     pace: &P,
 ) {
+    let mut taken = queue.take(rt);
     for _ in rt.forever() {
-        match queue.take(rt) {
+        taken = match taken {
             Taken::Took(job) => give_turn(rt, net, board, queue, pace, job),
             Taken::Nothing | Taken::AllDone => return,
-        }
+        };
     }
 }
 
@@ -34,14 +35,14 @@ fn give_turn<N: Naming<Plan, TlmLaw>, P: Pace, R: Wait>(
     board: &Board,
     queue: &RunQueue<Actor<N>>,
     pace: &P,
-    job: Actor<N>,
-) {
-    let job = job.turn(rt, net, board, pace);
+    mut job: Actor<N>,
+) -> Taken<Actor<N>> {
+    job.turn(rt, net, board, pace);
     if job.done() {
         board.finish(rt, job.number());
-        queue.finish(rt, job);
+        queue.finish_and_take(rt, job)
     } else {
-        queue.give_back(rt, job);
+        queue.give_back_and_take(rt, job)
     }
 }
 

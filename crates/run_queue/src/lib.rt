@@ -3,7 +3,8 @@
 //! - A `Job` has a number and tells whether it is done.
 //! - `Jobs<J>` has each job at a `Place`: it waits, is out with a worker, or has finished. Contracts see
 //!   the places by number, the order of the numbers that wait, and how many jobs have to finish.
-//! - `RunQueue<J>` is the same for threads, under a lock.
+//! - `RunQueue<J>` is the same for threads, under a lock. Who hands in a job can take the next one under
+//!   the same lock.
 //! - `tlm_types::Memory` is the error of the two calls named `new`, which were refused memory.
 //!
 //! Promises: the jobs that wait are taken first in, first out. A job is out at most once, and a job

@@ -56,6 +56,22 @@ impl<J: Job> RunQueue<J> {
         self.lock.lock(rt).finish(job);
     }
 
+    /// What `Jobs::give_back` and then `Jobs::take` do, under one lock. It may wait for the lock.
+    pub fn give_back_and_take<R: Wait>(&self, rt: &R, job: J) -> Taken<J> {
+        let mut jobs = self.lock.lock(rt);
+        jobs.give_back(job);
+        jobs.take()
+    }
+
+    /// What `Jobs::finish` and then `Jobs::take` do, under one lock. It may wait for the lock.
+    pub fn finish_and_take<R: Wait>(&self, rt: &R, job: J) -> Taken<J>
+        requires { IsTrue (J.is_done job) }
+    {
+        let mut jobs = self.lock.lock(rt);
+        jobs.finish(job);
+        jobs.take()
+    }
+
     /// Each job once, in the order of their numbers; enough of them are done. It waits without end where
     /// a job is out or fewer have finished.
     pub fn into_jobs<R: Wait>(self, rt: &R) -> Vec<J>

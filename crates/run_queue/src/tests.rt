@@ -100,28 +100,57 @@ fn one_job_serves_four_takers(rt: HostRuntime) -> Result<(), Fail> {
     Ok(())
 }
 
+// A job that is handed in waits, or has finished, before the next one is taken.
+#[test]
+fn who_hands_in_takes_the_next(rt: HostRuntime) -> Result<(), Fail> {
+    let alloc = rt.alloc();
+    let queue = RunQueue::new(alloc, make_jobs(alloc, 2, 1)?, 2)?;
+    assert_eq!(rt; told(&queue.take(&rt)), 0);
+    for (number, next) in [(0, 1), (1, 0)] {
+        let job = Countdown { number, left: 1 };
+        assert_eq!(rt; told(&queue.give_back_and_take(&rt, job)), next);
+    }
+    assert_eq!(rt; told(&queue.take(&rt)), 1);
+    for number in [1, 0] {
+        let job = Countdown { number, left: 1 };
+        assert_eq!(rt;
+            told(&queue.give_back_and_take(&rt, job)),
+            i64::from(number)
+        );
+    }
+    for (number, next) in [(1, -1), (0, -2)] {
+        let job = Countdown { number, left: 0 };
+        assert_eq!(rt; told(&queue.finish_and_take(&rt, job)), next);
+    }
+    Ok(())
+}
+
 // Takes jobs and gives each a turn, until enough have finished. Answers how many turns it gave.
 fn work<R: Wait>(rt: &R, queue: &RunQueue<Countdown>) -> u64 {
     let mut turns = 0u64;
+    let mut taken = queue.take(rt);
     for _ in rt.forever() {
-        match queue.take(rt) {
+        taken = match taken {
             Taken::AllDone => break,
-            Taken::Nothing => thread::yield_now(),
-            Taken::Took(job) => {
-                give_turn(rt, queue, job);
-                turns = turns.saturating_add(1);
+            Taken::Nothing => {
+                thread::yield_now();
+                queue.take(rt)
             }
-        }
+            Taken::Took(job) => {
+                turns = turns.saturating_add(1);
+                give_turn(rt, queue, job)
+            }
+        };
     }
     turns
 }
 
-fn give_turn<R: Wait>(rt: &R, queue: &RunQueue<Countdown>, mut job: Countdown) {
+fn give_turn<R: Wait>(rt: &R, queue: &RunQueue<Countdown>, mut job: Countdown) -> Taken<Countdown> {
     if job.done() {
-        queue.finish(rt, job);
+        queue.finish_and_take(rt, job)
     } else {
         job.left -= 1;
-        queue.give_back(rt, job);
+        queue.give_back_and_take(rt, job)
     }
 }
 

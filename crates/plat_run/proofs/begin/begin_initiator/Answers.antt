@@ -6,16 +6,16 @@ use Rattle.plat_core.specs.Core.{IsServable}
 use Rattle.plat_run.proofs.BeginLemmas.{job_begun}
 use Rattle.plat_run.proofs.begin.begin_initiator.Goals as goal
 
-pub new-requires-2 : goal.new-requires-2
-new-requires-2 g c =
+pub new-job-requires : goal.new-job-requires
+new-job-requires g c =
     let plan = c.plan-plan.ensures in
     let script = c.script.result.now in
     let there : c.plan-plan.result.now ≡ g.N.Naming.frame.world = plan.plan ∙ plan.world in
-    job_begun g.N.Naming.frame.world g.N.Naming.table g.N.Naming.tokens c.args.number c.args.start c.in_ok-boxed.boxed.value c.platform.result.now.quantum (2 * c.len.result) script
+    job_begun g.N.Naming.frame.world g.N.Naming.table g.N.Naming.tokens c.args.number c.args.start c.in_ok-run.run' c.platform.result.now.quantum (2 * c.len.result) script
     (subst IsServable plan.world c.requires.servable)
     (subst (λ (p : Plan). c.args.number < length p.platform.initiators) plan.world c.requires.number)
     c.requires.start
     (subst (λ (p : Plan). slice_get p.scripts c.args.number ≡ Some script) there c.script.ensures.script)
     (ap (λ (p : Platform). p.quantum) c.platform.ensures.same ∙ ap (λ (p : Plan). p.platform.quantum) there)
     (ap (λ (n : ℕ). 2 * n) c.len.ensures.counted)
-    (c.in_ok-boxed.ensures.ok ∙ c.in_ok-run.ensures)
+    c.in_ok-run.ensures
