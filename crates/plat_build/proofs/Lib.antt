@@ -8,3 +8,4 @@ pub mod OpenLemmas
 pub mod WalkLemmas
 pub mod BuildLemmas
 pub mod WaitLemmas
+pub mod UnusedLemmas

@@ -94,9 +94,6 @@ stocked_none tokens p i w is all = record {
   few = λ o has. absurd (place-empty (length (objects_of p.platform)) o (subst (λ (v : Purse). HasPlace v o) is has));
 }
 
-pub stocked_begin : (tokens : TableId) (p : Plan) (n : ℕ) (wallets : List Purse) → AreStocked tokens p n wallets → AreStockedTo tokens p n 0 wallets
-stocked_begin tokens p n wallets h = record { count = h.count; before = λ i w less at. absurd (omega arith); after = λ i w more at. h.each i w at }
-
 pub stocked_next : (tokens : TableId) (p : Plan) (n k : ℕ) (wallets : List Purse) (v : Purse) → AreStockedTo tokens p n k wallets → IsStocked tokens p (n + 1) k v → AreStockedTo tokens p n (k + 1) (set wallets k v)
 stocked_next tokens p n k wallets v h new =
     let P : ℕ → Purse → Type 0 = λ j u. (j < k + 1 → IsStocked tokens p (n + 1) j u) × (k + 1 ≤ j → IsStocked tokens p n j u) in

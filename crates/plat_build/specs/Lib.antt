@@ -5,3 +5,4 @@ pub mod Kept
 pub mod Net
 pub mod Tickets
 pub mod Calls
+pub mod Unused

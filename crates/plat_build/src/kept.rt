@@ -3,6 +3,7 @@ ghost use Rattle.std.specs.Prelude.{◌≡◌, ◌+◌, ◌<◌, ◌≤◌, true
 ghost use Rattle.plat_build.specs.Kept.{all_waiting, AreBlank, AreStarts, IsBlank, IsStart};
 ghost use Rattle.plat_build.specs.Objects.{notes_of};
 ghost use Rattle.plat_build.specs.Tickets.{AreStocked, IsStocked};
+ghost use Rattle.plat_build.specs.Unused.{HaveTicketsFrom};
 
 use crate::law::{PlatNote, TlmLaw};
 use generic_payload::Payload;
@@ -107,6 +108,37 @@ impl<N: Naming<Plan, TlmLaw>> Kept<N> {
     {
         take_note(&mut self.memory_notes[memory as usize])
     }
+
+    /// The wallets of all initiators, in order, where nothing was handed out.
+    pub(crate) fn into_wallets(self, alloc: Global) -> Result<Vec<Wallet>, AllocError>
+        requires { self ≡ all_waiting N.frame.world.platform }
+        ensures { IfOk result (λ wallets. HaveTicketsFrom N.tokens N.frame.world 0 wallets.items) }
+    {
+        let Kept {
+            starts,
+            router_notes: _,
+            memory_notes: _,
+            of: _,
+        } = self;
+        wallets_of::<N>(alloc, starts)
+    }
+}
+
+// The wallets of what waits for all initiators.
+fn wallets_of<N: Naming<Plan, TlmLaw>>(
+    alloc: Global,
+    starts: Vec<Option<Start>>,
+) -> Result<Vec<Wallet>, AllocError>
+    requires starts { AreStarts N.table N.tokens N.frame.world starts.items }
+    requires all { map (λ start. is_some start) starts.items ≡ replicate (length N.frame.world.platform.initiators) true }
+    ensures { IfOk result (λ wallets. HaveTicketsFrom N.tokens N.frame.world 0 wallets.items) }
+{
+    let mut wallets = Vec::new(alloc);
+    for place in starts {
+        let Some(start) = place else { unreachable!() };
+        wallets.push(start.wallet)?;
+    }
+    Ok(wallets)
 }
 
 // Takes a note that is there.

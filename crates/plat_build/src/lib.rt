@@ -6,11 +6,13 @@
 //!   with its log. What it makes for the initiators, routers and memories waits in `Kept`.
 //! - `TlmLaw` is the law of the history. It backs every entry.
 //! - `Net::call_memory` makes a call at a memory, and `Net::debug` a debug read along its route.
+//! - `close_unused` ends the history of a net of which nothing was handed out.
 //!
 //! Promises: the history is made with what the plan counts, in the world that is the plan; each memory is
 //! built as its row says, and has room for all that is planned. Each initiator gets a wallet with the
-//! tickets that the plan counts for it, which are all that are out. A call adds one entry, by the
-//! definitions, and takes one ticket. `build` is refused for want of memory alone, and no call takes memory.
+//! tickets that the plan counts for it, which are all that are out. So the history of a new net is empty:
+//! `close_unused` says it of the history's end. A call adds one entry, by the definitions, and takes one
+//! ticket. `build` and `close_unused` are refused for want of memory alone, and no call of a net takes memory.
 #![tactic(auto)]
 
 mod building;
@@ -23,6 +25,7 @@ mod objects;
 mod opened;
 #[cfg(test)]
 mod tests;
+mod unused;
 mod wallets;
 
 pub use building::{Built, build};
@@ -31,3 +34,4 @@ pub use kept::{Kept, Start};
 pub use law::{PlatHistory, PlatNote, PlatSeat, SharedMemory, TlmLaw};
 pub use net::{Net, NetParts};
 pub use opened::Opened;
+pub use unused::close_unused;

@@ -1,6 +1,7 @@
 ghost use Rattle.std.specs.Prelude.{◌≡◌, ◌<◌, IfOk, length};
+ghost use Rattle.plat_build.specs.Objects.{frame_of};
 
-use crate::{Built, Opened, Start, TlmLaw, build};
+use crate::{Built, Opened, Start, TlmLaw, build, close_unused};
 use platform_file::read_platform;
 use route_plan::{Plan, plan, shape};
 use shared_object::Naming;
@@ -90,5 +91,29 @@ fn debug_reads_without_a_route_spend_no_ticket(rt: HostRuntime) -> Result<(), Fa
     let opened = Opened::new(rt.alloc(), &plan)?;
     let read = debug_read::<Brand, HostRuntime>(&rt, rt.alloc(), &plan, opened, 0x200)?;
     assert_eq!(rt; read, (Response::AddressError, 1));
+    Ok(())
+}
+
+// How many entries the history of a new net has. The call picks N.
+fn entries_of_new<N: Naming<Plan, TlmLaw>, R: Wait>(
+    rt: &R,
+    alloc: Global,
+    plan: &Plan,
+    opened: Opened,
+) -> Result<u64, Fail>
+    requires history { (opened.table ≡ N.table) × (opened.frame ≡ N.frame) }
+    requires tickets { opened.tokens ≡ N.tokens }
+    requires frame { N.frame ≡ frame_of plan.now }
+{
+    let built = build::<N>(alloc, opened, plan)?;
+    Ok(close_unused(rt, alloc, built)?.len())
+}
+
+#[test]
+fn history_of_a_new_net_is_empty(rt: HostRuntime) -> Result<(), Fail> {
+    let plan = small_plan(&rt, rt.alloc())?;
+    let opened = Opened::new(rt.alloc(), &plan)?;
+    let entries = entries_of_new::<Brand, HostRuntime>(&rt, rt.alloc(), &plan, opened)?;
+    assert_eq!(rt; entries, 0);
     Ok(())
 }
