@@ -82,7 +82,18 @@ fn digit_count(number: u64) -> usize
     count + few_digits(rest)
 }
 
-fn write_number(bytes: &mut [u8], start: usize, number: u64) -> usize
+// A number of one digit, as most lengths and widths are.
+#[inline(always)]
+fn write_digit(bytes: &mut [u8], start: usize, digit: u8) -> usize
+    requires digit { digit < 10 }
+    requires room { start + 1 ≤ length bytes.old }
+    ensures { Adds bytes.old bytes.new start result (decimal digit) }
+{
+    write_word(bytes, start, &[b'0' + digit])
+}
+
+#[inline(always)]
+fn write_long(bytes: &mut [u8], start: usize, number: u64) -> usize
     requires { start + 20 ≤ length bytes.old }
     ensures adds { Adds bytes.old bytes.new start result (decimal number) }
     ensures within { result ≤ start + 20 }
@@ -90,6 +101,18 @@ fn write_number(bytes: &mut [u8], start: usize, number: u64) -> usize
     let end = start + digit_count(number);
     write_digits(number, bytes, end);
     end
+}
+
+fn write_number(bytes: &mut [u8], start: usize, number: u64) -> usize
+    requires { start + 20 ≤ length bytes.old }
+    ensures adds { Adds bytes.old bytes.new start result (decimal number) }
+    ensures within { result ≤ start + 20 }
+{
+    if number < 10 {
+        write_digit(bytes, start, number as u8)
+    } else {
+        write_long(bytes, start, number)
+    }
 }
 
 // A number and a space.
