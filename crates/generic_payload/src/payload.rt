@@ -11,8 +11,14 @@ use std::marker::Model;
 use tlm_types::{Command, Memory, MemoryTraits, Response};
 
 /// A transaction's attributes. Addresses, lengths and the streaming width are in bytes.
+// They are in a box, so that handing a payload on moves no more than a pointer.
 #[derive(Drop)]
 pub struct Payload {
+    attributes: Box<Attributes, Global>,
+}
+
+#[derive(Drop)]
+struct Attributes {
     command: Command,
     address: u64,
     bytes: Vec<u8>,
@@ -30,19 +36,19 @@ impl Model for Payload {
     ghost Value = { PayloadView };
 
     ghost view = { λ p. record {
-      command = p.command;
-      address = p.address;
-      bytes = p.bytes.items;
-      enables = p.enables.items;
-      width = p.width;
-      status = p.status;
-      hint = p.hint;
-      room = p.room;
+      command = p.attributes.value.command;
+      address = p.attributes.value.address;
+      bytes = p.attributes.value.bytes.items;
+      enables = p.attributes.value.enables.items;
+      width = p.attributes.value.width;
+      status = p.attributes.value.status;
+      hint = p.attributes.value.hint;
+      room = p.attributes.value.room;
     } };
 
     ghost invariant = { λ p.
-        (p.room ≤ vec_capacity p.bytes) × (length p.bytes.items ≤ p.room)
-        × (p.room ≤ vec_capacity p.enables) × (length p.enables.items ≤ p.room) };
+        (p.attributes.value.room ≤ vec_capacity p.attributes.value.bytes) × (length p.attributes.value.bytes.items ≤ p.attributes.value.room)
+        × (p.attributes.value.room ≤ vec_capacity p.attributes.value.enables) × (length p.attributes.value.enables.items ≤ p.attributes.value.room) };
 }
 
 impl Payload {
@@ -54,7 +60,7 @@ impl Payload {
     {
         let bytes = Vec::with_capacity(alloc, room as usize)?;
         let enables = Vec::with_capacity(alloc, room as usize)?;
-        Ok(Payload {
+        let attributes = Attributes {
             command: Command::Ignore,
             address: 0,
             bytes,
@@ -63,6 +69,9 @@ impl Payload {
             status: Response::Incomplete,
             hint: false,
             room,
+        };
+        Ok(Payload {
+            attributes: Box::new(alloc, attributes)?,
         })
     }
 
@@ -86,7 +95,7 @@ impl Payload {
         } }
     {
         self.begin(Command::Write, address, width);
-        self.bytes.extend_from_slice(bytes).unwrap();
+        self.attributes.bytes.extend_from_slice(bytes).unwrap();
     }
 
     /// Makes it a read of 1 to `room` bytes into a buffer of zeros, without byte enables.
@@ -101,7 +110,7 @@ impl Payload {
         } }
     {
         self.begin(Command::Read, address, width);
-        self.bytes.resize(length as usize, 0).unwrap();
+        self.attributes.bytes.resize(length as usize, 0).unwrap();
     }
 
     /// Makes it an ignore command, with no data.
@@ -118,13 +127,13 @@ impl Payload {
           width = width;
         } }
     {
-        self.command = command;
+        self.attributes.command = command;
         self.set_address(address);
-        self.bytes.clear();
-        self.enables.clear();
-        self.width = width;
-        self.status = Response::Incomplete;
-        self.hint = false;
+        self.attributes.bytes.clear();
+        self.attributes.enables.clear();
+        self.attributes.width = width;
+        self.attributes.status = Response::Incomplete;
+        self.attributes.hint = false;
     }
 
     /// Sets the byte enables, at most `room` of them, each 0x00 or 0xff. With m of them element
@@ -134,22 +143,22 @@ impl Payload {
         requires legal { IsTrue (list_all is_enable enables.now) }
         ensures { self.new ≡ record self.old { enables = enables.now } }
     {
-        self.enables.clear();
-        self.enables.extend_from_slice(enables).unwrap();
+        self.attributes.enables.clear();
+        self.attributes.enables.extend_from_slice(enables).unwrap();
     }
 
     /// The command.
     pub fn command(&self) -> Command
         ensures { result ≡ self.now.command }
     {
-        self.command
+        self.attributes.command
     }
 
     /// The address of the first data byte, as the component that holds the payload sees it.
     pub fn address(&self) -> u64
         ensures { result ≡ self.now.address }
     {
-        self.address
+        self.attributes.address
     }
 
     /// The data bytes: those to write, or the buffer of a read.
@@ -157,7 +166,7 @@ impl Payload {
         ensures value { result.now ≡ self.now.bytes }
         ensures roomy { length self.now.bytes ≤ self.now.room }
     {
-        &self.bytes
+        &self.attributes.bytes
     }
 
     /// The byte enables, none where each byte is enabled.
@@ -165,56 +174,56 @@ impl Payload {
         ensures value { result.now ≡ self.now.enables }
         ensures roomy { length self.now.enables ≤ self.now.room }
     {
-        &self.enables
+        &self.attributes.enables
     }
 
     /// The streaming width, in bytes.
     pub fn width(&self) -> u64
         ensures { result ≡ self.now.width }
     {
-        self.width
+        self.attributes.width
     }
 
     /// The response status, INCOMPLETE until a target has answered.
     pub fn status(&self) -> Response
         ensures { result ≡ self.now.status }
     {
-        self.status
+        self.attributes.status
     }
 
     /// The DMI hint: the target grants direct access.
     pub fn hint(&self) -> bool
         ensures { result ≡ self.now.hint }
     {
-        self.hint
+        self.attributes.hint
     }
 
     /// How many data bytes, and how many byte enables, the payload can hold.
     pub fn room(&self) -> u32
         ensures { result ≡ self.now.room }
     {
-        self.room
+        self.attributes.room
     }
 
     /// Sets the address alone, as an interconnect does.
     pub fn set_address(&mut self, address: u64)
         ensures { self.new ≡ record self.old { address = address } }
     {
-        self.address = address;
+        self.attributes.address = address;
     }
 
     /// Sets the response status alone.
     pub fn set_status(&mut self, status: Response)
         ensures { self.new ≡ record self.old { status = status } }
     {
-        self.status = status;
+        self.attributes.status = status;
     }
 
     /// Sets the DMI hint alone.
     pub fn set_hint(&mut self, hint: bool)
         ensures { self.new ≡ record self.old { hint = hint } }
     {
-        self.hint = hint;
+        self.attributes.hint = hint;
     }
 
     /// The status that a memory with these traits gives the payload: OK for an ignore command,
@@ -226,7 +235,7 @@ impl Payload {
         ensures places { result ≡ Response.Ok → self.now.command ≢ Command.Ignore →
             HasPlaces (access_of self.now) traits.now.size }
     {
-        match self.command {
+        match self.attributes.command {
             Command::Ignore => Response::Ok,
             Command::Read => self.check_places(traits, traits.readable),
             Command::Write => self.check_places(traits, traits.writable),
@@ -241,9 +250,9 @@ impl Payload {
             Response::AddressError
         } else if !allowed {
             Response::CommandError
-        } else if !self.enables.is_empty() && !traits.enables {
+        } else if !self.attributes.enables.is_empty() && !traits.enables {
             Response::ByteEnableError
-        } else if self.width == 0 || (self.is_streaming() && !traits.streaming) {
+        } else if self.attributes.width == 0 || (self.is_streaming() && !traits.streaming) {
             Response::BurstError
         } else {
             Response::Ok
@@ -253,7 +262,7 @@ impl Payload {
     fn is_beyond(&self, size: u64) -> bool
         ensures { IsTrue result ↔ (size < self.now.address + span_of (access_of self.now)) }
     {
-        match self.address.checked_add(self.span()) {
+        match self.attributes.address.checked_add(self.span()) {
             Some(end) => size < end,
             None => true,
         }
@@ -262,18 +271,18 @@ impl Payload {
     fn span(&self) -> u64
         ensures { result ≡ span_of (access_of self.now) }
     {
-        let length = self.bytes.len() as u64;
-        if self.width == 0 {
+        let length = self.attributes.bytes.len() as u64;
+        if self.attributes.width == 0 {
             length
         } else {
-            length.min(self.width)
+            length.min(self.attributes.width)
         }
     }
 
     fn is_streaming(&self) -> bool
         ensures { IsTrue result ↔ (self.now.width < length self.now.bytes) }
     {
-        self.width < self.bytes.len() as u64
+        self.attributes.width < self.attributes.bytes.len() as u64
     }
 
     /// Puts the enabled data bytes of a write to their places in the bytes of a memory, where the check
@@ -283,10 +292,10 @@ impl Payload {
         requires places { HasPlaces (access_of self.now) (length store.old) }
         ensures { store.new ≡ stored_by self.now.command Response.Ok (access_of self.now) store.old }
     {
-        let start = self.address as usize;
+        let start = self.attributes.address as usize;
         let places = &mut store[start..start + self.span() as usize];
-        let bytes = self.bytes.as_slice();
-        let enables = self.enables.as_slice();
+        let bytes = self.attributes.bytes.as_slice();
+        let enables = self.attributes.enables.as_slice();
         if self.is_streaming() {
             stream_into(places, bytes, enables);
         } else {
@@ -303,14 +312,14 @@ impl Payload {
           bytes = got_by self.old.command Response.Ok (access_of self.old) store.now;
         } }
     {
-        let start = self.address as usize;
+        let start = self.attributes.address as usize;
         let places = &store[start..start + self.span() as usize];
-        let is_streaming = self.is_streaming();
-        let enables = self.enables.as_slice();
-        if is_streaming {
-            stream_from(&mut self.bytes, places, enables);
+        if self.is_streaming() {
+            let attributes = &mut *self.attributes;
+            stream_from(&mut attributes.bytes, places, &attributes.enables);
         } else {
-            merge(&mut self.bytes, places, enables);
+            let attributes = &mut *self.attributes;
+            merge(&mut attributes.bytes, places, &attributes.enables);
         }
     }
 
@@ -322,8 +331,8 @@ impl Payload {
             self.new ≡ record self.old { bytes = got ++ drop (length got) self.old.bytes } }
         ensures moved { result ≡ length (moved_by self.old store.now) }
     {
-        let start = (self.address as usize).min(store.len());
-        copy_front(&mut self.bytes, &store[start..]) as u64
+        let start = (self.attributes.address as usize).min(store.len());
+        copy_front(&mut self.attributes.bytes, &store[start..]) as u64
     }
 }
 
