@@ -1,5 +1,5 @@
 -- What the tests carry from access to access.
-use Rattle.std.specs.Prelude.{◌≡◌, ℕ}
+use Rattle.std.specs.Prelude.{◌≡◌}
 use Rattle.atomic_table.specs.Seated.{TableId}
 use Rattle.one_history.specs.Held.{Held}
 use Rattle.shared_object.specs.Steps.{IsNote}

@@ -2,6 +2,7 @@
 //! clauses 11.1.1 and 11.3).
 //!
 //! - `b_transport` makes an access: it takes the payload along its route to a memory, and back.
+//!   `b_transport_along` does so along a route that was looked up before.
 //! - `transport_dbg` makes a debug read along the same route.
 //!
 //! Promises: an access with a route adds exactly one entry to the history, at that memory, with the
@@ -16,4 +17,4 @@
 mod tests;
 mod transport;
 
-pub use transport::{b_transport, transport_dbg};
+pub use transport::{b_transport, b_transport_along, transport_dbg};

@@ -15,7 +15,7 @@ ghost use Rattle.plat_build.specs.Calls.{CanPay, IsCalled, OneTicketLess, route_
 use generic_payload::Payload;
 use plat_build::{Carried, Net, PlatNote, TlmLaw};
 use region_object::RegionCall;
-use route_plan::Plan;
+use route_plan::{Plan, Route};
 use shared_object::Naming;
 use std::sync::Wait;
 use tlm_types::{Ps, Response, TxnId, Way};
@@ -62,6 +62,36 @@ pub fn b_transport<N: Naming<Plan, TlmLaw>, R: Wait>(
             at: at.saturating_add(latency),
         };
     };
+    b_transport_along(net, rt, &route, payload, note, wallet, txn, at)
+}
+
+/// Makes an access by blocking transport along a route, as `b_transport` does along that of the address:
+/// the payload is taken to the end of the route, whatever address it has, and is one entry there, at the
+/// time of its arrival. The time that comes back is `at` and the latency of the route.
+pub fn b_transport_along<N: Naming<Plan, TlmLaw>, R: Wait>(
+    net: &Net<N>,
+    rt: &R,
+    route: &Route,
+    mut payload: Payload,
+    note: PlatNote,
+    wallet: &mut Wallet,
+    txn: TxnId,
+    at: Ps,
+) -> Carried
+    requires memory { route.now.memory < length net.now.platform.memories }
+    requires buffer { payload.command ≡ Read → payload.bytes ≡ zeros (length payload.bytes) }
+    requires note { IsNote N.table note }
+    requires wallet { IsOf N.tokens wallet.old }
+    requires ticket { CanPay payload wallet.old route.now }
+    ensures entry { IsCalled net.now route.now.memory
+        (Access txn (later at route.now.before) Blocking (record payload { address = route.now.offset }))
+        note.knows result.note.knows result.payload }
+    ensures room { result.payload.room ≡ payload.room }
+    ensures time { result.at ≡ later at route.now.latency }
+    ensures note { IsNote N.table result.note }
+    ensures wallet { IsOf N.tokens wallet.new }
+    ensures ticket { OneTicketLess route.now.memory (length payload.bytes + length payload.enables) wallet.old wallet.new }
+{
     payload.set_address(route.offset);
     let call = RegionCall::Access {
         txn,

@@ -1,6 +1,5 @@
 -- A job after an access or a debug read.
 use Rattle.std.proofs.Common.{◌≡◌, ℕ, ◌+◌, length, List, Option, Some, true, ap, sym, subst, ◌∙◌}
-use Rattle.std.specs.Prelude.{IfSome, MatchOption}
 use Rattle.atomic_table.specs.Seated.{TableId}
 use Rattle.one_history.specs.declared.view.View.{View}
 use Rattle.one_history.specs.Held.{Held}
@@ -19,11 +18,11 @@ use Rattle.plat_core.specs.Moves.{HasReached}
 use Rattle.plat_core.specs.Run.{Run, accessed}
 use Rattle.plat_core.proofs.RunLemmas.{accessed_initiator}
 use Rattle.plat_core.proofs.SendLemmas.{room_of_payload}
-use Rattle.plat_build.specs.Calls.{IsCalled, OneTicketLess, route_at}
+use Rattle.plat_build.specs.Calls.{IsCalled, OneTicketLess}
 use Rattle.plat_run.specs.Job.{IsAtRest, IsInitiator}
 use Rattle.plat_run.proofs.JobLemmas.{HasSent, access_made, whole}
 use Rattle.plat_run.proofs.MoveLemmas.{one_value}
-use Rattle.plat_run.proofs.PathLemmas.{can_pay_next, route_found}
+use Rattle.plat_run.proofs.PathLemmas.{can_pay_next}
 
 -- what is handed to an access of a run: its number, its transaction, its time, what is next, and the payload of it
 pub record IsHanded (r : Run) (op : Op) (n : ℕ) (txn : TxnId) (t : ℕ) (payload : PayloadView) : Type 0 where
@@ -54,11 +53,8 @@ number_again r after job op by got same is = ap (λ (x : Run). x.engine.initiato
 
 module _ (p : Plan) (r : Run) (route : Route) (op : Op) (n : ℕ) (txn : TxnId) (t : ℕ) (payload returned : PayloadView) (note back : View Content Plan) (old new : Purse)
     (job : IsInitiator p r note old) (reached : HasReached p r route) (handed : IsHanded r op n txn t payload)
-    (entry : IfSome (route_at p n payload.address) (λ found. IsCalled p found.memory (call_at op txn t found.before (record payload { address = found.offset })) note back returned))
-    (ticket : MatchOption (route_at p n payload.address) (new ≡ old) (λ found. OneTicketLess found.memory (length payload.bytes + length payload.enables) old new)) where
-  found : route_at p n payload.address ≡ Some route
-  found = route_found p r note old route job reached n payload handed.who handed.filled
-
+    (entry : IsCalled p route.memory (call_at op txn t route.before (record payload { address = route.offset })) note back returned)
+    (ticket : OneTicketLess route.memory (length payload.bytes + length payload.enables) old new) where
   same_call : call_at op txn t route.before (record payload { address = route.offset }) ≡ next_call r route
   same_call =
       ap (λ (o : Op). call_at o txn t route.before (record payload { address = route.offset })) handed.op_is
@@ -68,13 +64,9 @@ module _ (p : Plan) (r : Run) (route : Route) (op : Op) (n : ℕ) (txn : TxnId) 
 
   pub has_sent : HasSent p r route note back old new returned
   has_sent =
-      let called : IsCalled p route.memory (call_at op txn t route.before (record payload { address = route.offset })) note back returned =
-      subst (λ (o : Option Route). IfSome o (λ x. IsCalled p x.memory (call_at op txn t x.before (record payload { address = x.offset })) note back returned)) found entry in
-      let less : OneTicketLess route.memory (length payload.bytes + length payload.enables) old new =
-      subst (λ (o : Option Route). MatchOption o (new ≡ old) (λ x. OneTicketLess x.memory (length payload.bytes + length payload.enables) old new)) found ticket in
       record {
-        called = subst (λ (call : RegionCall). IsCalled p route.memory call note back returned) same_call called;
-        ticket = subst (λ (x : PayloadView). OneTicketLess route.memory (length x.bytes + length x.enables) old new) handed.filled less;
+        called = subst (λ (call : RegionCall). IsCalled p route.memory call note back returned) same_call entry;
+        ticket = subst (λ (x : PayloadView). OneTicketLess route.memory (length x.bytes + length x.enables) old new) handed.filled ticket;
         paid = (can_pay_next p r note old route job reached).left;
       }
 

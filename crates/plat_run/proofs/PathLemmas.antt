@@ -1,6 +1,5 @@
 -- What a run needs for the access or debug read that is next, whose address has a route.
-use Rattle.std.proofs.Common.{◌≡◌, ℕ, ◌*◌, ◌<◌, List, [], ◌∷◌, length, Option, Some, None, refl, ap, sym, subst, ◌∙◌, arith, rules}
-use Rattle.std.specs.Option.{ForSome}
+use Rattle.std.proofs.Common.{◌≡◌, ℕ, ◌*◌, ◌<◌, List, [], ◌∷◌, length, Option, Some, None, refl, ap, sym, ◌∙◌, arith}
 use Rattle.std.specs.Prelude.{slice_get}
 use Rattle.std.proofs.lemmas.Option.{MatchOption-at_some}
 use Rattle.token_book.specs.Purse.{Purse}
@@ -114,8 +113,3 @@ module _ (p : Plan) (r : Run) (note : View Content Plan) (w : Purse) (route : Ro
       let asks = left_after p i route.memory r.engine [] reached.access in
       let bytes = bytes_after p i route.memory 4096 r.engine (payload_of r.engine 4096).bytes reached.access (λ fenced. whole_payload_of r.engine 4096 fenced) in
       record { left = omega arith; bytes = omega arith }
-
-  pub can_pay : (n : ℕ) (payload : PayloadView) → n ≡ r.engine.initiator → payload ≡ payload_of r.engine 4096 → ForSome (route_at p n payload.address) (CanPay payload w)
-  can_pay n payload who filled =
-      subst (λ (o : Option Route). ForSome o (CanPay payload w)) (sym (route_found n payload who filled))
-      (let here : CanPay payload w route = subst (λ (x : PayloadView). CanPay x w route) (sym filled) can_pay_next in search (rules, here))

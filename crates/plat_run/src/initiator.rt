@@ -103,6 +103,7 @@ impl<N: Naming<Plan, TlmLaw>> BlockingInitiator<N> {
     }
 
     // Whether its last sync is let through the board, now or earlier.
+    #[inline(always)]
     fn is_let_through<R: Wait>(&mut self, rt: &R, board: &Board) -> bool
         ensures { self.new.engine ≡ self.old.engine }
     {
@@ -145,7 +146,7 @@ impl<N: Naming<Plan, TlmLaw>> BlockingInitiator<N> {
         let txn = self.run.next_txn();
         let at = self.run.current();
         let wallet = &mut self.wallet;
-        let sent = send(net, rt, who, &next.op, payload, note, wallet, txn, at);
+        let sent = send(net, rt, who, next, payload, note, wallet, txn, at);
         let Carried {
             payload,
             note,

@@ -1,12 +1,14 @@
 use Rattle.std.proofs.Common.{ℕ, ◌<◌, length, refl, ap, sym, subst, ◌∙◌}
 use Rattle.tlm_model.specs.Plan.{Plan}
+use Rattle.generic_payload.specs.Payload.{PayloadView}
 use Rattle.script_engine.specs.State.{op_of}
+use Rattle.plat_build.specs.Calls.{CanPay}
 use Rattle.plat_core.specs.Moves.{HasReached}
 use Rattle.plat_core.specs.Run.{Run}
 use Rattle.plat_run.specs.Job.{IsInitiator}
 use Rattle.plat_run.proofs.AccessLemmas.{goes_on, reached_as, room_again, set_out, whole_back}
 use Rattle.plat_run.proofs.MoveLemmas.{number_below}
-use Rattle.plat_run.proofs.PathLemmas.{can_pay}
+use Rattle.plat_run.proofs.PathLemmas.{can_pay_next, route_found}
 use Rattle.plat_run.proofs.initiator.BlockingInitiator.access.Goals as goal
 
 pub send-sent-requires-clause-who : goal.send-sent-requires-clause-who
@@ -18,6 +20,17 @@ send-sent-requires-clause-who g c =
     let job : IsInitiator p old.run note.knows old.wallet = set_out n.table n.tokens n.frame.world p old.run old.payload old.note note old.wallet c.self.invariant (sym c.take-2.ensures.value ∙ c.unwrap-note.ensures) c.requires.world in
     subst (λ (k : ℕ). k < length p.platform.initiators) (sym c.initiator-who.ensures) (number_below p old.run note.knows old.wallet job)
 
+pub send-sent-requires-clause-route : goal.send-sent-requires-clause-route
+send-sent-requires-clause-route g c =
+    let n = g.N.Naming in
+    let old = c.self.inside in
+    let p = c.args.net.now in
+    let route = c.args.next.now.route in
+    let note = c.unwrap-note.result in
+    let job : IsInitiator p old.run note.knows old.wallet = set_out n.table n.tokens n.frame.world p old.run old.payload old.note note old.wallet c.self.invariant (sym c.take-2.ensures.value ∙ c.unwrap-note.ensures) c.requires.world in
+    let reached : HasReached p old.run route = reached_as n.frame.world p c.args.self.now old.run route c.requires.world c.self.view_is c.requires.reached in
+    route_found p old.run note.knows old.wallet route job reached c.initiator-who.result c.fill_next.new.payload c.initiator-who.ensures c.fill_next.ensures
+
 pub send-sent-requires-clause-ticket : goal.send-sent-requires-clause-ticket
 send-sent-requires-clause-ticket g c =
     let n = g.N.Naming in
@@ -27,7 +40,7 @@ send-sent-requires-clause-ticket g c =
     let note = c.unwrap-note.result in
     let job : IsInitiator p old.run note.knows old.wallet = set_out n.table n.tokens n.frame.world p old.run old.payload old.note note old.wallet c.self.invariant (sym c.take-2.ensures.value ∙ c.unwrap-note.ensures) c.requires.world in
     let reached : HasReached p old.run route = reached_as n.frame.world p c.args.self.now old.run route c.requires.world c.self.view_is c.requires.reached in
-    can_pay p old.run note.knows old.wallet route job reached c.initiator-who.result c.fill_next.new.payload c.initiator-who.ensures c.fill_next.ensures
+    subst (λ (x : PayloadView). CanPay x old.wallet route) (sym c.fill_next.ensures) (can_pay_next p old.run note.knows old.wallet route job reached)
 
 pub complete-requires-clause-whole : goal.complete-requires-clause-whole
 complete-requires-clause-whole g c =
