@@ -1,5 +1,7 @@
 -- One more job that has finished, and one more memory that is done with.
-use Rattle.std.proofs.Common.{◌≡◌, ℕ, zero, suc, ◌+◌, ◌<◌, ◌≤◌, Bool, true, false, cond, List, [], ◌∷◌, ◌++◌, length, Some, refl, ap, sym, subst, ◌∙◌, ⊎_elim, arith, length-append}
+use Rattle.std.proofs.Common.{◌≡◌, ℕ, zero, suc, ◌+◌, ◌<◌, ◌≤◌, Bool, true, false, cond, List, [], ◌∷◌, ◌++◌, length, get_or, map, Some, refl, ap, sym, subst, ◌∙◌, ⊎_elim, arith, length-append}
+use Rattle.std.proofs.lemmas.List.{get_or-map, length-map}
+use Rattle.run_queue.specs.Queue.{AreNumbered}
 use Rattle.std.specs.Prelude.{slice_get, slice_index_or, All, IsSomeAnd, count_by}
 use Rattle.std.proofs.lemmas.List.Sums.{count_by-le-length, sum_by-cons}
 use mathlib.Core.Option.{some, some-injective, some-ne-none}
@@ -130,3 +132,11 @@ all_pass test (x ∷ xs) many = by_test (test x) refl (λ more. all_pass test xs
         all_more all zero d below = is
         all_more all (suc i) d below = all i d (omega arith)
     by_test false is rest many = let few = count_by-le-length test xs in absurd (omega arith)
+
+-- jobs with the same numbers are numbered as well
+pub numbered_again : {A : Type 0} (f : A → ℕ) (xs ys : List A) → map f ys ≡ map f xs → AreNumbered f xs → AreNumbered f ys
+numbered_again f xs ys same numbered =
+    let long : length ys ≡ length xs = sym (length-map ys f) ∙ (ap length same ∙ length-map xs f) in
+    λ k d below.
+    let within : k < length xs = omega arith in
+    sym (get_or-map f ys k d 0 below) ∙ (ap (λ (ns : List ℕ). get_or ns k 0) same ∙ (get_or-map f xs k d 0 within ∙ numbered k d within))

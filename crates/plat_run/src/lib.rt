@@ -3,7 +3,7 @@
 //! - `BlockingInitiator` is a blocking initiator as a job: its run, its payload, its note and its wallet.
 //!   A turn of it is at most one access or debug read, and the sync that is due after it.
 //! - `Actor` is a job of any kind, in a box: workers hand the box on, and a turn works in place.
-//! - `work_all` gives turns by so many workers, until all jobs have finished.
+//! - `work_all` gives turns by so many workers, until all jobs have finished; `work_alone` by the caller.
 //! - `run` makes the jobs of a net that was just built, lets the workers go through them, and makes the
 //!   outcome of what the jobs and the memories have. `run_plan` builds the net as well.
 //!
@@ -24,4 +24,4 @@ mod workers;
 pub use actor::Actor;
 pub use initiator::BlockingInitiator;
 pub use running::{PlatSealed, run, run_plan};
-pub use workers::{work, work_all};
+pub use workers::{work, work_all, work_alone};

@@ -1,19 +1,21 @@
 // The run of a net.
-ghost use Rattle.std.specs.Prelude.{◌≡◌, ◌+◌, length, IfOk};
+ghost use Rattle.std.specs.Prelude.{◌≡◌, ◌+◌, true, length, All, IfOk};
+ghost use Rattle.run_queue.specs.Queue.{AreNumbered};
 ghost use Rattle.plat_build.specs.Kept.{all_waiting, AreFreshFrom};
 ghost use Rattle.plat_build.specs.Objects.{frame_of};
 ghost use Rattle.plat_core.specs.Core.{IsServable};
 ghost use Rattle.plat_core.specs.Outcome.{IsWhole};
+ghost use Rattle.plat_run.specs.Actors.{is_done, number_of};
 ghost use Rattle.plat_run.specs.Entries.{entries_read};
 ghost use Rattle.plat_run.specs.Run.{AreDoneWith, AreFinished, IsCoreRun};
 
 use crate::actor::Actor;
 use crate::begin::begin_jobs;
 use crate::ending::{DoneWith, HandedIn, hand_in, take_apart};
-use crate::workers::work_all;
+use crate::workers::{work_all, work_alone};
 use one_history::{Closed, Sealed};
 use outside::Pace;
-use plat_build::{Built, NetParts, Opened, PlatHistory, PlatNote, PlatSeat, TlmLaw, build};
+use plat_build::{Built, Net, NetParts, Opened, PlatHistory, PlatNote, PlatSeat, TlmLaw, build};
 use plat_core::{MergedLog, Outcome, look_through};
 use route_plan::Plan;
 use run_queue::RunQueue;
@@ -58,9 +60,8 @@ pub fn run<N: Naming<Plan, TlmLaw> + Send + Sync, P: Pace + Sync, R: Threads + W
     let jobs = begin_jobs(alloc, &net, &mut kept)?;
     let count = jobs.len() as u32;
     let board = Board::new(alloc, count)?;
-    let queue = RunQueue::new(alloc, jobs, count)?;
-    work_all(rt, &net, &board, &queue, workers, pace);
-    let HandedIn { ends, notes } = hand_in(alloc, queue.into_jobs(rt))?;
+    let jobs = finish_jobs(rt, alloc, &net, &board, pace, jobs, count, workers)?;
+    let HandedIn { ends, notes } = hand_in(alloc, jobs)?;
     let NetParts {
         history,
         tickets: _,
@@ -68,6 +69,33 @@ pub fn run<N: Naming<Plan, TlmLaw> + Send + Sync, P: Pace + Sync, R: Threads + W
     } = net.into_parts();
     let done = take_apart(rt, alloc, memories)?;
     finish::<N>(alloc, history, ends, notes, done, seats)
+}
+
+// Gives turns to these jobs, which are so many, by so many workers, until all have finished. Its only error
+// is want of memory, before the first turn.
+fn finish_jobs<N: Naming<Plan, TlmLaw> + Send + Sync, P: Pace + Sync, R: Threads + Wait + Sync>(
+    rt: &R,
+    alloc: Global,
+    net: &Net<N>,
+    board: &Board,
+    pace: &P,
+    mut jobs: Vec<Actor<N>>,
+    count: u32,
+    workers: u32,
+) -> Result<Vec<Actor<N>>, Memory>
+    requires count { count ≡ length jobs.items }
+    requires numbered { AreNumbered number_of jobs.items }
+    ensures numbered { IfOk result (λ jobs. AreNumbered number_of jobs.items) }
+    ensures count { IfOk result (λ done. length done.items ≡ length jobs.items) }
+    ensures done { IfOk result (λ jobs. All (λ job. is_done job ≡ true) jobs.items) }
+{
+    if workers == 1 {
+        work_alone(rt, net, board, pace, &mut jobs);
+        return Ok(jobs);
+    }
+    let queue = RunQueue::new(alloc, jobs, count)?;
+    work_all(rt, net, board, &queue, workers, pace);
+    Ok(queue.into_jobs(rt))
 }
 
 /// Builds the net of a plan and runs it. Its only error is want of memory, before the first worker starts

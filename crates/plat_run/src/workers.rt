@@ -1,4 +1,7 @@
 // The workers.
+ghost use Rattle.std.specs.Prelude.{◌≡◌, true, false, map, All};
+ghost use Rattle.plat_run.specs.Actors.{is_done, number_of};
+
 use crate::actor::Actor;
 use outside::Pace;
 use plat_build::{Net, TlmLaw};
@@ -29,6 +32,25 @@ pub fn work<N: Naming<Plan, TlmLaw>, P: Pace, R: Wait>(
     }
 }
 
+// Gives a job a turn, and answers whether it has finished. One that has no longer holds others back.
+fn turn_finishes<N: Naming<Plan, TlmLaw>, P: Pace, R: Wait>(
+    rt: &R,
+    net: &Net<N>,
+    board: &Board,
+    pace: &P,
+    job: &mut Actor<N>,
+) -> bool
+    ensures number { number_of job.new ≡ number_of job.old }
+    ensures done { result ≡ is_done job.new }
+{
+    job.turn(rt, net, board, pace);
+    let done = job.done();
+    if done {
+        board.finish(rt, job.number());
+    }
+    done
+}
+
 fn give_turn<N: Naming<Plan, TlmLaw>, P: Pace, R: Wait>(
     rt: &R,
     net: &Net<N>,
@@ -37,9 +59,7 @@ fn give_turn<N: Naming<Plan, TlmLaw>, P: Pace, R: Wait>(
     pace: &P,
     mut job: Actor<N>,
 ) -> Taken<Actor<N>> {
-    job.turn(rt, net, board, pace);
-    if job.done() {
-        board.finish(rt, job.number());
+    if turn_finishes(rt, net, board, pace, &mut job) {
         queue.finish_and_take(rt, job)
     } else {
         queue.give_back_and_take(rt, job)
@@ -65,4 +85,58 @@ pub fn work_all<N: Naming<Plan, TlmLaw> + Send + Sync, P: Pace + Sync, R: Thread
         }
         work(rt, net, board, queue, pace);
     });
+}
+
+// Gives a job a turn if it hasn't finished, and answers whether it needs more.
+fn turn_leaves_more<N: Naming<Plan, TlmLaw>, P: Pace, R: Wait>(
+    rt: &R,
+    net: &Net<N>,
+    board: &Board,
+    pace: &P,
+    job: &mut Actor<N>,
+) -> bool
+    ensures number { number_of job.new ≡ number_of job.old }
+    ensures more { result ≡ false → is_done job.new ≡ true }
+{
+    !job.done() && !turn_finishes(rt, net, board, pace, job)
+}
+
+// Gives each job a turn that hasn't finished, in order, and answers whether one needs more.
+fn give_round<N: Naming<Plan, TlmLaw>, P: Pace, R: Wait>(
+    rt: &R,
+    net: &Net<N>,
+    board: &Board,
+    pace: &P,
+    jobs: &mut [Actor<N>],
+) -> bool
+    ensures numbers { map number_of jobs.new ≡ map number_of jobs.old }
+    ensures more { result ≡ false → All (λ job. is_done job ≡ true) jobs.new }
+{
+    let mut more = false;
+    for job in jobs.iter_mut() {
+        if turn_leaves_more(rt, net, board, pace, job) {
+            more = true;
+        }
+    }
+    more
+}
+
+/// Gives turns by the caller alone, in the order in which they would come off a queue, until all jobs have
+/// finished. No lock is taken for a turn, and no memory.
+pub fn work_alone<N: Naming<Plan, TlmLaw>, P: Pace, R: Wait>(
+    rt: &R,
+    net: &Net<N>,
+    board: &Board,
+    pace: &P,
+    jobs: &mut [Actor<N>],
+)
+    ensures numbers { map number_of jobs.new ≡ map number_of jobs.old }
+    ensures done { All (λ job. is_done job ≡ true) jobs.new }
+{
+    for _ in rt.forever() {
+        if !give_round(rt, net, board, pace, jobs) {
+            return;
+        }
+    }
+    unreachable!()
 }
