@@ -126,6 +126,33 @@ fn write_spaced(bytes: &mut [u8], start: usize, number: u64) -> usize
     write_word(bytes, end, b" ")
 }
 
+// Below so many bytes each digit is looked up by itself.
+const FEW: usize = 16;
+
+const GLYPHS: [u8; 16] = *b"0123456789abcdef";
+
+// Writes each byte as two digits, which are the first of these. So few are done by the time that several at
+// once would have begun.
+#[inline(always)]
+fn write_few_pairs(bytes: &[u8], digits: &mut [u8])
+    requires { 2 * length bytes.now ≤ length digits.old }
+    ensures { take (2 * length bytes.now) digits.new ≡ hex_of bytes.now }
+{
+    for (k, byte) in bytes.iter().enumerate() {
+        digits[2 * k] = glyph_at(*byte / 16);
+        digits[2 * k + 1] = glyph_at(*byte % 16);
+    }
+}
+
+// A digit below 16, as a lower-case hexadecimal one, by a table.
+#[inline(always)]
+fn glyph_at(digit: u8) -> u8
+    requires { digit < 16 }
+    ensures { result ≡ digit_glyph false digit }
+{
+    GLYPHS[digit as usize]
+}
+
 // A digit below 16, as a lower-case hexadecimal one. Without a table a compiler makes several at once.
 fn glyph(digit: u8) -> u8
     requires { digit < 16 }
@@ -140,13 +167,26 @@ fn glyph(digit: u8) -> u8
 
 // Writes each byte as two digits, which are the first of these.
 #[inline(always)]
-fn write_pairs(bytes: &[u8], digits: &mut [u8])
+fn write_many_pairs(bytes: &[u8], digits: &mut [u8])
     requires { 2 * length bytes.now ≤ length digits.old }
     ensures { take (2 * length bytes.now) digits.new ≡ hex_of bytes.now }
 {
     for (k, byte) in bytes.iter().enumerate() {
         digits[2 * k] = glyph(*byte / 16);
         digits[2 * k + 1] = glyph(*byte % 16);
+    }
+}
+
+// Writes each byte as two digits, which are the first of these.
+#[inline(always)]
+fn write_pairs(bytes: &[u8], digits: &mut [u8])
+    requires { 2 * length bytes.now ≤ length digits.old }
+    ensures { take (2 * length bytes.now) digits.new ≡ hex_of bytes.now }
+{
+    if bytes.len() < FEW {
+        write_few_pairs(bytes, digits);
+    } else {
+        write_many_pairs(bytes, digits);
     }
 }
 

@@ -1,5 +1,4 @@
 use Rattle.std.proofs.Common.{List, ℕ, sym, subst}
-use Rattle.std.specs.Fmt.{decimal}
 use Rattle.std.proofs.lemmas.Fmt.{decimal_digit}
 use Rattle.trace_print.specs.Pieces.{Adds}
 use Rattle.trace_print.proofs.pieces.write_digit.Goals as goal

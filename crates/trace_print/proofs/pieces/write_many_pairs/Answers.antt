@@ -1,6 +1,6 @@
 use Rattle.std.proofs.Common.{arith}
 use Rattle.trace_print.proofs.WordLemmas.{pairs-more}
-use Rattle.trace_print.proofs.pieces.write_pairs.Goals as goal
+use Rattle.trace_print.proofs.pieces.write_many_pairs.Goals as goal
 
 pub loop-k-preserved : goal.loop-k-preserved
 loop-k-preserved c =
