@@ -8,11 +8,13 @@ use std::marker::Model;
 use tlm_types::Ps;
 
 /// The time of an initiator since its last sync. All times are picoseconds.
+// The next point is kept, since it is asked for after each access and changes only with a sync.
 #[derive(Drop)]
 pub struct QuantumKeeper {
     quantum: Ps,
     last_sync: Ps,
     local: Ps,
+    next: Ps,
 }
 
 impl Model for QuantumKeeper {
@@ -20,7 +22,23 @@ impl Model for QuantumKeeper {
 
     ghost Value = { Keeper };
 
+    ghost use Rattle.std.specs.Prelude.{◌≡◌};
+    ghost use Rattle.tlm_model.specs.Rounds.{next_point};
+
     ghost view = { λ k. record { quantum = k.quantum; last_sync = k.last_sync; local = k.local } };
+
+    ghost invariant = { λ k. k.next ≡ next_point k.quantum k.last_sync };
+}
+
+// The next whole multiple of a quantum after a time, which stands still at the greatest `u64`. For a
+// quantum of 0 it is that time.
+fn point_after(quantum: Ps, time: Ps) -> Ps
+    ensures { result ≡ next_point quantum time }
+{
+    if quantum == 0 {
+        return time;
+    }
+    time.saturating_add(quantum - time % quantum)
 }
 
 impl QuantumKeeper {
@@ -32,6 +50,7 @@ impl QuantumKeeper {
             quantum,
             last_sync: 0,
             local: 0,
+            next: point_after(quantum, 0),
         }
     }
 
@@ -58,7 +77,7 @@ impl QuantumKeeper {
         // This compares the whole sum, which does not stand still.
         ensures reached { IsTrue result ↔ ((self.now.quantum ≡ 0) ⊎ HasReachedPoint self.now) }
     {
-        self.quantum == 0 || self.next_point() <= self.current()
+        self.quantum == 0 || self.next <= self.current()
     }
 
     /// Moves the time of the last sync on by the offset, and sets the offset to 0.
@@ -68,6 +87,7 @@ impl QuantumKeeper {
     {
         self.last_sync = self.current();
         self.local = 0;
+        self.next = point_after(self.quantum, self.last_sync);
     }
 
     /// The offset from the time of the last sync.
@@ -89,10 +109,6 @@ impl QuantumKeeper {
     pub fn next_point(&self) -> Ps
         ensures { result ≡ next_point self.now.quantum self.now.last_sync }
     {
-        if self.quantum == 0 {
-            return self.last_sync;
-        }
-        self.last_sync
-            .saturating_add(self.quantum - self.last_sync % self.quantum)
+        self.next
     }
 }
