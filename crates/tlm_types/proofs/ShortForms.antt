@@ -8,7 +8,7 @@ use Rattle.tlm_types.specs.declared.log.long.LongItem.{LongItem}
 use Rattle.tlm_types.specs.LogItem.{long_form, no_item, IsPlaced}
 
 pub long_form-append : (long more : List LongItem) (item : Item) → IsPlaced (length long) item → long_form (long ++ more) item ≡ long_form long item
-long_form-append long more (Access command status way start count width offset head) placed = refl
+long_form-append long more (Access command way start count width offset head) placed = refl
 long_form-append long more (Call phase answer head) placed = refl
 long_form-append long more (Take slot head) placed = refl
 long_form-append long more (Acquire slot head) placed = refl

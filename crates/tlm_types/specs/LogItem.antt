@@ -8,6 +8,8 @@ use Rattle.tlm_types.specs.declared.entry.What.TheVariants as whats
 use Rattle.tlm_types.specs.declared.log.item.Item.{Item}
 use Rattle.tlm_types.specs.declared.log.item.Item.TheVariants as items
 use Rattle.tlm_types.specs.declared.log.item.ShortHead.{ShortHead}
+use Rattle.tlm_types.specs.declared.log.item.ShortWay.{ShortWay}
+use Rattle.tlm_types.specs.declared.log.item.ShortWay.TheVariants as short_ways
 use Rattle.tlm_types.specs.declared.log.long.Event.{Event}
 use Rattle.tlm_types.specs.declared.log.long.Event.TheVariants.{Plain as Simple, Access}
 use Rattle.tlm_types.specs.declared.log.long.LongItem.{LongItem}
@@ -19,6 +21,9 @@ use Rattle.tlm_types.specs.declared.words.Command.{Command}
 use Rattle.tlm_types.specs.declared.words.Command.TheVariants.{Read, Write, Ignore}
 use Rattle.tlm_types.specs.declared.words.ObjectNo.{ObjectNo}
 use Rattle.tlm_types.specs.declared.words.ObjectNo.TheVariants.{Memory, Hop, Pool}
+use Rattle.tlm_types.specs.declared.words.Response.TheVariants.{Ok}
+use Rattle.tlm_types.specs.declared.words.Way.{Way}
+use Rattle.tlm_types.specs.declared.words.Way.TheVariants.{Blocking, FourPhase, Direct, Debug}
 use Rattle.tlm_types.specs.Log.{access_by, entry_at}
 
 -- the long item of an event at this place and time, and back
@@ -104,13 +109,20 @@ short_span Ignore start n = record { start = start; enables_start = start + n; g
 abbrev pub full_head : ShortHead → ObjectNo → Head
 full_head h object = record { position = h.position; object = object; txn = record { initiator = h.initiator; seq = h.seq }; time = h.time }
 
+-- the way with this gate
+abbrev pub full_way : ShortWay → Way
+full_way short_ways.Blocking = Blocking
+full_way short_ways.FourPhase = FourPhase
+full_way (short_ways.Direct gate) = Direct gate
+full_way short_ways.Debug = Debug
+
 -- what stands at a place that no list of long items has
 abbrev pub no_item : LongItem
 no_item = record { position = 0; time = 0; seq = 0; initiator = 0; start = 0; object = Memory 0; event = Simple (Closed 0) }
 
 -- the long form of an item, where these are the long items
 abbrev pub long_form : List LongItem → Item → LongItem
-long_form long (items.Access command status way start n width offset head) = item_for (full_head head (Memory head.object)) start (Access (stored_at (record { way = way; command = command; offset = offset; length = n; width = width; status = status }) (short_span command start n)))
+long_form long (items.Access command way start n width offset head) = item_for (full_head head (Memory head.object)) start (Access (stored_at (record { way = full_way way; command = command; offset = offset; length = n; width = width; status = Ok }) (short_span command start n)))
 long_form long (items.Call phase answer head) = item_for (full_head head (Hop head.object)) 0 (Simple (Call phase answer))
 long_form long (items.Take slot head) = item_for (full_head head (Pool head.object)) 0 (Simple (Take slot))
 long_form long (items.Acquire slot head) = item_for (full_head head (Pool head.object)) 0 (Simple (Acquire slot))
@@ -119,7 +131,7 @@ long_form long (items.Long place) = get_or long place no_item
 
 -- a place is one of n long items, and the bytes of a short access end below 2^32
 abbrev pub IsPlaced : ℕ → Item → Type 0
-IsPlaced n (items.Access command status way start count width offset head) = start + count < 2 ^ 32
+IsPlaced n (items.Access command way start count width offset head) = start + count < 2 ^ 32
 IsPlaced n (items.Long place) = place < n
 IsPlaced n item = Unit {0}
 

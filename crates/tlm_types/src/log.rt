@@ -119,7 +119,7 @@ impl Log {
     {
         let span = span_after(self.bytes.len(), sent.len(), enables.len(), got.len())?;
         let count = (span.end - span.start) as usize;
-        self.bytes.reserve(count)?;
+        reserve_beyond(&mut self.bytes, self.room_bytes, count)?;
         self.items.push_access(head, facts, span)?;
         append(&mut self.bytes, sent, enables, got);
         self.room_bytes = self.room_bytes.saturating_sub(count as u64);
@@ -217,6 +217,21 @@ fn span_after(start: usize, sent: usize, enables: usize, got: usize) -> Result<S
         got_start: got_start as u32,
         end: end as u32,
     })
+}
+
+// Makes room for so many more bytes: for `room` of them there is room already.
+fn reserve_beyond(bytes: &mut Vec<u8>, room: u64, count: usize) -> Result<(), Memory>
+    requires { vec_len bytes.old + room ≤ vec_capacity bytes.old }
+    ensures items { bytes.new.items ≡ bytes.old.items }
+    ensures len { vec_len bytes.new ≡ vec_len bytes.old }
+    ensures capacity { vec_capacity bytes.old ≤ vec_capacity bytes.new }
+    ensures ok { OnOk result (vec_len bytes.new + count ≤ vec_capacity bytes.new) }
+    ensures succeeds { count ≤ room → IsOk result }
+{
+    if count as u64 > room {
+        bytes.reserve(count)?;
+    }
+    Ok(())
 }
 
 // Appends these bytes, for which there is room.

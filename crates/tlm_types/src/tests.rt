@@ -114,8 +114,9 @@ const DEBUG_READ: Facts = Facts {
 
 const WIDE: u64 = 0x1_0000_0000;
 
-// Accesses with and without enables, of fewer bytes than their length, and with wide numbers.
-const ROWS: [Row<'static>; 9] = [
+// Accesses with and without enables, of fewer bytes than their length, and with numbers that are just
+// small enough for the short form of an entry, or too wide.
+const ROWS: [Row<'static>; 16] = [
     Row {
         facts: WRITE,
         sent: &[1, 2, 3, 4],
@@ -188,6 +189,71 @@ const ROWS: [Row<'static>; 9] = [
         enables: &[0xff],
         got: &[],
     },
+    Row {
+        facts: Facts {
+            status: Response::BurstError,
+            ..READ
+        },
+        sent: &[],
+        enables: &[],
+        got: &[3, 4, 5],
+    },
+    Row {
+        facts: Facts {
+            way: Way::Direct(0xff),
+            offset: WIDE - 1,
+            width: 0xffff,
+            ..READ
+        },
+        sent: &[],
+        enables: &[],
+        got: &[4, 5, 6],
+    },
+    Row {
+        facts: Facts {
+            way: Way::Direct(0x100),
+            ..READ
+        },
+        sent: &[],
+        enables: &[],
+        got: &[5, 6, 7],
+    },
+    Row {
+        facts: Facts {
+            offset: WIDE,
+            ..WRITE
+        },
+        sent: &[5, 6, 7, 8],
+        enables: &[],
+        got: &[],
+    },
+    Row {
+        facts: Facts {
+            width: 0x1_0000,
+            ..WRITE
+        },
+        sent: &[6, 7, 8, 9],
+        enables: &[],
+        got: &[],
+    },
+    Row {
+        facts: Facts {
+            length: 0xffff,
+            ..WRITE
+        },
+        sent: &[1; 0xffff],
+        enables: &[],
+        got: &[],
+    },
+    Row {
+        facts: Facts {
+            length: 0x1_0000,
+            ..WRITE
+        },
+        sent: &[2; 0x1_0000],
+        enables: &[],
+        got: &[],
+    },
 ];
 
 fn head(object: ObjectNo, position: u64, seq: u64) -> Head {
@@ -196,6 +262,13 @@ fn head(object: ObjectNo, position: u64, seq: u64) -> Head {
         object,
         txn: TxnId { initiator: 2, seq },
         time: WIDE,
+    }
+}
+
+fn head_of(initiator: u32) -> Head {
+    Head {
+        txn: TxnId { initiator, seq: 4 },
+        ..head(ObjectNo::Memory(3), 7, 4)
     }
 }
 
@@ -293,6 +366,12 @@ fn a_log_reads_back_what_was_pushed(rt: HostRuntime) -> Result<(), Fail> {
         head(ObjectNo::Hop(3), 7, 4),
         head(ObjectNo::Pool(3), 7, WIDE - 1),
         head(ObjectNo::Pool(3), WIDE, WIDE),
+        head(ObjectNo::Memory(0xffff), 7, 4),
+        head(ObjectNo::Memory(0x1_0000), 7, 4),
+        head(ObjectNo::Hop(0xffff), 7, 4),
+        head(ObjectNo::Pool(0x1_0000), 7, 4),
+        head_of(0xffff),
+        head_of(0x1_0000),
     ];
     for head in heads {
         let mut log = Log::with_room(rt.alloc(), 2, 6)?;

@@ -1,7 +1,8 @@
 // The items that a log keeps of its entries. A long history is as large as its items, so what most
-// entries have is kept in a short form, whose fields are in an order that leaves no room between them.
+// entries have is kept in a short form, and the fields of an access are in an order that leaves no room
+// between them.
 ghost use Rattle.std.specs.Prelude.{◌≡◌, ◌+◌, ◌^◌, ◌<◌, length, Some, IfSome, IsSome, IsTrue};
-ghost use Rattle.tlm_types.specs.LogItem.{facts_from, full_head, head_in, item_for, long_form, plain_in, short_span, span_from, stored_at, IsOrdered, IsPlaced, IsShortFor};
+ghost use Rattle.tlm_types.specs.LogItem.{facts_from, full_head, full_way, head_in, item_for, long_form, plain_in, short_span, span_from, stored_at, IsOrdered, IsPlaced, IsShortFor};
 ghost use Rattle.tlm_types.specs.declared.log.long.Event.TheVariants as events;
 
 use super::long::{LongItem, Plain, Span, facts_of, head_of, span_of, what_of};
@@ -11,15 +12,15 @@ use std::mem::size_of;
 
 #[derive(Clone, Copy)]
 pub(super) enum Item {
-    // An access at a memory without byte enables, of just `length` bytes: those from `start` on.
+    // An access at a memory that answered OK, without byte enables, of just `length` bytes: those from
+    // `start` on.
     Access {
         command: Command,
-        status: Response,
-        way: Way,
+        way: ShortWay,
         start: u32,
-        length: u32,
-        width: u32,
-        offset: u64,
+        length: u16,
+        width: u16,
+        offset: u32,
         head: ShortHead,
     },
     // A call on a hop.
@@ -46,16 +47,26 @@ pub(super) enum Item {
     Long(usize),
 }
 
-const _: () = prove!(size_of::<Item>() == 56);
+const _: () = prove!(size_of::<Item>() == 40);
 
-// A head whose numbers are below 2^32, with the number of its object.
+// A head whose position and sequence number are below 2^32, with the number of its object, which is
+// below 2^16 as the initiator's is.
 #[derive(Clone, Copy)]
 pub(super) struct ShortHead {
     time: Ps,
     position: u32,
     seq: u32,
-    initiator: u32,
-    object: u32,
+    initiator: u16,
+    object: u16,
+}
+
+// A way whose gate is below 256.
+#[derive(Clone, Copy)]
+pub(super) enum ShortWay {
+    Blocking,
+    FourPhase,
+    Direct(u8),
+    Debug,
 }
 
 impl Item {
@@ -65,10 +76,10 @@ impl Item {
         ensures { result ≡ head_in (long_form long.now self.now) }
     {
         match self {
-            Item::Access { head, .. } => full_head(head, ObjectNo::Memory(head.object)),
-            Item::Call { head, .. } => full_head(head, ObjectNo::Hop(head.object)),
+            Item::Access { head, .. } => full_head(head, ObjectNo::Memory(head.object as u32)),
+            Item::Call { head, .. } => full_head(head, ObjectNo::Hop(head.object as u32)),
             Item::Take { head, .. } | Item::Acquire { head, .. } | Item::Release { head, .. } => {
-                full_head(head, ObjectNo::Pool(head.object))
+                full_head(head, ObjectNo::Pool(head.object as u32))
             }
             Item::Long(place) => head_of(&long[*place]),
         }
@@ -103,19 +114,18 @@ impl Item {
         match self {
             Item::Access {
                 command,
-                status,
                 way,
                 length,
                 width,
                 offset,
                 ..
             } => Some(Facts {
-                way: *way,
+                way: full_way(*way),
                 command: *command,
-                offset: *offset,
+                offset: *offset as u64,
                 length: *length as u64,
                 width: *width as u64,
-                status: *status,
+                status: Response::Ok,
             }),
             Item::Long(place) => facts_of(&long[*place]),
             _ => None,
@@ -141,27 +151,26 @@ impl Item {
     }
 }
 
-// An access in the short form, where it has one: it is one of a memory, its numbers are below 2^32,
-// and just the bytes of its length were kept.
+// An access in the short form, where it has one: it is one of a memory that answered OK, its numbers
+// are small, and just the bytes of its length were kept.
 pub(super) fn short_access(head: Head, facts: Facts, span: Span) -> Option<Item>
     requires { IsOrdered span }
     ensures { IfSome result (IsShortFor (item_for head span.start (events.Access (stored_at facts span)))) }
 {
-    let ObjectNo::Memory(memory) = head.object else {
+    let (ObjectNo::Memory(memory), Response::Ok) = (head.object, facts.status) else {
         return None;
     };
-    if !has_short_numbers(&head) || facts.width > SHORT_MAX || !has_data_alone(&facts, &span) {
+    if !has_short_numbers(&facts) || !has_data_alone(&facts, &span) {
         return None;
     }
     Some(Item::Access {
         command: facts.command,
-        status: facts.status,
-        way: facts.way,
+        way: short_way(facts.way)?,
         start: span.start,
-        length: facts.length as u32,
-        width: facts.width as u32,
-        offset: facts.offset,
-        head: short_head(&head, memory),
+        length: facts.length as u16,
+        width: facts.width as u16,
+        offset: facts.offset as u32,
+        head: short_head(&head, memory)?,
     })
 }
 
@@ -169,39 +178,35 @@ pub(super) fn short_access(head: Head, facts: Facts, span: Span) -> Option<Item>
 pub(super) fn short_event(head: Head, event: Plain) -> Option<Item>
     ensures { IfSome result (IsShortFor (item_for head 0 (events.Plain event))) }
 {
-    if !has_short_numbers(&head) {
-        return None;
-    }
     match (event, head.object) {
         (Plain::Call { phase, answer }, ObjectNo::Hop(hop)) => Some(Item::Call {
             phase,
             answer,
-            head: short_head(&head, hop),
+            head: short_head(&head, hop)?,
         }),
         (Plain::Take { slot }, ObjectNo::Pool(pool)) => Some(Item::Take {
             slot,
-            head: short_head(&head, pool),
+            head: short_head(&head, pool)?,
         }),
         (Plain::Acquire { slot }, ObjectNo::Pool(pool)) => Some(Item::Acquire {
             slot,
-            head: short_head(&head, pool),
+            head: short_head(&head, pool)?,
         }),
         (Plain::Release { slot, freed }, ObjectNo::Pool(pool)) => Some(Item::Release {
             slot,
             freed,
-            head: short_head(&head, pool),
+            head: short_head(&head, pool)?,
         }),
         _ => None,
     }
 }
 
-// The greatest number that the short form has room for.
-const SHORT_MAX: u64 = 0xffff_ffff;
-
-fn has_short_numbers(head: &Head) -> bool
-    ensures { IsTrue result → (head.now.position < 2 ^ 32) × (head.now.txn.seq < 2 ^ 32) }
+fn has_short_numbers(facts: &Facts) -> bool
+    ensures { IsTrue result → (facts.now.offset < 2 ^ 32) × (facts.now.length < 2 ^ 16) × (facts.now.width < 2 ^ 16) }
 {
-    head.position <= SHORT_MAX && head.txn.seq <= SHORT_MAX
+    facts.offset <= u32::MAX as u64
+        && facts.length <= u16::MAX as u64
+        && facts.width <= u16::MAX as u64
 }
 
 // Of the access just the bytes of its length were kept: what a read got, or another command sent.
@@ -217,11 +222,11 @@ fn has_data_alone(facts: &Facts, span: &Span) -> bool
 }
 
 // Where the bytes of an access in the short form stand.
-fn short_span(command: Command, start: u32, length: u32) -> Span
+fn short_span(command: Command, start: u32, length: u16) -> Span
     requires { start + length < 2 ^ 32 }
     ensures { result ≡ short_span command start length }
 {
-    let end = start + length;
+    let end = start + length as u32;
     let sent = match command {
         Command::Read => start,
         Command::Write | Command::Ignore => end,
@@ -234,17 +239,23 @@ fn short_span(command: Command, start: u32, length: u32) -> Span
     }
 }
 
-fn short_head(head: &Head, object: u32) -> ShortHead
-    requires { (head.now.position < 2 ^ 32) × (head.now.txn.seq < 2 ^ 32) }
-    ensures { result ≡ record { time = head.now.time; position = head.now.position; seq = head.now.txn.seq; initiator = head.now.txn.initiator; object = object } }
+// The head in the short form, where it has one.
+fn short_head(head: &Head, object: u32) -> Option<ShortHead>
+    ensures { IfSome result (λ short. short ≡ record { time = head.now.time; position = head.now.position; seq = head.now.txn.seq; initiator = head.now.txn.initiator; object = object }) }
 {
-    ShortHead {
+    if head.position > u32::MAX as u64 || head.txn.seq > u32::MAX as u64 {
+        return None;
+    }
+    if head.txn.initiator > u16::MAX as u32 || object > u16::MAX as u32 {
+        return None;
+    }
+    Some(ShortHead {
         time: head.time,
         position: head.position as u32,
         seq: head.txn.seq as u32,
-        initiator: head.txn.initiator,
-        object,
-    }
+        initiator: head.txn.initiator as u16,
+        object: object as u16,
+    })
 }
 
 fn full_head(head: &ShortHead, object: ObjectNo) -> Head
@@ -254,9 +265,33 @@ fn full_head(head: &ShortHead, object: ObjectNo) -> Head
         position: head.position as u64,
         object,
         txn: TxnId {
-            initiator: head.initiator,
+            initiator: head.initiator as u32,
             seq: head.seq as u64,
         },
         time: head.time,
+    }
+}
+
+// The way in the short form, where it has one.
+fn short_way(way: Way) -> Option<ShortWay>
+    ensures { IfSome result (λ short. full_way short ≡ way) }
+{
+    match way {
+        Way::Blocking => Some(ShortWay::Blocking),
+        Way::FourPhase => Some(ShortWay::FourPhase),
+        Way::Direct(gate) if gate <= u8::MAX as u32 => Some(ShortWay::Direct(gate as u8)),
+        Way::Direct(_) => None,
+        Way::Debug => Some(ShortWay::Debug),
+    }
+}
+
+fn full_way(way: ShortWay) -> Way
+    ensures { result ≡ full_way way }
+{
+    match way {
+        ShortWay::Blocking => Way::Blocking,
+        ShortWay::FourPhase => Way::FourPhase,
+        ShortWay::Direct(gate) => Way::Direct(gate as u32),
+        ShortWay::Debug => Way::Debug,
     }
 }

@@ -85,7 +85,10 @@ impl Items {
         ensures err { OnErr result (self.new ≡ self.old) }
         ensures roomy { length self.old.items < self.old.room → IsOk result }
     {
-        self.items.push(item)?;
+        if self.items.len() == self.items.capacity() {
+            self.items.reserve(1)?;
+        }
+        self.items.push_reserved(item);
         Ok(())
     }
 
@@ -99,9 +102,7 @@ impl Items {
         self.items.reserve(1)?;
         let place = self.long.len();
         self.long.push(item)?;
-        let Ok(()) = self.items.push(Item::Long(place)) else {
-            unreachable!()
-        };
+        self.items.push_reserved(Item::Long(place));
         Ok(())
     }
 

@@ -15,7 +15,7 @@ returns-clause-ok c =
     let kept = kept_of-access_by c.args.facts sent enables got c.requires in
     let left : c.saturating_sub-self-inside.result ≡ s.room_bytes - (length sent + length enables + length got) = omega (arith, after.start, after.enables_start, after.got_start, after.end) in
     let entries = entries_of-access s.bytes.items sent enables got s.items.items c.args.head c.args.facts span c.self.invariant.kept last in
-    rw (c.in_ok-push_access.ensures.ok, c.append.ensures.items, c.in_ok-reserve.ensures.items, ← c.self.view_is, left, entries, kept) refl
+    rw (c.in_ok-push_access.ensures.ok, c.append.ensures.items, c.in_ok-reserve_beyond.ensures.items, ← c.self.view_is, left, entries, kept) refl
 
 pub invariant_of-self-2 : goal.invariant_of-self-2
 invariant_of-self-2 c =
@@ -26,7 +26,7 @@ invariant_of-self-2 c =
     let span = c.in_ok-span.span in
     let after = c.in_ok-span.ensures.ok in
     let last : IsLast (length s.bytes.items) (length sent) (length enables) (length got) span = record { start = omega (arith, after.start, s.bytes.ok.0); enables_start = after.enables_start; got_start = after.got_start; end = after.end } in
-    let bytes : c.append.new.bytes.items ≡ s.bytes.items ++ (sent ++ (enables ++ got)) = c.append.ensures.items ∙ ap (λ (xs : List ℕ). xs ++ (sent ++ (enables ++ got))) c.in_ok-reserve.ensures.items in
+    let bytes : c.append.new.bytes.items ≡ s.bytes.items ++ (sent ++ (enables ++ got)) = c.append.ensures.items ∙ ap (λ (xs : List ℕ). xs ++ (sent ++ (enables ++ got))) c.in_ok-reserve_beyond.ensures.items in
     let all : length c.append.new.bytes.items ≡ length s.bytes.items + (length sent + (length enables + length got)) = ap length bytes ∙ simp length-append in
     let count : length c.append.new.bytes.items ≡ span.end = omega (arith, last.start, last.enables_start, last.got_start, last.end) in
     let items = kept-access (length s.bytes.items) (length c.append.new.bytes.items) (length sent) (length enables) (length got) s.items.items c.args.head c.args.facts span c.self.invariant.kept last count in

@@ -10,4 +10,4 @@ returns-clause-ok c =
     let before = long_forms-append s.long.items (c.args.item ∷ []) s.items.items c.self.invariant.placed in
     let last : length s.long.items ≡ c.len-place.result = omega arith in
     let added = get_or_push s.long.items c.args.item no_item c.len-place.result last in
-    rw (c.in-Ok.ensures.items, c.in_ok-reserve.ensures.items, c.in_ok-push.ensures.items, ← c.self.view_is, map_push, before, added) refl
+    rw (c.push_reserved.ensures.items, c.in_ok-reserve.ensures.items, c.in_ok-push.ensures.items, ← c.self.view_is, map_push, before, added) refl
