@@ -10,12 +10,7 @@ use Rattle.tlm_types.specs.declared.words.Response.TheVariants.{Ok}
 use Rattle.tlm_model.specs.Store.{put_from, taken_from, stored_by, got_by, span_of, is_enabled, place_of}
 use Rattle.lane_copy.specs.Lanes.{merged, merged_byte}
 use Rattle.lane_copy.proofs.Merged.{merged_from_bytes}
-use Rattle.generic_payload.specs.declared.payload.Attributes.{Attributes}
 use Rattle.generic_payload.specs.Payload.{PayloadView, access_of, access_from_start, HasPlaces}
-
--- what contracts see of a payload's attributes
-abbrev pub viewed : Attributes → PayloadView
-viewed a = record { command = a.command; address = a.address; bytes = a.bytes.items; enables = a.enables.items; width = a.width; status = a.status; hint = a.hint; room = a.room }
 
 -- the payload's access, at a memory that begins with its first place
 abbrev pub from_start : PayloadView → Access

@@ -6,6 +6,7 @@ use Rattle.tlm_types.specs.declared.words.Response.{Response}
 use Rattle.tlm_types.specs.declared.words.Response.TheVariants.{Incomplete}
 use Rattle.tlm_types.specs.declared.entry.Access.{Access}
 use Rattle.tlm_model.specs.Store.{span_of}
+use Rattle.generic_payload.specs.declared.payload.Attributes.{Attributes}
 
 -- a payload's attributes, and how many data bytes and enables it can hold
 pub record PayloadView : Type 0 where
@@ -17,6 +18,10 @@ pub record PayloadView : Type 0 where
   pub status : Response
   pub hint : Bool
   pub room : ℕ
+
+-- what contracts see of a payload's attributes
+abbrev pub viewed : Attributes → PayloadView
+viewed a = record { command = a.command; address = a.address; bytes = a.bytes.items; enables = a.enables.items; width = a.width; status = a.status; hint = a.hint; room = a.room }
 
 -- a new payload with this room
 abbrev pub new_payload : ℕ → PayloadView

@@ -31,20 +31,11 @@ struct Attributes {
 
 impl Model for Payload {
     ghost use Rattle.std.specs.Prelude.{◌≤◌, length, vec_capacity};
-    ghost use Rattle.generic_payload.specs.Payload.{PayloadView};
+    ghost use Rattle.generic_payload.specs.Payload.{PayloadView, viewed};
 
     ghost Value = { PayloadView };
 
-    ghost view = { λ p. record {
-      command = p.attributes.value.command;
-      address = p.attributes.value.address;
-      bytes = p.attributes.value.bytes.items;
-      enables = p.attributes.value.enables.items;
-      width = p.attributes.value.width;
-      status = p.attributes.value.status;
-      hint = p.attributes.value.hint;
-      room = p.attributes.value.room;
-    } };
+    ghost view = { λ p. viewed p.attributes.value };
 
     ghost invariant = { λ p.
         (p.attributes.value.room ≤ vec_capacity p.attributes.value.bytes) × (length p.attributes.value.bytes.items ≤ p.attributes.value.room)

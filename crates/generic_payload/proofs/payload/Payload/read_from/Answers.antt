@@ -4,8 +4,8 @@ use Rattle.std.proofs.lemmas.List.{with_items_is}
 use Rattle.tlm_types.specs.declared.words.Response.TheVariants.{Ok}
 use Rattle.tlm_model.specs.Store.{span_of, got_by}
 use Rattle.generic_payload.specs.declared.payload.Attributes.{Attributes}
-use Rattle.generic_payload.specs.Payload.{PayloadView, access_of}
-use Rattle.generic_payload.proofs.Moves.{got_by-streaming, got_by-plain, viewed}
+use Rattle.generic_payload.specs.Payload.{PayloadView, access_of, viewed}
+use Rattle.generic_payload.proofs.Moves.{got_by-streaming, got_by-plain}
 use Rattle.generic_payload.proofs.payload.Payload.read_from.Goals as goal
 
 pub returns-then-is_streaming : goal.returns-then-is_streaming
