@@ -5,7 +5,8 @@
 //! - `run_schedule` steps the actors that a schedule names. In `run_in_order` each initiator in order goes
 //!   on until it has finished or waits for one that is behind.
 //! - `InitiatorRun` is one initiator under way, for those who run initiators side by side.
-//! - `Outcome` is how a run ended; `MergedLog` makes one history of the logs of its objects.
+//! - `Outcome` is how a run ended; `MergedLog` makes one history of the logs of its objects, which a
+//!   `LogReader` reads.
 //!
 //! Promises: after every step the history is sound for the plan, and has one more entry, which is the
 //! actor's, or as many as before. An initiator finishes exactly where all that its script asks for is
@@ -27,7 +28,7 @@ mod steps;
 mod tests;
 mod turn;
 
-pub use merge::MergedLog;
+pub use merge::{LogReader, MergedLog};
 pub use outcome::Outcome;
 pub use run::{InitiatorRun, Move, NextAccess};
 pub use schedule::{run_in_order, run_schedule};

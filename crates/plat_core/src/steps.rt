@@ -164,7 +164,7 @@ impl<'a> Core<'a> {
     {
         let complete = self.has_finished();
         let (logs, stores) = into_parts(self.alloc, self.regions)?;
-        let history = MergedLog::of_logs(self.alloc, logs, self.made)?;
+        let history = MergedLog::of_logs(logs, self.made);
         let ends = into_ends(self.alloc, self.runs)?;
         Ok(Outcome {
             history,

@@ -42,8 +42,12 @@ fn plan_of(
 
 /// Each entry as `TIME INITIATOR.NUMBER OBJECT`.
 fn add_entries(alloc: Global, text: &mut String, outcome: &Outcome) -> Result<(), Fail> {
+    let mut reader = outcome.history.reader(alloc)?;
     for index in 0..outcome.history.len() {
-        let (log, place) = outcome.history.at(index);
+        if index >= reader.len() {
+            break;
+        }
+        let (log, place) = reader.at(index);
         let head = log.head(place);
         let (time, txn) = (head.time, head.txn);
         let ObjectNo::Memory(memory) = head.object else {
@@ -299,5 +303,30 @@ fn memories_wait_until_all_have_finished(rt: HostRuntime) -> Result<(), Fail> {
         assert_eq!(rt; core.step(actor)?, want);
     }
     assert!(rt; core.has_finished());
+    Ok(())
+}
+
+/// Twice as many entries as a reader notes at a time, on two memories. Each position has its entry, in
+/// order and backwards.
+#[test]
+fn a_history_is_read_at_any_position(rt: HostRuntime) -> Result<(), Fail> {
+    let alloc = rt.alloc();
+    let script = "repeat 256\nwrite 0x0 01\nread 0x104 1\nend\n";
+    let plan = plan_of(&rt, alloc, 100, "bus", BUS, &[script, script])?;
+    let outcome = run_in_order(alloc, &plan, &NoPace)?;
+    let count = outcome.history.len();
+    assert_eq!(rt; count, 1024);
+    let mut reader = outcome.history.reader(alloc)?;
+    for position in 0..count {
+        assert!(rt; position < reader.len());
+        let (log, index) = reader.at(position);
+        assert_eq!(rt; log.head(index).position, position);
+    }
+    for before in 0..count {
+        let position = count - 1 - before;
+        assert!(rt; position < reader.len());
+        let (log, index) = reader.at(position);
+        assert_eq!(rt; log.head(index).position, position);
+    }
     Ok(())
 }

@@ -169,7 +169,7 @@ fn finish<N: Naming<Plan, TlmLaw>>(
         unreachable!()
     };
     let outcome = Outcome {
-        history: MergedLog::of_logs(alloc, logs, sealed.len())?,
+        history: MergedLog::of_logs(logs, sealed.len()),
         stores: Rows::from_vec(stores),
         ends: Rows::from_vec(ends),
         complete: true,

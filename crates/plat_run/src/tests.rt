@@ -7,7 +7,7 @@ use std::alloc::Global;
 use std::process::Abort;
 use std::sync::atomic::{AtomicU64, Ordering};
 use std::test::Fail;
-use tlm_types::TxnId;
+use tlm_types::{Memory, TxnId};
 use traffic_script::read_script;
 
 /// Two initiators before a router of 5 ps with two memories of 10 and 20 ps, with a quantum of 50 ps.
@@ -102,15 +102,19 @@ const ONE_MEMORY: &str = "version = 1\nquantum = 1000000\n\
                           [[memory]]\nname = 'ram'\nsize = 16\n";
 
 // Where the first access of an initiator stands in a history.
-fn first_of(history: &MergedLog, initiator: u32) -> Option<u64> {
+fn first_of(alloc: Global, history: &MergedLog, initiator: u32) -> Result<Option<u64>, Memory> {
+    let mut reader = history.reader(alloc)?;
     for position in 0..history.len() {
-        let (log, place) = history.at(position);
+        if position >= reader.len() {
+            break;
+        }
+        let (log, place) = reader.at(position);
         let txn = log.head(place).txn;
         if txn == (TxnId { initiator, seq: 0 }) {
-            return Some(position);
+            return Ok(Some(position));
         }
     }
-    None
+    Ok(None)
 }
 
 // With two workers, each initiator can be held while the other one goes on: then the other one's first
@@ -129,8 +133,8 @@ fn two_at_once(rt: HostRuntime) -> Result<(), Fail> {
         let (outcome, _) = run_plan(&rt, rt.alloc(), &plan, 2, &pace)?;
         assert_eq!(rt; pace.gave_up.load(Ordering::SeqCst), 0);
         assert_eq!(rt; outcome.history.len(), 4);
-        let later = first_of(&outcome.history, held).ok_or("no access")?;
-        let earlier = first_of(&outcome.history, 1 - held).ok_or("no access")?;
+        let later = first_of(rt.alloc(), &outcome.history, held)?.ok_or("no access")?;
+        let earlier = first_of(rt.alloc(), &outcome.history, 1 - held)?.ok_or("no access")?;
         assert!(rt; earlier < later);
     }
     Ok(())

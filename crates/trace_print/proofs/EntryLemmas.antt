@@ -3,9 +3,11 @@ use Rattle.std.proofs.Common.{◌≡◌, ℕ, zero, suc, ◌+◌, ◌<◌, List,
 use Rattle.std.specs.Prelude.{codes, is_some, option_and_then, slice_get, if◌then◌else◌}
 use Rattle.std.specs.Fmt.{decimal}
 use Rattle.std.specs.List.{join_with_byte}
-use Rattle.std.proofs.lemmas.List.{append-nil, map-append}
+use Rattle.std.proofs.lemmas.List.{map-append}
 use Rattle.std.proofs.lemmas.List.Elements.{filter-append}
 use Rattle.tlm_types.specs.declared.words.Command.TheVariants.{Read, Write, Ignore}
+use Rattle.tlm_types.specs.declared.words.ObjectNo.{ObjectNo}
+use Rattle.tlm_types.specs.declared.words.ObjectNo.TheVariants.{Memory as memory_object}
 use Rattle.tlm_types.specs.declared.words.TlmSync.{TlmSync}
 use Rattle.tlm_types.specs.declared.words.TlmSync.TheVariants.{Accepted, Updated, Completed}
 use Rattle.tlm_types.specs.declared.entry.Entry.{Entry}
@@ -16,9 +18,11 @@ use Rattle.tlm_types.specs.Log.{enables_of, facts_of, got_of, plain_of, sent_of}
 use Rattle.tlm_model.specs.declared.platform.Platform.{Platform}
 use Rattle.tlm_model.specs.declared.trace.Trace.{Trace}
 use Rattle.tlm_model.specs.declared.trace.Trace.TheVariants.{All, Accesses, None as no_entries}
-use Rattle.tlm_model.specs.Report.{command_word, entry_words, freed_words, is_access, kind_word, phase_word, range_word, shown_by, status_word, sync_words, traced, way_word, what_words}
+use Rattle.tlm_model.specs.Report.{command_word, entry_words, freed_words, initiator_name, is_access, kind_word, memory_name, object_word, phase_word, range_word, shown_by, status_word, sync_words, traced, txn_word, way_word, what_words}
 use Rattle.tlm_model.specs.Text.{address_word, data_word, line_of}
+use Rattle.trace_print.specs.Pieces.{asked_text, seq_text, status_text, times_text, unmasked_text, width_text}
 use Rattle.trace_print.specs.Told.{access_words, shown_at, text_of}
+use Rattle.trace_print.proofs.TextLemmas.{access-line, head-front}
 pub use Rattle.trace_print.proofs.Texts.{text-append, text-one}
 
 traced-append : (t : Trace) (a b : List Entry) → traced t (a ++ b) ≡ traced t a ++ traced t b
@@ -68,13 +72,11 @@ entry-line-is p t n o (Take s) = line-is p t n o (codes "take") (decimal s ∷ [
 entry-line-is p t n o (Acquire s) = line-is p t n o (codes "acquire") (decimal s ∷ [])
 entry-line-is p t n o (Release s f) = line-is p t n o (codes "release") (decimal s ∷ freed_words f)
 
--- the same, where the space stands in front of what happened, and nothing else is put
+-- the same, where the space stands in front of what happened
 pub entry-text-is : (p t n o : List ℕ) (w : What) →
-    join_with_byte 32 (p ∷ t ∷ n ∷ o ∷ []) ++ ((codes " " ++ line_of (what_words w)) ++ []) ≡ line_of (p ∷ t ∷ n ∷ o ∷ what_words w)
+    join_with_byte 32 (p ∷ t ∷ n ∷ o ∷ []) ++ (codes " " ++ line_of (what_words w)) ≡ line_of (p ∷ t ∷ n ∷ o ∷ what_words w)
 entry-text-is p t n o w =
-    let front = join_with_byte 32 (p ∷ t ∷ n ∷ o ∷ []) in
-    ap (λ (l : List ℕ). front ++ l) (append-nil (codes " " ++ line_of (what_words w)))
-    ∙ (sym (append_assoc front (codes " ") (line_of (what_words w))) ∙ entry-line-is p t n o w)
+    sym (append_assoc (join_with_byte 32 (p ∷ t ∷ n ∷ o ∷ [])) (codes " ") (line_of (what_words w))) ∙ entry-line-is p t n o w
 
 -- the words of a call
 pub call-words : (w : List ℕ) (a : TlmSync) → w ++ (codes " " ++ join_with_byte 32 (sync_words a)) ≡ join_with_byte 32 (w ∷ sync_words a)
@@ -96,6 +98,22 @@ access-is (Call f a) facts enables shown ef ee es = cc
 access-is (Take s) facts enables shown ef ee es = cc
 access-is (Acquire s) facts enables shown ef ee es = cc
 access-is (Release s f) facts enables shown ef ee es = cc
+
+-- the line of an access at a memory, from its parts, where no byte is masked
+pub access-text-is : (p : Platform) (e : Entry) (memory : ℕ) (f : Facts) (enables shown : List ℕ) → e.object ≡ memory_object memory → facts_of e.what ≡ Some f → enables_of e.what ≡ Some enables → shown_at e.what ≡ Some shown → codes "-" ≡ data_word enables →
+    times_text e.position e.time ++ (initiator_name p e.txn.initiator ++ (seq_text e.txn.seq ++ (memory_name p memory ++ (unmasked_text f ++ (data_word shown ++ status_text f.status))))) ≡ line_of (entry_words p e)
+access-text-is p e memory f enables shown at facts masks bytes none =
+    let name = initiator_name p e.txn.initiator in
+    let behind = unmasked_text f ++ (data_word shown ++ status_text f.status) in
+    let words = access-is e.what f enables shown facts masks bytes in
+    let front = head-front (decimal e.position) (decimal e.time) name (codes ".") (decimal e.txn.seq) (memory_name p memory) (codes " ") behind in
+    let told : behind ≡ codes " " ++ line_of (what_words e.what) =
+    ap (λ (dash : List ℕ). (asked_text f ++ (dash ++ width_text f.width)) ++ (data_word shown ++ status_text f.status)) none
+    ∙ (access-line (way_word f.way) (codes " ") (command_word f.command) (address_word f.offset) (decimal f.length) (codes "be=") (data_word enables) (codes "sw=") (decimal f.width) (data_word shown) (status_word f.status) (codes "\n")
+    ∙ ap (λ (ws : List (List ℕ)). codes " " ++ line_of ws) words) in
+    let text = entry-text-is (decimal e.position) (decimal e.time) (txn_word p e.txn) (memory_name p memory) e.what in
+    front ∙ (ap (λ (l : List ℕ). join_with_byte 32 (decimal e.position ∷ decimal e.time ∷ txn_word p e.txn ∷ memory_name p memory ∷ []) ++ l) told
+    ∙ (text ∙ ap (λ (o : ObjectNo). line_of (decimal e.position ∷ decimal e.time ∷ txn_word p e.txn ∷ object_word p o ∷ what_words e.what)) (sym at)))
 
 pub has-facts : (w : What) → is_some (facts_of w) ≡ is_access w
 has-facts (Accessed way a status got) = refl

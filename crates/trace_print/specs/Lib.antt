@@ -1,6 +1,7 @@
 pub mod LineView
 pub mod Writes
 pub mod Pieces
+pub mod AccessText
 pub mod Putting
 pub mod Told
 pub mod Hops

@@ -1,26 +1,27 @@
 // The lines of the entries of a history.
-ghost use Rattle.std.specs.Prelude.{◌≡◌, ◌<◌, ◌∷◌, [], ◌++◌, Some, length, slice_get, map, codes, false, if◌then◌else◌};
+ghost use Rattle.std.specs.Prelude.{◌≡◌, ◌<◌, ◌∷◌, [], ◌++◌, Some, IfSome, length, slice_get, map, codes, false, if◌then◌else◌};
 ghost use Rattle.std.specs.Fmt.{decimal};
 ghost use Rattle.std.specs.List.{join_with_byte};
 ghost use Rattle.tlm_types.specs.declared.entry.Entry.{Entry};
 ghost use Rattle.tlm_types.specs.declared.entry.What.TheVariants.{Granted, Call};
 ghost use Rattle.tlm_types.specs.Log.{facts_of, read_at};
 ghost use Rattle.tlm_model.specs.Report.{entry_words, is_access, traced, txn_word, what_words};
-ghost use Rattle.tlm_model.specs.Text.{data_word, line_of};
+ghost use Rattle.tlm_model.specs.Text.{line_of};
+ghost use Rattle.trace_print.specs.AccessText.{access_text, IsShort};
 ghost use Rattle.trace_print.specs.Hops.{ends_at, object_word_by};
-ghost use Rattle.trace_print.specs.Pieces.{asked_text, width_text};
 ghost use Rattle.trace_print.specs.Putting.{Puts, page};
 ghost use Rattle.trace_print.specs.Told.{access_words, shown_at, text_of};
 
-use crate::line::{Line, flush, put, put_piece};
-use crate::names::{ends_at, put_object, put_txn};
+use crate::access::AccessLine;
+use crate::line::{Line, flush, put, put_access_line, put_piece};
+use crate::names::{ends_at, initiator_name, memory_name, put_object, put_txn};
 use crate::pieces::Piece;
 use crate::words::{kind_text, phase_text, put_data, put_number, put_range, put_sync, put_text};
 use outside::Sink;
-use plat_core::MergedLog;
+use plat_core::LogReader;
 use route_plan::{HopEnds, Plan};
 use tlm_model::{Platform, Trace};
-use tlm_types::{Command, Facts, Head, Kind, Log, Phase, TlmSync, What};
+use tlm_types::{Command, Facts, Head, Kind, Log, ObjectNo, Phase, TlmSync, What};
 
 // The position, the time, the transaction and the object of an entry.
 #[inline(always)]
@@ -45,22 +46,6 @@ fn put_head<K: Sink>(
     put_object(out, line, platform, head.object, ends);
 }
 
-// What an access asked for with its enables and its width, between two spaces.
-#[inline(always)]
-fn put_asked<K: Sink>(out: &mut K, line: &mut Line, facts: Facts, enables: &[u8])
-    ensures { Puts (page (K.taken out.old) (K.faults out.old) line.old)
-        (page (K.taken out.new) (K.faults out.new) line.new)
-        (asked_text facts ++ (data_word enables.now ++ width_text facts.width)) }
-{
-    if enables.is_empty() {
-        put_piece(out, line, Piece::Unmasked(facts));
-    } else {
-        put_piece(out, line, Piece::Asked(facts));
-        put_data(out, line, enables);
-        put_piece(out, line, Piece::Width(facts.width));
-    }
-}
-
 // What an access was, from its plain parts, its enables, and the bytes that its line shows, after a
 // space and with the end of the line.
 #[inline(always)]
@@ -69,7 +54,9 @@ fn put_access<K: Sink>(out: &mut K, line: &mut Line, facts: Facts, enables: &[u8
         (page (K.taken out.new) (K.faults out.new) line.new)
         (codes " " ++ line_of (access_words facts enables.now shown.now)) }
 {
-    put_asked(out, line, facts, enables);
+    put_piece(out, line, Piece::Asked(facts));
+    put_data(out, line, enables);
+    put_piece(out, line, Piece::Width(facts.width));
     put_data(out, line, shown);
     put_piece(out, line, Piece::Status(facts.status));
 }
@@ -175,8 +162,8 @@ fn put_what<K: Sink>(out: &mut K, line: &mut Line, log: &Log, index: u64)
     }
 }
 
-/// Puts the line of the entry at this place. The ends are given where it stands at a hop.
-pub fn put_entry<K: Sink>(
+// The line of the entry at this place, whatever it is. The ends are given where it stands at a hop.
+fn put_any<K: Sink>(
     out: &mut K,
     line: &mut Line,
     platform: &Platform,
@@ -191,6 +178,56 @@ pub fn put_entry<K: Sink>(
 {
     put_head(out, line, platform, log.head(index), ends);
     put_what(out, line, log, index);
+}
+
+// The line of the entry at this place, where it is a short access at a memory without byte enables.
+#[inline(always)]
+fn access_line<'a>(platform: &'a Platform, log: &'a Log, index: u64) -> Option<AccessLine<'a>>
+    requires { index < length log.now.entries }
+    ensures short { IfSome result IsShort }
+    ensures text { (e : Entry) → slice_get log.now.entries index ≡ Some e →
+        IfSome result (λ access. access_text access ≡ line_of (entry_words platform.now e)) }
+{
+    let facts = log.facts(index)?;
+    if !log.enables(index).is_empty() {
+        return None;
+    }
+    let head = log.head(index);
+    let ObjectNo::Memory(memory) = head.object else {
+        return None;
+    };
+    let access = AccessLine {
+        head,
+        initiator: initiator_name(platform, head.txn.initiator).as_bytes(),
+        memory: memory_name(platform, memory).as_bytes(),
+        facts,
+        shown: shown(log, index, facts.command),
+    };
+    if access.is_short() {
+        Some(access)
+    } else {
+        None
+    }
+}
+
+/// Puts the line of the entry at this place. The ends are given where it stands at a hop.
+pub fn put_entry<K: Sink>(
+    out: &mut K,
+    line: &mut Line,
+    platform: &Platform,
+    ends: Option<HopEnds>,
+    log: &Log,
+    index: u64,
+)
+    requires { index < length log.now.entries }
+    ensures { (e : Entry) → slice_get log.now.entries index ≡ Some e → ends ≡ ends_at platform.now e.object →
+        Puts (page (K.taken out.old) (K.faults out.old) line.old)
+        (page (K.taken out.new) (K.faults out.new) line.new) (line_of (entry_words platform.now e)) }
+{
+    match access_line(platform, log, index) {
+        Some(access) => put_access_line(out, line, &access),
+        None => put_any(out, line, platform, ends, log, index),
+    }
     flush(out, line);
 }
 
@@ -233,15 +270,18 @@ pub fn put_entries<K: Sink>(
     out: &mut K,
     line: &mut Line,
     plan: &Plan,
-    history: &MergedLog,
+    reader: &mut LogReader<'_>,
     trace: Trace,
 )
     ensures { Puts (page (K.taken out.old) (K.faults out.old) line.old)
         (page (K.taken out.new) (K.faults out.new) line.new)
-        (text_of (map (entry_words plan.now.platform) (traced trace history.now.entries))) }
+        (text_of (map (entry_words plan.now.platform) (traced trace reader.old.entries))) }
 {
-    for index in 0..history.len() {
-        let (log, place) = history.at(index);
-        put_traced(out, line, plan, log, place, trace);
+    if let Trace::None = trace {
+        return;
+    }
+    for position in 0..reader.len() {
+        let (log, index) = reader.at(position);
+        put_traced(out, line, plan, log, index, trace);
     }
 }

@@ -12,7 +12,7 @@
 //! the history.
 #![tactic(auto)]
 
-ghost use Rattle.std.specs.Prelude.{◌∷◌, [], codes};
+ghost use Rattle.std.specs.Prelude.{◌≡◌, ◌∷◌, [], codes};
 ghost use Rattle.std.specs.Fmt.{decimal};
 ghost use Rattle.tlm_model.specs.Report.{report_of};
 ghost use Rattle.tlm_model.specs.Text.{line_of};
@@ -20,6 +20,7 @@ ghost use Rattle.trace_print.specs.Putting.{Puts, page};
 ghost use Rattle.plat_core.specs.Outcome.{IsReportable};
 ghost use Rattle.trace_print.specs.Writes.{IsPrinted};
 
+mod access;
 mod ends;
 mod entries;
 pub mod laws;
@@ -37,11 +38,12 @@ use crate::line::{Line, end_line, flush, put};
 use crate::memories::put_memories;
 use crate::words::put_number;
 use outside::Sink;
-use plat_core::Outcome;
+use plat_core::{LogReader, Outcome};
 use route_plan::Plan;
-use std::alloc::{AllocError, Global};
+use std::alloc::Global;
 use thiserror::Error;
 use tlm_model::Trace;
+use tlm_types::Memory;
 
 /// Why a report wasn't printed whole: the sink failed, or memory was refused.
 #[derive(Clone, Copy, Debug, PartialEq, Eq, Error)]
@@ -52,13 +54,13 @@ pub enum PrintFault {
     Memory,
 }
 
-impl From<AllocError> for PrintFault {
+impl From<Memory> for PrintFault {
     ghost use Rattle.std.specs.Prelude.{◌≡◌};
-    ghost use Rattle.trace_print.specs.declared.PrintFault.TheVariants.{Memory};
+    ghost use Rattle.trace_print.specs.declared.PrintFault.TheVariants as faults;
 
-    ghost from_gives = { λ _ fault. fault ≡ Memory };
+    ghost from_gives = { λ _ fault. fault ≡ faults.Memory };
 
-    fn from(_: AllocError) -> PrintFault {
+    fn from(_: Memory) -> PrintFault {
         PrintFault::Memory
     }
 }
@@ -85,15 +87,23 @@ fn put_count<K: Sink>(out: &mut K, line: &mut Line, count: u64)
 }
 
 // The whole report, of which the end of the last line may still wait.
-fn put_report<K: Sink>(out: &mut K, line: &mut Line, plan: &Plan, outcome: &Outcome, trace: Trace)
-    requires { IsReportable plan.now outcome.now }
+fn put_report<K: Sink>(
+    out: &mut K,
+    line: &mut Line,
+    plan: &Plan,
+    outcome: &Outcome,
+    reader: &mut LogReader<'_>,
+    trace: Trace,
+)
+    requires reportable { IsReportable plan.now outcome.now }
+    requires reader { reader.old ≡ outcome.now.history }
     ensures { Puts (page (K.taken out.old) (K.faults out.old) line.old)
         (page (K.taken out.new) (K.faults out.new) line.new)
         (report_of trace plan.now outcome.now.history.entries) }
 {
     let platform = plan.platform();
     put_title(out, line);
-    put_entries(out, line, plan, &outcome.history, trace);
+    put_entries(out, line, plan, reader, trace);
     put_initiators(
         out,
         line,
@@ -129,7 +139,8 @@ pub fn print<K: Sink>(
     }) (report_of trace plan.now outcome.now.history.entries) }
 {
     let mut line = Line::with_room(alloc)?;
-    put_report(out, &mut line, plan, outcome, trace);
+    let mut reader = outcome.history.reader(alloc)?;
+    put_report(out, &mut line, plan, outcome, &mut reader, trace);
     flush(out, &mut line);
     if line.has_failed() {
         return Err(PrintFault::Failed);

@@ -1,13 +1,16 @@
 // The line that is made for a sink.
 ghost use Rattle.std.specs.Prelude.{◌≡◌, ◌+◌, ◌≤◌, ◌∷◌, [], false, length, IfOk};
 ghost use Rattle.tlm_model.specs.Text.{hex_of};
+ghost use Rattle.trace_print.specs.AccessText.{access_text, IsShort};
 ghost use Rattle.trace_print.specs.Pieces.{piece_text};
 ghost use Rattle.trace_print.specs.Putting.{Puts, page};
 
+use crate::access::{ACCESS_MAX, AccessLine, write_access};
 use crate::pieces::{PIECE_MAX, Piece, write_data, write_piece, write_word};
 use outside::Sink;
-use std::alloc::{AllocError, Global};
+use std::alloc::Global;
 use std::marker::Model;
+use tlm_types::Memory;
 
 // The longest line of a run: an access of 4,096 bytes with as many enables, two digits each, and 512 more
 // bytes for its numbers, names and words, and for a piece behind them.
@@ -42,7 +45,7 @@ impl Model for Line {
 
 impl Line {
     /// An empty line with room for the longest line of a run. Its only error is want of memory.
-    pub fn with_room(alloc: Global) -> Result<Line, AllocError>
+    pub fn with_room(alloc: Global) -> Result<Line, Memory>
         ensures { IfOk result (λ l. (l.waiting ≡ []) × (l.failed ≡ false)) }
     {
         Ok(Line {
@@ -93,14 +96,15 @@ fn put_through<K: Sink>(out: &mut K, line: &mut Line, bytes: &[u8])
     write_through(out, line, bytes);
 }
 
-// Writes what waits, where there is no room for a piece behind it.
+// Writes what waits, where there is no room for so many bytes behind it.
 #[inline(always)]
-fn make_room<K: Sink>(out: &mut K, line: &mut Line)
+fn make_room<K: Sink>(out: &mut K, line: &mut Line, count: usize)
+    requires { count ≤ 16896 }
     ensures puts { Puts (page (K.taken out.old) (K.faults out.old) line.old)
         (page (K.taken out.new) (K.faults out.new) line.new) [] }
-    ensures roomy { length line.new.waiting + 128 ≤ 16896 }
+    ensures roomy { length line.new.waiting + count ≤ 16896 }
 {
-    if line.len > ROOM - PIECE_MAX {
+    if line.len > ROOM - count {
         flush(out, line);
     }
 }
@@ -112,8 +116,18 @@ pub fn put_piece<K: Sink>(out: &mut K, line: &mut Line, piece: Piece)
     ensures { Puts (page (K.taken out.old) (K.faults out.old) line.old)
         (page (K.taken out.new) (K.faults out.new) line.new) (piece_text piece) }
 {
-    make_room(out, line);
+    make_room(out, line, PIECE_MAX);
     line.len = write_piece(&mut line.bytes, line.len, piece);
+}
+
+/// Puts the line of an access.
+pub fn put_access_line<K: Sink>(out: &mut K, line: &mut Line, access: &AccessLine<'_>)
+    requires { IsShort access.now }
+    ensures { Puts (page (K.taken out.old) (K.faults out.old) line.old)
+        (page (K.taken out.new) (K.faults out.new) line.new) (access_text access.now) }
+{
+    make_room(out, line, ACCESS_MAX);
+    line.len = write_access(&mut line.bytes, line.len, access);
 }
 
 /// Puts each of at most 64 bytes as two digits.
@@ -122,7 +136,7 @@ pub fn put_chunk<K: Sink>(out: &mut K, line: &mut Line, source: &[u8])
     ensures { Puts (page (K.taken out.old) (K.faults out.old) line.old)
         (page (K.taken out.new) (K.faults out.new) line.new) (hex_of source.now) }
 {
-    make_room(out, line);
+    make_room(out, line, PIECE_MAX);
     line.len = write_data(&mut line.bytes, line.len, source);
 }
 

@@ -12,7 +12,8 @@ use route_plan::{HopEnds, Plan, Up};
 use tlm_model::{Platform, Target};
 use tlm_types::{ObjectNo, TxnId};
 
-fn initiator_name(platform: &Platform, number: u32) -> &str
+/// The name of an initiator, and an empty one where there is none.
+pub fn initiator_name(platform: &Platform, number: u32) -> &str
     ensures { result.now ≡ initiator_name platform.now number }
 {
     match platform.initiators.as_slice().get(number as usize) {
@@ -30,7 +31,8 @@ fn router_name(platform: &Platform, number: u32) -> &str
     }
 }
 
-fn memory_name(platform: &Platform, number: u32) -> &str
+/// The name of a memory, and an empty one where there is none.
+pub fn memory_name(platform: &Platform, number: u32) -> &str
     ensures { result.now ≡ memory_name platform.now number }
 {
     match platform.memories.as_slice().get(number as usize) {

@@ -2,9 +2,9 @@
 // The place goes from one write to the next in a register, and digits are written where they stay.
 ghost use Rattle.std.specs.Prelude.{◌≡◌, ◌+◌, ◌*◌, ◌<◌, ◌≤◌, ◌++◌, false, codes, drop, length, take};
 ghost use Rattle.std.specs.Fmt.{decimal, digits, digit_glyph};
-ghost use Rattle.tlm_model.specs.Report.{command_word, status_word, way_word};
+ghost use Rattle.tlm_model.specs.Report.{command_word, way_word};
 ghost use Rattle.tlm_model.specs.Text.{address_word, hex_of};
-ghost use Rattle.trace_print.specs.Pieces.{Adds, asked_text, piece_text, status_text, times_text, width_text};
+ghost use Rattle.trace_print.specs.Pieces.{Adds, asked_text, piece_text, seq_text, status_text, times_text, unmasked_text, width_text};
 
 use itoa::write_digits;
 use tlm_types::{Command, Facts, Ps, Response, Way};
@@ -23,8 +23,6 @@ pub enum Piece {
     Seq(u64),
     // What an access asked for, from the space before it to its enables.
     Asked(Facts),
-    // The same where there are no enables, with the width and a space.
-    Unmasked(Facts),
     // A width, with the space before its word and one behind it.
     Width(u64),
     // A status after a space, with the end of the line.
@@ -82,16 +80,6 @@ fn digit_count(number: u64) -> usize
     count + few_digits(rest)
 }
 
-// A number of one digit, as most lengths and widths are.
-#[inline(always)]
-fn write_digit(bytes: &mut [u8], start: usize, digit: u8) -> usize
-    requires digit { digit < 10 }
-    requires room { start + 1 ≤ length bytes.old }
-    ensures { Adds bytes.old bytes.new start result (decimal digit) }
-{
-    write_word(bytes, start, &[b'0' + digit])
-}
-
 #[inline(always)]
 fn write_long(bytes: &mut [u8], start: usize, number: u64) -> usize
     requires { start + 20 ≤ length bytes.old }
@@ -103,13 +91,14 @@ fn write_long(bytes: &mut [u8], start: usize, number: u64) -> usize
     end
 }
 
+// Most lengths and widths have one digit.
 fn write_number(bytes: &mut [u8], start: usize, number: u64) -> usize
     requires { start + 20 ≤ length bytes.old }
     ensures adds { Adds bytes.old bytes.new start result (decimal number) }
     ensures within { result ≤ start + 20 }
 {
     if number < 10 {
-        write_digit(bytes, start, number as u8)
+        write_word(bytes, start, &[b'0' + number as u8])
     } else {
         write_long(bytes, start, number)
     }
@@ -177,26 +166,19 @@ fn write_many_pairs(bytes: &[u8], digits: &mut [u8])
     }
 }
 
-// Writes each byte as two digits, which are the first of these.
-#[inline(always)]
-fn write_pairs(bytes: &[u8], digits: &mut [u8])
-    requires { 2 * length bytes.now ≤ length digits.old }
-    ensures { take (2 * length bytes.now) digits.new ≡ hex_of bytes.now }
-{
-    if bytes.len() < FEW {
-        write_few_pairs(bytes, digits);
-    } else {
-        write_many_pairs(bytes, digits);
-    }
-}
-
 /// Writes each byte as two digits.
 #[inline(always)]
 pub fn write_data(bytes: &mut [u8], start: usize, source: &[u8]) -> usize
     requires { start + 2 * length source.now ≤ length bytes.old }
-    ensures { Adds bytes.old bytes.new start result (hex_of source.now) }
+    ensures adds { Adds bytes.old bytes.new start result (hex_of source.now) }
+    ensures end { result ≡ start + 2 * length source.now }
 {
-    write_pairs(source, &mut bytes[start..]);
+    let digits = &mut bytes[start..];
+    if source.len() < FEW {
+        write_few_pairs(source, digits);
+    } else {
+        write_many_pairs(source, digits);
+    }
     start + 2 * source.len()
 }
 
@@ -246,9 +228,9 @@ fn write_address(bytes: &mut [u8], start: usize, address: u64) -> usize
     end
 }
 
-// A position and a time, each with a space after it.
+/// Writes a position and a time, each with a space after it.
 #[inline(always)]
-fn write_times(bytes: &mut [u8], start: usize, position: u64, time: Ps) -> usize
+pub fn write_times(bytes: &mut [u8], start: usize, position: u64, time: Ps) -> usize
     requires { start + 42 ≤ length bytes.old }
     ensures adds { Adds bytes.old bytes.new start result (times_text position time) }
     ensures within { result ≤ start + 42 }
@@ -257,11 +239,11 @@ fn write_times(bytes: &mut [u8], start: usize, position: u64, time: Ps) -> usize
     write_spaced(bytes, place, time)
 }
 
-// The number of a transaction, between a dot and a space.
+/// Writes the number of a transaction, between a dot and a space.
 #[inline(always)]
-fn write_seq(bytes: &mut [u8], start: usize, seq: u64) -> usize
+pub fn write_seq(bytes: &mut [u8], start: usize, seq: u64) -> usize
     requires { start + 22 ≤ length bytes.old }
-    ensures adds { Adds bytes.old bytes.new start result (codes "." ++ (decimal seq ++ codes " ")) }
+    ensures adds { Adds bytes.old bytes.new start result (seq_text seq) }
     ensures within { result ≤ start + 22 }
 {
     let place = write_word(bytes, start, b".");
@@ -327,11 +309,11 @@ fn write_width(bytes: &mut [u8], start: usize, width: u64) -> usize
     write_spaced(bytes, number, width)
 }
 
-// What an access without enables asked for, with the space behind it.
+/// Writes what an access without enables asked for, with the space behind it.
 #[inline(always)]
-fn write_unmasked(bytes: &mut [u8], start: usize, facts: Facts) -> usize
+pub fn write_unmasked(bytes: &mut [u8], start: usize, facts: Facts) -> usize
     requires { start + 105 ≤ length bytes.old }
-    ensures adds { Adds bytes.old bytes.new start result (asked_text facts ++ (codes "-" ++ width_text facts.width)) }
+    ensures adds { Adds bytes.old bytes.new start result (unmasked_text facts) }
     ensures within { result ≤ start + 105 }
 {
     let enables = write_asked(bytes, start, facts);
@@ -339,9 +321,9 @@ fn write_unmasked(bytes: &mut [u8], start: usize, facts: Facts) -> usize
     write_width(bytes, width, facts.width)
 }
 
-// A status after a space, with the end of the line.
+/// Writes a status after a space, with the end of the line.
 #[inline(always)]
-fn write_status(bytes: &mut [u8], start: usize, status: Response) -> usize
+pub fn write_status(bytes: &mut [u8], start: usize, status: Response) -> usize
     requires { start + 19 ≤ length bytes.old }
     ensures adds { Adds bytes.old bytes.new start result (status_text status) }
     ensures within { result ≤ start + 19 }
@@ -370,7 +352,6 @@ pub fn write_piece(bytes: &mut [u8], start: usize, piece: Piece) -> usize
         Piece::Times { position, time } => write_times(bytes, start, position, time),
         Piece::Seq(seq) => write_seq(bytes, start, seq),
         Piece::Asked(facts) => write_asked(bytes, start, facts),
-        Piece::Unmasked(facts) => write_unmasked(bytes, start, facts),
         Piece::Width(width) => write_width(bytes, start, width),
         Piece::Status(status) => write_status(bytes, start, status),
     }

@@ -8,7 +8,7 @@ use crate::memories::{put_memory, put_rows};
 use crate::{put_count, put_title};
 use outside::{FailingWrite, VecSink};
 use route_plan::{HopEnds, Up};
-use std::alloc::{AllocError, Global};
+use std::alloc::Global;
 use std::process::Abort;
 use std::test::Fail;
 use tlm_model::{InitiatorRow, MemoryRow, Platform, Rows, Style, Target, Trace};
@@ -492,7 +492,7 @@ fn rows_of_bytes_are_printed(rt: HostRuntime) -> Result<(), Fail> {
 
 /// A line of a run is one piece; a longer one is written in several, in order.
 #[test]
-fn a_line_of_any_length_is_written(rt: HostRuntime) -> Result<(), AllocError> {
+fn a_line_of_any_length_is_written(rt: HostRuntime) -> Result<(), Memory> {
     let alloc = rt.alloc();
     let mut out = VecSink::new(alloc, Vec::new(alloc));
     let mut line = Line::with_room(alloc)?;

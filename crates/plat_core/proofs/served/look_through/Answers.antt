@@ -1,4 +1,4 @@
-use Rattle.std.proofs.Common.{◌≡◌, ◌<◌, ◌∙◌, ap, subst, arith, length}
+use Rattle.std.proofs.Common.{◌≡◌, ◌∙◌, ap, subst, arith, length}
 use Rattle.std.specs.List.{AllByRecursion}
 use Rattle.tlm_model.specs.declared.platform.Platform.{Platform}
 use Rattle.traffic_script.specs.Proper.{AreProper}

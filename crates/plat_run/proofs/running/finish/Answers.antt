@@ -26,10 +26,10 @@ of_logs-requires-clause-counted g c = count_closed g.N.Naming.frame.world g.N.Na
 pub returns-clause-whole : goal.returns-clause-whole
 returns-clause-whole g c =
     whole_closed g.N.Naming.frame.world g.N.Naming.table g.N.Naming.frame c.args.history.frame c.args.ends.items c.args.notes.items c.args.done.logs.items c.args.done.stores.items c.args.done.seats.items c.args.more.items c.append.new.self.items c.in-Done.sealed.entries c.requires.servable c.requires.frame c.requires.finished c.requires.done c.requires.fresh c.requires.count c.in_ok-append.ensures.items c.requires.history.1 c.in-Done.ensures.merge c.in-Done.ensures.planned c.in-Done.ensures.tell
-    (record { history = c.in_ok-of_logs.field-0; stores = c.from_vec.result; ends = c.from_vec-2.result; complete = Rattle.std.specs.Prelude.true }) c.in_ok-of_logs.ensures c.from_vec.ensures c.from_vec-2.ensures refl
+    (record { history = c.of_logs.result; stores = c.from_vec.result; ends = c.from_vec-2.result; complete = Rattle.std.specs.Prelude.true }) c.of_logs.ensures c.from_vec.ensures c.from_vec-2.ensures refl
 
 pub returns-clause-sealed : goal.returns-clause-sealed
-returns-clause-sealed g c = sym (c.in_ok-of_logs.ensures ∙ merged_closed g.N.Naming.frame.world g.N.Naming.table g.N.Naming.frame c.args.history.frame c.args.ends.items c.args.notes.items c.args.done.logs.items c.args.done.stores.items c.args.done.seats.items c.args.more.items c.append.new.self.items c.in-Done.sealed.entries c.requires.servable c.requires.frame c.requires.finished c.requires.done c.requires.fresh c.requires.count c.in_ok-append.ensures.items c.requires.history.1 c.in-Done.ensures.merge c.in-Done.ensures.planned c.in-Done.ensures.tell)
+returns-clause-sealed g c = sym (c.of_logs.ensures ∙ merged_closed g.N.Naming.frame.world g.N.Naming.table g.N.Naming.frame c.args.history.frame c.args.ends.items c.args.notes.items c.args.done.logs.items c.args.done.stores.items c.args.done.seats.items c.args.more.items c.append.new.self.items c.in-Done.sealed.entries c.requires.servable c.requires.frame c.requires.finished c.requires.done c.requires.fresh c.requires.count c.in_ok-append.ensures.items c.requires.history.1 c.in-Done.ensures.merge c.in-Done.ensures.planned c.in-Done.ensures.tell)
 
 pub returns-clause-core : goal.returns-clause-core
-returns-clause-core g c = core_run g.N.Naming.frame.world c.in_ok-of_logs.field-0.entries (returns-clause-whole g c).good
+returns-clause-core g c = core_run g.N.Naming.frame.world c.of_logs.result.entries (returns-clause-whole g c).good

@@ -9,5 +9,5 @@ use Rattle.trace_print.proofs.entries.put_access.Goals as goal
 pub returns : goal.returns
 returns g c =
     let f = c.args.facts in
-    puts-as _ _ _ _ (puts-more _ _ _ _ _ c.put_asked.ensures (puts-more _ _ _ _ _ c.put_data.ensures c.put_piece.ensures))
+    puts-as _ _ _ _ (puts-more _ _ _ _ _ (puts-more _ _ _ _ _ c.put_piece.ensures (puts-more _ _ _ _ _ c.put_data.ensures c.put_piece-2.ensures)) (puts-more _ _ _ _ _ c.put_data-2.ensures c.put_piece-3.ensures))
     (access-line (way_word f.way) (codes " ") (command_word f.command) (address_word f.offset) (decimal f.length) (codes "be=") (data_word c.args.enables.now) (codes "sw=") (decimal f.width) (data_word c.args.shown.now) (status_word f.status) (codes "\n"))

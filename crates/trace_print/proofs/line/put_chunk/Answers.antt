@@ -10,5 +10,5 @@ returns g c =
     let l = c.line.inside in
     let after = c.write_data-line-inside.new.bytes in
     let kept : (with_items l.bytes after).items ≡ after = with_items_is l.bytes after (omega (arith, c.write_data-line-inside.auto.bytes, c.deref_mut.ensures.len)) in
-    let holds = rw c.deref_mut.ensures.value at c.write_data-line-inside.ensures.holds in
+    let holds = rw c.deref_mut.ensures.value at c.write_data-line-inside.ensures.adds.holds in
     puts-more _ _ _ _ _ c.make_room.ensures.puts (puts-adds _ _ _ _ _ _ _ _ _ _ (ap (λ (v : LineView). v.waiting) c.line.view_is) (ap (λ (v : LineView). v.failed) c.line.view_is) kept holds)
