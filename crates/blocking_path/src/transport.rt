@@ -13,7 +13,7 @@ ghost use Rattle.region_object.specs.declared.call.RegionCall.TheVariants.{Acces
 ghost use Rattle.plat_build.specs.Calls.{CanPay, IsCalled, OneTicketLess, route_at};
 
 use generic_payload::Payload;
-use plat_build::{Carried, Net, PlatNote, TlmLaw};
+use plat_build::{Carried, Net, PlatNote, Reach, TlmLaw};
 use region_object::RegionCall;
 use route_plan::{Plan, Route};
 use shared_object::Naming;
@@ -62,14 +62,16 @@ pub fn b_transport<N: Naming<Plan, TlmLaw>, R: Wait>(
             at: at.saturating_add(latency),
         };
     };
-    b_transport_along(net, rt, &route, payload, note, wallet, txn, at)
+    let mut reach = net;
+    b_transport_along(&mut reach, rt, &route, payload, note, wallet, txn, at)
 }
 
 /// Makes an access by blocking transport along a route, as `b_transport` does along that of the address:
 /// the payload is taken to the end of the route, whatever address it has, and is one entry there, at the
-/// time of its arrival. The time that comes back is `at` and the latency of the route.
-pub fn b_transport_along<N: Naming<Plan, TlmLaw>, R: Wait>(
-    net: &Net<N>,
+/// time of its arrival. The time that comes back is `at` and the latency of the route. Whoever has the net
+/// alone takes no lock.
+pub fn b_transport_along<N: Naming<Plan, TlmLaw>, B: Reach<N>, R: Wait>(
+    reach: &mut B,
     rt: &R,
     route: &Route,
     mut payload: Payload,
@@ -78,12 +80,12 @@ pub fn b_transport_along<N: Naming<Plan, TlmLaw>, R: Wait>(
     txn: TxnId,
     at: Ps,
 ) -> Carried
-    requires memory { route.now.memory < length net.now.platform.memories }
+    requires memory { route.now.memory < length N.frame.world.platform.memories }
     requires buffer { payload.command ≡ Read → payload.bytes ≡ zeros (length payload.bytes) }
     requires note { IsNote N.table note }
     requires wallet { IsOf N.tokens wallet.old }
     requires ticket { CanPay payload wallet.old route.now }
-    ensures entry { IsCalled net.now route.now.memory
+    ensures entry { IsCalled N.frame.world route.now.memory
         (Access txn (later at route.now.before) Blocking (record payload { address = route.now.offset }))
         note.knows result.note.knows result.payload }
     ensures room { result.payload.room ≡ payload.room }
@@ -99,7 +101,7 @@ pub fn b_transport_along<N: Naming<Plan, TlmLaw>, R: Wait>(
         way: Way::Blocking,
         payload,
     };
-    let (payload, note) = net.call_memory(rt, route.memory, note, wallet, call);
+    let (payload, note) = reach.call(rt, route.memory, note, wallet, call);
     Carried {
         payload,
         note,

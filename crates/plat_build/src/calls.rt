@@ -29,7 +29,7 @@ pub struct Carried {
 }
 
 // The payload that a memory hands back.
-fn returned(reply: RegionReply) -> Payload
+pub(crate) fn returned(reply: RegionReply) -> Payload
     ensures { result ≡ returned reply }
 {
     match reply {

@@ -5,7 +5,8 @@
 //! - `build` makes a `Net` of it, which threads share: the plan, the history, the tokens, and each memory
 //!   with its log. What it makes for the initiators, routers and memories waits in `Kept`.
 //! - `TlmLaw` is the law of the history. It backs every entry.
-//! - `Net::call_memory` makes a call at a memory, and `Net::debug` a debug read along its route.
+//! - `Net::call_memory` makes a call at a memory, and `Net::debug` a debug read along its route. A `Reach`
+//!   is a way to the memories: of a thread that shares the net, or of the only one who has it.
 //! - `close_unused` ends the history of a net of which nothing was handed out.
 //!
 //! Promises: the history is made with what the plan counts, in the world that is the plan; each memory is
@@ -23,6 +24,7 @@ mod memories;
 mod net;
 mod objects;
 mod opened;
+mod reach;
 #[cfg(test)]
 mod tests;
 mod unused;
@@ -34,4 +36,5 @@ pub use kept::{Kept, Start};
 pub use law::{PlatHistory, PlatNote, PlatSeat, SharedMemory, TlmLaw};
 pub use net::{Net, NetParts};
 pub use opened::Opened;
+pub use reach::Reach;
 pub use unused::close_unused;

@@ -2,11 +2,16 @@
 ghost use Rattle.std.specs.Prelude.{◌≡◌, ◌<◌, length};
 ghost use Rattle.plat_build.specs.Net.{memory_numbers};
 
-use crate::law::{PlatHistory, SharedMemory, TlmLaw};
+use crate::calls::returned;
+use crate::law::{PlatHistory, PlatNote, SharedMemory, TlmLaw};
+use crate::reach::Reach;
+use generic_payload::Payload;
+use region_object::RegionCall;
 use route_plan::Plan;
-use shared_object::Naming;
+use shared_object::{Naming, Stepped, Unstepped};
 use std::marker::Model;
-use token_book::Tokens;
+use std::sync::Wait;
+use token_book::{Tokens, Wallet};
 
 /// The objects of a platform under their locks, with their history and their tokens, which N names.
 /// Threads share it. Contracts see the plan.
@@ -109,6 +114,43 @@ impl<N: Naming<Plan, TlmLaw>> Net<N> {
             history,
             tickets,
             memories,
+        }
+    }
+}
+
+impl<N: Naming<Plan, TlmLaw>> Reach<N> for Net<N> {
+    #[inline(always)]
+    fn net(&self) -> &Net<N> {
+        self
+    }
+
+    #[inline(always)]
+    fn call<R: Wait>(
+        &mut self,
+        rt: &R,
+        memory: u32,
+        note: PlatNote,
+        wallet: &mut Wallet,
+        call: RegionCall,
+    ) -> (Payload, PlatNote) {
+        let ticket = wallet.pull(&self.tickets, memory, call.cost());
+        let place = &mut self.memories[memory as usize];
+        match place.step_alone(rt, &self.history, &self.tickets, note, Some(ticket), call) {
+            Ok(
+                Stepped {
+                    reply,
+                    position: _,
+                    note,
+                    ticket: _,
+                },
+            ) => (returned(reply), note),
+            Err(
+                Unstepped {
+                    note: _,
+                    ticket: _,
+                    call: _,
+                },
+            ) => unreachable!(),
         }
     }
 }

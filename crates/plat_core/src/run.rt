@@ -228,6 +228,7 @@ impl InitiatorRun {
 
     /// One move without an entry, if one is next, with the sync that is due after it. The pace is told of
     /// an access or a debug read.
+    #[inline(always)]
     pub fn step<P: Pace>(&mut self, plan: &Plan, payload: &mut Payload, pace: &P) -> Move
         requires way { IsUnderWay plan.now self.old }
         requires roomy { payload.old.room ≡ 4096 }
@@ -255,6 +256,7 @@ impl InitiatorRun {
     }
 
     // Finds the route of the access or debug read that is next. Without one it is refused.
+    #[inline(always)]
     fn look_up(&mut self, plan: &Plan, op: &Op, address: u64, payload: &mut Payload) -> Move
         requires way { IsUnderWay plan.now self.old }
         requires next { op.now ≡ op_of self.old.engine }

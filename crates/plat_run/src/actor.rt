@@ -5,7 +5,7 @@ ghost use Rattle.plat_run.specs.Run.{HandsIn};
 
 use crate::initiator::BlockingInitiator;
 use outside::Pace;
-use plat_build::{Net, PlatNote, TlmLaw};
+use plat_build::{PlatNote, Reach, TlmLaw};
 use plat_core::InitiatorRun;
 use route_plan::Plan;
 use run_queue::Job;
@@ -43,11 +43,17 @@ impl<N: Naming<Plan, TlmLaw>> Job for Actor<N> {
 
 impl<N: Naming<Plan, TlmLaw>> Actor<N> {
     /// A turn of a job of any kind.
-    pub fn turn<P: Pace, R: Wait>(&mut self, rt: &R, net: &Net<N>, board: &Board, pace: &P)
+    pub fn turn<B: Reach<N>, P: Pace, R: Wait>(
+        &mut self,
+        rt: &R,
+        reach: &mut B,
+        board: &Board,
+        pace: &P,
+    )
         ensures { number_of self.new ≡ number_of self.old }
     {
         match self {
-            Actor::Blocking(job) => job.turn(rt, net, board, pace),
+            Actor::Blocking(job) => job.turn(rt, reach, board, pace),
         }
     }
 

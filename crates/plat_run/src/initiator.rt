@@ -8,7 +8,7 @@ ghost use Rattle.plat_run.specs.Job.{IsInitiator, IsJob};
 use crate::send::send;
 use generic_payload::Payload;
 use outside::Pace;
-use plat_build::{Carried, Net, PlatNote, TlmLaw};
+use plat_build::{Carried, PlatNote, Reach, TlmLaw};
 use plat_core::{InitiatorRun, Move, NextAccess};
 use route_plan::Plan;
 use run_queue::Job;
@@ -93,11 +93,17 @@ impl<N: Naming<Plan, TlmLaw>> BlockingInitiator<N> {
     /// One access or debug read, or one other operation, and the sync that is due after it. If the board
     /// doesn't let that sync through, the turn ends, and the next one begins with it. The pace is told of
     /// an access or a debug read before it is made, while no lock is held.
-    pub fn turn<P: Pace, R: Wait>(&mut self, rt: &R, net: &Net<N>, board: &Board, pace: &P)
+    pub fn turn<B: Reach<N>, P: Pace, R: Wait>(
+        &mut self,
+        rt: &R,
+        reach: &mut B,
+        board: &Board,
+        pace: &P,
+    )
         ensures { self.new.engine.initiator ≡ self.old.engine.initiator }
     {
         if self.is_let_through(rt, board) {
-            self.go_on(rt, net, pace);
+            self.go_on(rt, reach, pace);
             let _ = self.is_let_through(rt, board);
         }
     }
@@ -120,21 +126,20 @@ impl<N: Naming<Plan, TlmLaw>> BlockingInitiator<N> {
     }
 
     // One operation, or one access of it.
-    fn go_on<P: Pace, R: Wait>(&mut self, rt: &R, net: &Net<N>, pace: &P)
+    fn go_on<B: Reach<N>, P: Pace, R: Wait>(&mut self, rt: &R, reach: &mut B, pace: &P)
         ensures { self.new.engine.initiator ≡ self.old.engine.initiator }
     {
         let Some(payload) = &mut self.payload else {
             unreachable!()
         };
-        match self.run.step(net.plan(), payload, pace) {
+        match self.run.step(reach.net().plan(), payload, pace) {
             Move::Went | Move::Ended => {}
-            Move::Reached(next) => self.access(rt, net, &next),
+            Move::Reached(next) => self.access(rt, reach, &next),
         }
     }
 
     // Makes the access or debug read that is next, which has a route.
-    fn access<R: Wait>(&mut self, rt: &R, net: &Net<N>, next: &NextAccess)
-        requires world { net.now ≡ N.frame.world }
+    fn access<B: Reach<N>, R: Wait>(&mut self, rt: &R, reach: &mut B, next: &NextAccess)
         requires reached { HasReached N.frame.world self.old next.now.route }
         requires next { next.now.op ≡ op_of self.old.engine }
         ensures { self.new.engine.initiator ≡ self.old.engine.initiator }
@@ -146,7 +151,7 @@ impl<N: Naming<Plan, TlmLaw>> BlockingInitiator<N> {
         let txn = self.run.next_txn();
         let at = self.run.current();
         let wallet = &mut self.wallet;
-        let sent = send(net, rt, who, next, payload, note, wallet, txn, at);
+        let sent = send(reach, rt, who, next, payload, note, wallet, txn, at);
         let Carried {
             payload,
             note,

@@ -52,7 +52,7 @@ pub fn run<N: Naming<Plan, TlmLaw> + Send + Sync, P: Pace + Sync, R: Threads + W
     ensures world { IfOk result (λ r. (r.1.table ≡ N.table) × (r.1.world ≡ built.net)) }
 {
     let Built {
-        net,
+        mut net,
         mut kept,
         seats,
     } = built;
@@ -60,7 +60,7 @@ pub fn run<N: Naming<Plan, TlmLaw> + Send + Sync, P: Pace + Sync, R: Threads + W
     let jobs = begin_jobs(alloc, &net, &mut kept)?;
     let count = jobs.len() as u32;
     let board = Board::new(alloc, count)?;
-    let jobs = finish_jobs(rt, alloc, &net, &board, pace, jobs, count, workers)?;
+    let jobs = finish_jobs(rt, alloc, &mut net, &board, pace, jobs, count, workers)?;
     let HandedIn { ends, notes } = hand_in(alloc, jobs)?;
     let NetParts {
         history,
@@ -76,7 +76,7 @@ pub fn run<N: Naming<Plan, TlmLaw> + Send + Sync, P: Pace + Sync, R: Threads + W
 fn finish_jobs<N: Naming<Plan, TlmLaw> + Send + Sync, P: Pace + Sync, R: Threads + Wait + Sync>(
     rt: &R,
     alloc: Global,
-    net: &Net<N>,
+    net: &mut Net<N>,
     board: &Board,
     pace: &P,
     mut jobs: Vec<Actor<N>>,

@@ -9,7 +9,7 @@ ghost use Rattle.plat_run.specs.Sent.{IsSentBy};
 
 use blocking_path::{b_transport_along, transport_dbg};
 use generic_payload::Payload;
-use plat_build::{Carried, Net, PlatNote, TlmLaw};
+use plat_build::{Carried, PlatNote, Reach, TlmLaw};
 use plat_core::NextAccess;
 use route_plan::Plan;
 use script_engine::Op;
@@ -20,8 +20,8 @@ use token_book::Wallet;
 
 /// Makes the access or the debug read of a script that is issued at `at`, in picoseconds, and whose
 /// address has this route.
-pub(crate) fn send<N: Naming<Plan, TlmLaw>, R: Wait>(
-    net: &Net<N>,
+pub(crate) fn send<N: Naming<Plan, TlmLaw>, B: Reach<N>, R: Wait>(
+    reach: &mut B,
     rt: &R,
     who: u32,
     next: &NextAccess,
@@ -31,14 +31,14 @@ pub(crate) fn send<N: Naming<Plan, TlmLaw>, R: Wait>(
     txn: TxnId,
     at: Ps,
 ) -> Carried
-    requires who { who < length net.now.platform.initiators }
+    requires who { who < length N.frame.world.platform.initiators }
     requires access { IsAccessOp next.now.op }
-    requires route { route_at net.now who payload.address ≡ Some next.now.route }
+    requires route { route_at N.frame.world who payload.address ≡ Some next.now.route }
     requires carries { IsSentBy next.now.op payload }
     requires note { IsNote N.table note }
     requires wallet { IsOf N.tokens wallet.old }
     requires ticket { CanPay payload wallet.old next.now.route }
-    ensures entry { let route = next.now.route in IsCalled net.now route.memory
+    ensures entry { let route = next.now.route in IsCalled N.frame.world route.memory
         (call_at next.now.op txn at route.before (record payload { address = route.offset })) note.knows result.note.knows result.payload }
     ensures room { result.payload.room ≡ payload.room }
     ensures note { IsNote N.table result.note }
@@ -46,7 +46,11 @@ pub(crate) fn send<N: Naming<Plan, TlmLaw>, R: Wait>(
     ensures ticket { OneTicketLess next.now.route.memory (length payload.bytes + length payload.enables) wallet.old wallet.new }
 {
     match next.op {
-        Op::Debug { .. } => transport_dbg(net, rt, who, payload, note, wallet, txn, at),
-        _ => b_transport_along(net, rt, &next.route, payload, note, wallet, txn, at),
+        Op::Debug { .. } => {
+            let net = reach.net();
+            let _ = net.plan();
+            transport_dbg(net, rt, who, payload, note, wallet, txn, at)
+        }
+        _ => b_transport_along(reach, rt, &next.route, payload, note, wallet, txn, at),
     }
 }

@@ -4,7 +4,7 @@ ghost use Rattle.plat_run.specs.Actors.{is_done, number_of};
 
 use crate::actor::Actor;
 use outside::Pace;
-use plat_build::{Net, TlmLaw};
+use plat_build::{Net, Reach, TlmLaw};
 use route_plan::Plan;
 use run_queue::{Job, RunQueue, Taken};
 use shared_object::Naming;
@@ -23,19 +23,20 @@ pub fn work<N: Naming<Plan, TlmLaw>, P: Pace, R: Wait>(
     queue: &RunQueue<Actor<N>>,
     pace: &P,
 ) {
+    let mut reach = net;
     let mut taken = queue.take(rt);
     for _ in rt.forever() {
         taken = match taken {
-            Taken::Took(job) => give_turn(rt, net, board, queue, pace, job),
+            Taken::Took(job) => give_turn(rt, &mut reach, board, queue, pace, job),
             Taken::Nothing | Taken::AllDone => return,
         };
     }
 }
 
 // Gives a job a turn, and answers whether it has finished. One that has no longer holds others back.
-fn turn_finishes<N: Naming<Plan, TlmLaw>, P: Pace, R: Wait>(
+fn turn_finishes<N: Naming<Plan, TlmLaw>, B: Reach<N>, P: Pace, R: Wait>(
     rt: &R,
-    net: &Net<N>,
+    reach: &mut B,
     board: &Board,
     pace: &P,
     job: &mut Actor<N>,
@@ -43,7 +44,7 @@ fn turn_finishes<N: Naming<Plan, TlmLaw>, P: Pace, R: Wait>(
     ensures number { number_of job.new ≡ number_of job.old }
     ensures done { result ≡ is_done job.new }
 {
-    job.turn(rt, net, board, pace);
+    job.turn(rt, reach, board, pace);
     let done = job.done();
     if done {
         board.finish(rt, job.number());
@@ -51,15 +52,15 @@ fn turn_finishes<N: Naming<Plan, TlmLaw>, P: Pace, R: Wait>(
     done
 }
 
-fn give_turn<N: Naming<Plan, TlmLaw>, P: Pace, R: Wait>(
+fn give_turn<N: Naming<Plan, TlmLaw>, B: Reach<N>, P: Pace, R: Wait>(
     rt: &R,
-    net: &Net<N>,
+    reach: &mut B,
     board: &Board,
     queue: &RunQueue<Actor<N>>,
     pace: &P,
     mut job: Actor<N>,
 ) -> Taken<Actor<N>> {
-    if turn_finishes(rt, net, board, pace, &mut job) {
+    if turn_finishes(rt, reach, board, pace, &mut job) {
         queue.finish_and_take(rt, job)
     } else {
         queue.give_back_and_take(rt, job)
@@ -88,9 +89,9 @@ pub fn work_all<N: Naming<Plan, TlmLaw> + Send + Sync, P: Pace + Sync, R: Thread
 }
 
 // Gives a job a turn if it hasn't finished, and answers whether it needs more.
-fn turn_leaves_more<N: Naming<Plan, TlmLaw>, P: Pace, R: Wait>(
+fn turn_leaves_more<N: Naming<Plan, TlmLaw>, B: Reach<N>, P: Pace, R: Wait>(
     rt: &R,
-    net: &Net<N>,
+    reach: &mut B,
     board: &Board,
     pace: &P,
     job: &mut Actor<N>,
@@ -98,13 +99,13 @@ fn turn_leaves_more<N: Naming<Plan, TlmLaw>, P: Pace, R: Wait>(
     ensures number { number_of job.new ≡ number_of job.old }
     ensures more { result ≡ false → is_done job.new ≡ true }
 {
-    !job.done() && !turn_finishes(rt, net, board, pace, job)
+    !job.done() && !turn_finishes(rt, reach, board, pace, job)
 }
 
 // Gives each job a turn that hasn't finished, in order, and answers whether one needs more.
 fn give_round<N: Naming<Plan, TlmLaw>, P: Pace, R: Wait>(
     rt: &R,
-    net: &Net<N>,
+    net: &mut Net<N>,
     board: &Board,
     pace: &P,
     jobs: &mut [Actor<N>],
@@ -122,10 +123,10 @@ fn give_round<N: Naming<Plan, TlmLaw>, P: Pace, R: Wait>(
 }
 
 /// Gives turns by the caller alone, in the order in which they would come off a queue, until all jobs have
-/// finished. No lock is taken for a turn, and no memory.
+/// finished. No lock is taken for a turn or a call at a memory, and no memory.
 pub fn work_alone<N: Naming<Plan, TlmLaw>, P: Pace, R: Wait>(
     rt: &R,
-    net: &Net<N>,
+    net: &mut Net<N>,
     board: &Board,
     pace: &P,
     jobs: &mut [Actor<N>],

@@ -90,6 +90,7 @@ impl Object for Region {
         Ok(())
     }
 
+    #[inline(always)]
     fn apply(&mut self, _tokens: &Tokens, position: u64, call: RegionCall) -> RegionReply {
         let reply = Region::apply(self, position, call);
         let _ = Region::log(self);

@@ -155,6 +155,7 @@ impl Region {
     /// A debug read moves the bytes from its address on, to the memory's end at most, to the front of
     /// the payload's data, whatever the memory allows (IEEE 1666-2011, clause 11.3). Its status is OK,
     /// and the hint stays as it was.
+    #[inline(always)]
     pub fn apply(&mut self, position: u64, call: RegionCall) -> RegionReply
         requires fit { IsFit call }
         requires room { length self.old.log.entries < self.old.log.room }

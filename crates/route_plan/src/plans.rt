@@ -98,6 +98,7 @@ impl Plan {
 
     /// Where an address of the initiator with this number leads. `None` exactly where a router on the
     /// way has no window for it.
+    #[inline(always)]
     pub fn route(&self, initiator: u32, address: u64) -> Option<Route>
         requires { initiator < length self.now.platform.initiators }
         ensures { result ≡ route_by (walk_at self.now initiator address) }

@@ -137,6 +137,7 @@ impl Routes {
 
     /// Where an address of the initiator with this number leads. `None` exactly where a router on the
     /// way has no window for it.
+    #[inline(always)]
     pub fn route(&self, initiator: u32, address: u64) -> Option<Route>
         requires { initiator < length self.now.initiators }
         ensures { result ≡ route_by (bound_walk self.now initiator address) }

@@ -218,6 +218,7 @@ impl<O: Object, G, W: Law<Content, G> + World<G, O>, N: Naming<G, W>> Locked<O, 
 
     /// One call: it makes room, joins the note, draws where the call is admitted, applies, and copies a
     /// note.
+    #[inline(always)]
     pub fn step(
         &mut self,
         history: &History<Content, G, W>,

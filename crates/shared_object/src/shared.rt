@@ -72,6 +72,7 @@ impl<O: Object, G, W: Law<Content, G> + World<G, O>, N: Naming<G, W>> Shared<O, 
     /// added to the log, and the ticket is spent; else the ticket comes back, and nothing was added. The
     /// reply is what the object's `apply` gives in a state that its log so far gives. Its only error is
     /// want of memory, and comes before anything is done; note, ticket and call come back in it.
+    #[inline(always)]
     pub fn step<R: Wait>(
         &self,
         rt: &R,
@@ -117,6 +118,56 @@ impl<O: Object, G, W: Law<Content, G> + World<G, O>, N: Naming<G, W>> Shared<O, 
             unreachable!()
         }
         guard.step(history, tickets, note, ticket, call)
+    }
+
+    /// Makes one call on the object, as `step` does, for the only one who has it: no lock is taken.
+    #[inline(always)]
+    pub fn step_alone<R: Wait>(
+        &mut self,
+        rt: &R,
+        history: &History<Content, G, W>,
+        tickets: &Tokens,
+        note: Note<Content, G, W>,
+        ticket: Option<Ticket>,
+        call: O::Call,
+    ) -> Result<Stepped<O, G, W>, Unstepped<O, G, W>>
+        requires history { (history.now.table ≡ N.table) × (history.now.frame ≡ N.frame) }
+        requires tickets { tickets.now ≡ N.tokens }
+        requires note { IsNote N.table note }
+        requires ticket { let at = place N.frame N.tokens self.old.number self.old.own in
+            (o : O) → IsBuiltFor W.builds at (O.built o) → O.follows o → O.admitted o call ≡ true →
+            HasTicket N.tokens self.old.number (O.cost call) ticket }
+        requires fits { let at = place N.frame N.tokens self.old.number self.old.own in
+            (o : O) → IsBuiltFor W.builds at (O.built o) → O.fits o call (written_at self.old.number note.knows.known) }
+        requires backed { let at = place N.frame N.tokens self.old.number self.old.own in
+            (o : O) (p : ℕ) → Meets W.builds O.built O.entries O.follows at note.knows.known o →
+            O.admitted o call ≡ true → note.knows.seen ≤ p →
+            W.backs N.frame.world (map (placed self.old.number) (O.entries o) ++ note.knows.known)
+            (placed self.old.number (wrote p (O.content o call))) }
+        requires vouched { let at = place N.frame N.tokens self.old.number self.old.own in
+            (o : O) → Meets W.builds O.built O.entries O.follows at note.knows.known o →
+            AreVouched (W.vouches N.frame.world self.old.number) (O.brought o call) note.knows.known }
+        ensures numbers { self.new ≡ self.old }
+        ensures answer { let at = place N.frame N.tokens self.old.number self.old.own in
+            IfOk result (λ s. (before : O) × (after : O)
+            × Meets W.builds O.built O.entries O.follows at note.knows.known before
+            × Enters self.old.number (O.entries before) (O.entries after) (O.admitted before call)
+            (O.content before call) note.knows s.note.knows s.position
+            × O.applied before (unwrap_or s.position 0) call s.reply after
+            × O.follows after
+            × AreVouched (W.vouches N.frame.world self.old.number) (O.given before call s.reply) s.note.knows.known) }
+        ensures note { IfOk result (λ s. IsNote N.table s.note) }
+        ensures look { IfOk result (λ s. s.note.knows.looks ≡ note.knows.looks ++ (self.old.number, O.look s.reply) ∷ []) }
+        ensures ticket { IfOk result (λ s. s.ticket ≡ unspent s.position ticket) }
+        ensures unstepped { IfErr result (λ u. (u.note ≡ note) × (u.ticket ≡ ticket) × (u.call ≡ call)) }
+        ensures refused { IfErr result (λ _. O.takes_memory call ≡ true) }
+    {
+        let locked = self.lock.get_mut();
+        if locked.number() != self.number || locked.own_number() != self.own {
+            for _ in rt.forever() {}
+            unreachable!()
+        }
+        locked.step(history, tickets, note, ticket, call)
     }
 
     /// The object, its seat and its book. The log stands in the seat, and a ticket is out for each

@@ -144,20 +144,21 @@ fn ask<N: Naming<(), NoLaw>, R: Wait>(
     tokens: &Tokens,
     place: &Place<N>,
     note: Leaf,
-) -> Option<u64>
+) -> Option<(u64, Leaf)>
     requires past { (past.now.table ≡ N.table) × (past.now.frame ≡ N.frame) }
     requires tokens { tokens.now ≡ N.tokens }
     requires note { IsNote N.table note }
+    ensures { IfSome result (λ r. IsNote N.table r.1) }
 {
     match place.step(rt, past, tokens, note, None, None) {
         Ok(
             Stepped {
-                reply,
+                reply: Some(total),
                 position: None,
-                note: _,
+                note,
                 ticket: None,
             },
-        ) => reply,
+        ) => Some((total, note)),
         Ok(
             Stepped {
                 reply: _,
@@ -166,6 +167,39 @@ fn ask<N: Naming<(), NoLaw>, R: Wait>(
                 ticket: _,
             },
         ) => None,
+        Err(
+            Unstepped {
+                note: _,
+                ticket: _,
+                call: _,
+            },
+        ) => None,
+    }
+}
+
+// Adds 3 without the lock, and answers the position of the entry.
+fn visit_alone<N: Naming<(), NoLaw>, R: Wait>(
+    rt: &R,
+    past: &Past,
+    tokens: &Tokens,
+    place: &mut Place<N>,
+    note: Leaf,
+    ticket: Ticket,
+) -> Option<u64>
+    requires past { (past.now.table ≡ N.table) × (past.now.frame ≡ N.frame) }
+    requires tokens { tokens.now ≡ N.tokens }
+    requires note { IsNote N.table note }
+    requires ticket { IsTicket N.tokens place.old.number ticket }
+{
+    match place.step_alone(rt, past, tokens, note, Some(ticket), Some(3)) {
+        Ok(
+            Stepped {
+                reply: _,
+                position,
+                note: _,
+                ticket: _,
+            },
+        ) => position,
         Err(
             Unstepped {
                 note: _,
@@ -334,14 +368,15 @@ fn opened<N: Naming<(), NoLaw> + Send + Sync, R: Threads + Wait + Sync>(
     })
 }
 
-// One counter, which refuses an amount and then takes another. The call picks N.
+// One counter, which refuses an amount, then takes another, and takes it once more without the lock. The
+// call picks N.
 fn alone<N: Naming<(), NoLaw>, R: Wait>(
     rt: &R,
     past: &Past,
     tokens: &Tokens,
     desk: Desk,
     note: Leaf,
-) -> Option<(u64, u64, u64)>
+) -> Option<(u64, u64, u64, u64)>
     requires past { (past.now.table ≡ N.table) × (past.now.frame ≡ N.frame) }
     requires frame { (N.frame.planned ≡ 2 ∷ 2 ∷ []) × (N.frame.gates ≡ 0 ∷ 0 ∷ []) }
     requires tokens { tokens.now ≡ N.tokens }
@@ -351,12 +386,14 @@ fn alone<N: Naming<(), NoLaw>, R: Wait>(
     requires counter { (desk.counter.left ≡ 2) × (desk.counter.log.entries ≡ []) }
     requires rights { (desk.rights.table ≡ N.tokens) × (desk.rights.owner ≡ 0) × (desk.rights.name ≡ 0) × (desk.rights.amount ≡ 2) }
 {
-    let (place, mut rights) = seated::<N>(desk);
+    let (mut place, mut rights) = seated::<N>(desk);
     let ticket = ticket_of(tokens, &mut rights);
     let (note, ticket) = over(rt, past, tokens, &place, note, ticket)?;
-    let (position, note) = visit(rt, past, tokens, &place, note, ticket)?;
-    let told = ask(rt, past, tokens, &place, note)?;
-    Some((position, told, total(rt, place)))
+    let (first, note) = visit(rt, past, tokens, &place, note, ticket)?;
+    let (told, note) = ask(rt, past, tokens, &place, note)?;
+    let ticket = ticket_of(tokens, &mut rights);
+    let second = visit_alone(rt, past, tokens, &mut place, note, ticket)?;
+    Some((first, told, second, total(rt, place)))
 }
 
 // One counter that can make no room. The call picks N.
@@ -478,7 +515,7 @@ fn a_refused_call_adds_nothing(rt: HostRuntime) -> Result<(), Fail> {
         note,
     } = two_counters(rt.alloc(), true, 1)?;
     let answers = alone::<Brand, HostRuntime>(&rt, &past, &tokens, first, note);
-    assert_eq!(rt; answers, Some((0, 3, 3)));
+    assert_eq!(rt; answers, Some((0, 3, 1, 6)));
     Ok(())
 }
 

@@ -122,6 +122,7 @@ impl Wallet {
     }
 
     /// Takes out a ticket of the object for so many bytes. It has no bytes where it is for 0.
+    #[inline(always)]
     pub fn pull(&mut self, tokens: &Tokens, object: u32, bytes: u64) -> Ticket
         requires of { IsOf tokens.now self.old }
         requires left { 0 < left_of self.old object }

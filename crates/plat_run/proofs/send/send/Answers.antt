@@ -4,4 +4,4 @@ use Rattle.std.proofs.Common.{sym}
 
 pub b_transport_along-requires-clause-memory : goal.b_transport_along-requires-clause-memory
 b_transport_along-requires-clause-memory g c =
-    leads_to_memory c.args.net.now c.args.who c.args.payload.address c.args.next.now.route (sym c.requires.route)
+    leads_to_memory g.N.Naming.frame.world c.args.who c.args.payload.address c.args.next.now.route (sym c.requires.route)

@@ -15,42 +15,42 @@ pub send-sent-requires-clause-who : goal.send-sent-requires-clause-who
 send-sent-requires-clause-who g c =
     let n = g.N.Naming in
     let old = c.self.inside in
-    let p = c.args.net.now in
+    let p = n.frame.world in
     let note = c.unwrap-note.result in
-    let job : IsInitiator p old.run note.knows old.wallet = set_out n.table n.tokens n.frame.world p old.run old.payload old.note note old.wallet c.self.invariant (sym c.take-2.ensures.value ∙ c.unwrap-note.ensures) c.requires.world in
+    let job : IsInitiator p old.run note.knows old.wallet = set_out n.table n.tokens n.frame.world p old.run old.payload old.note note old.wallet c.self.invariant (sym c.take-2.ensures.value ∙ c.unwrap-note.ensures) refl in
     subst (λ (k : ℕ). k < length p.platform.initiators) (sym c.initiator-who.ensures) (number_below p old.run note.knows old.wallet job)
 
 pub send-sent-requires-clause-route : goal.send-sent-requires-clause-route
 send-sent-requires-clause-route g c =
     let n = g.N.Naming in
     let old = c.self.inside in
-    let p = c.args.net.now in
+    let p = n.frame.world in
     let route = c.args.next.now.route in
     let note = c.unwrap-note.result in
-    let job : IsInitiator p old.run note.knows old.wallet = set_out n.table n.tokens n.frame.world p old.run old.payload old.note note old.wallet c.self.invariant (sym c.take-2.ensures.value ∙ c.unwrap-note.ensures) c.requires.world in
-    let reached : HasReached p old.run route = reached_as n.frame.world p c.args.self.now old.run route c.requires.world c.self.view_is c.requires.reached in
+    let job : IsInitiator p old.run note.knows old.wallet = set_out n.table n.tokens n.frame.world p old.run old.payload old.note note old.wallet c.self.invariant (sym c.take-2.ensures.value ∙ c.unwrap-note.ensures) refl in
+    let reached : HasReached p old.run route = reached_as n.frame.world p c.args.self.now old.run route refl c.self.view_is c.requires.reached in
     route_found p old.run note.knows old.wallet route job reached c.initiator-who.result c.fill_next.new.payload c.initiator-who.ensures c.fill_next.ensures
 
 pub send-sent-requires-clause-ticket : goal.send-sent-requires-clause-ticket
 send-sent-requires-clause-ticket g c =
     let n = g.N.Naming in
     let old = c.self.inside in
-    let p = c.args.net.now in
+    let p = n.frame.world in
     let route = c.args.next.now.route in
     let note = c.unwrap-note.result in
-    let job : IsInitiator p old.run note.knows old.wallet = set_out n.table n.tokens n.frame.world p old.run old.payload old.note note old.wallet c.self.invariant (sym c.take-2.ensures.value ∙ c.unwrap-note.ensures) c.requires.world in
-    let reached : HasReached p old.run route = reached_as n.frame.world p c.args.self.now old.run route c.requires.world c.self.view_is c.requires.reached in
+    let job : IsInitiator p old.run note.knows old.wallet = set_out n.table n.tokens n.frame.world p old.run old.payload old.note note old.wallet c.self.invariant (sym c.take-2.ensures.value ∙ c.unwrap-note.ensures) refl in
+    let reached : HasReached p old.run route = reached_as n.frame.world p c.args.self.now old.run route refl c.self.view_is c.requires.reached in
     subst (λ (x : PayloadView). CanPay x old.wallet route) (sym c.fill_next.ensures) (can_pay_next p old.run note.knows old.wallet route job reached)
 
 pub complete-requires-clause-whole : goal.complete-requires-clause-whole
 complete-requires-clause-whole g c =
     let n = g.N.Naming in
     let old = c.self.inside in
-    let p = c.args.net.now in
+    let p = n.frame.world in
     let next = c.args.next.now in
     let note = c.unwrap-note.result in
-    let job : IsInitiator p old.run note.knows old.wallet = set_out n.table n.tokens n.frame.world p old.run old.payload old.note note old.wallet c.self.invariant (sym c.take-2.ensures.value ∙ c.unwrap-note.ensures) c.requires.world in
-    let reached : HasReached p old.run next.route = reached_as n.frame.world p c.args.self.now old.run next.route c.requires.world c.self.view_is c.requires.reached in
+    let job : IsInitiator p old.run note.knows old.wallet = set_out n.table n.tokens n.frame.world p old.run old.payload old.note note old.wallet c.self.invariant (sym c.take-2.ensures.value ∙ c.unwrap-note.ensures) refl in
+    let reached : HasReached p old.run next.route = reached_as n.frame.world p c.args.self.now old.run next.route refl c.self.view_is c.requires.reached in
     let op = c.requires.next ∙ ap (λ (r : Run). op_of r.engine) (sym c.self.view_is) in
     whole_back p old.run next.route next.op c.initiator-who.result c.next_txn-txn.result c.current-at.result c.fill_next.new.payload c.send-sent.result.payload note.knows c.send-sent.result.note.knows old.wallet c.send-sent.new.wallet job reached
     (record { op_is = op; who = c.initiator-who.ensures; txn_is = c.next_txn-txn.ensures; time = c.current-at.ensures; filled = c.fill_next.ensures })
@@ -60,12 +60,12 @@ pub invariant_of-self : goal.invariant_of-self
 invariant_of-self g c =
     let n = g.N.Naming in
     let old = c.self.inside in
-    let p = c.args.net.now in
+    let p = n.frame.world in
     let next = c.args.next.now in
     let note = c.unwrap-note.result in
     let back = c.send-sent.result in
-    let job : IsInitiator p old.run note.knows old.wallet = set_out n.table n.tokens n.frame.world p old.run old.payload old.note note old.wallet c.self.invariant (sym c.take-2.ensures.value ∙ c.unwrap-note.ensures) c.requires.world in
-    let reached : HasReached p old.run next.route = reached_as n.frame.world p c.args.self.now old.run next.route c.requires.world c.self.view_is c.requires.reached in
+    let job : IsInitiator p old.run note.knows old.wallet = set_out n.table n.tokens n.frame.world p old.run old.payload old.note note old.wallet c.self.invariant (sym c.take-2.ensures.value ∙ c.unwrap-note.ensures) refl in
+    let reached : HasReached p old.run next.route = reached_as n.frame.world p c.args.self.now old.run next.route refl c.self.view_is c.requires.reached in
     let op = c.requires.next ∙ ap (λ (r : Run). op_of r.engine) (sym c.self.view_is) in
     record {
       its_payload = back.payload;
@@ -76,7 +76,7 @@ invariant_of-self g c =
         note_of = c.send-sent.ensures.note;
         wallet_of = c.send-sent.ensures.wallet;
         roomy = room_again old.run.engine c.fill_next.new.payload back.payload c.fill_next.ensures c.send-sent.ensures.room;
-        is = subst (λ (x : Plan). IsInitiator x c.complete.new.self back.note.knows c.send-sent.new.wallet) c.requires.world
+        is = subst (λ (x : Plan). IsInitiator x c.complete.new.self back.note.knows c.send-sent.new.wallet) refl
             (goes_on p old.run next.route next.op c.initiator-who.result c.next_txn-txn.result c.current-at.result c.fill_next.new.payload back.payload note.knows back.note.knows old.wallet c.send-sent.new.wallet job reached
             (record { op_is = op; who = c.initiator-who.ensures; txn_is = c.next_txn-txn.ensures; time = c.current-at.ensures; filled = c.fill_next.ensures })
             c.send-sent.ensures.entry c.send-sent.ensures.ticket c.complete.new.self next.route.latency refl c.complete.ensures);
