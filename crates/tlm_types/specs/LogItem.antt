@@ -7,6 +7,7 @@ use Rattle.tlm_types.specs.declared.entry.What.{What}
 use Rattle.tlm_types.specs.declared.entry.What.TheVariants as whats
 use Rattle.tlm_types.specs.declared.log.item.Item.{Item}
 use Rattle.tlm_types.specs.declared.log.item.Item.TheVariants as items
+use Rattle.tlm_types.specs.declared.log.item.ShortAccess.{ShortAccess}
 use Rattle.tlm_types.specs.declared.log.item.ShortHead.{ShortHead}
 use Rattle.tlm_types.specs.declared.log.item.ShortWay.{ShortWay}
 use Rattle.tlm_types.specs.declared.log.item.ShortWay.TheVariants as short_ways
@@ -105,16 +106,23 @@ short_span Read start n = record { start = start; enables_start = start; got_sta
 short_span Write start n = record { start = start; enables_start = start + n; got_start = start + n; end = start + n }
 short_span Ignore start n = record { start = start; enables_start = start + n; got_start = start + n; end = start + n }
 
--- the head with these numbers at this object
-abbrev pub full_head : ShortHead → ObjectNo → Head
-full_head h object = record { position = h.position; object = object; txn = record { initiator = h.initiator; seq = h.seq }; time = h.time }
+-- the head with these numbers of this initiator at this object
+abbrev pub full_head : ShortHead → ℕ → ObjectNo → Head
+full_head h initiator object = record { position = h.position; object = object; txn = record { initiator = initiator; seq = h.seq }; time = h.time }
 
--- the way with this gate
+-- the way in full
 abbrev pub full_way : ShortWay → Way
 full_way short_ways.Blocking = Blocking
 full_way short_ways.FourPhase = FourPhase
-full_way (short_ways.Direct gate) = Direct gate
 full_way short_ways.Debug = Debug
+
+-- the plain parts of an access of n bytes by this way, which the short form says
+abbrev pub short_facts : Way → ℕ → ShortAccess → Facts
+short_facts way n a = record { way = way; command = a.command; offset = a.offset; length = n; width = n; status = Ok }
+
+-- the long form of that access
+abbrev pub full_access : Way → ℕ → ShortAccess → ShortHead → LongItem
+full_access way n a head = item_for (full_head head a.initiator (Memory a.object)) a.start (Access (stored_at (short_facts way n a) (short_span a.command a.start n)))
 
 -- what stands at a place that no list of long items has
 abbrev pub no_item : LongItem
@@ -122,16 +130,18 @@ no_item = record { position = 0; time = 0; seq = 0; initiator = 0; start = 0; ob
 
 -- the long form of an item, where these are the long items
 abbrev pub long_form : List LongItem → Item → LongItem
-long_form long (items.Access command way start n width offset head) = item_for (full_head head (Memory head.object)) start (Access (stored_at (record { way = full_way way; command = command; offset = offset; length = n; width = width; status = Ok }) (short_span command start n)))
-long_form long (items.Call phase answer head) = item_for (full_head head (Hop head.object)) 0 (Simple (Call phase answer))
-long_form long (items.Take slot head) = item_for (full_head head (Pool head.object)) 0 (Simple (Take slot))
-long_form long (items.Acquire slot head) = item_for (full_head head (Pool head.object)) 0 (Simple (Acquire slot))
-long_form long (items.Release slot freed head) = item_for (full_head head (Pool head.object)) 0 (Simple (Release slot freed))
+long_form long (items.Access way n access head) = full_access (full_way way) n access head
+long_form long (items.Direct gate n access head) = full_access (Direct gate) n access head
+long_form long (items.Call phase answer initiator object head) = item_for (full_head head initiator (Hop object)) 0 (Simple (Call phase answer))
+long_form long (items.Take initiator object slot head) = item_for (full_head head initiator (Pool object)) 0 (Simple (Take slot))
+long_form long (items.Acquire initiator object slot head) = item_for (full_head head initiator (Pool object)) 0 (Simple (Acquire slot))
+long_form long (items.Release freed initiator object slot head) = item_for (full_head head initiator (Pool object)) 0 (Simple (Release slot freed))
 long_form long (items.Long place) = get_or long place no_item
 
 -- a place is one of n long items, and the bytes of a short access end below 2^32
 abbrev pub IsPlaced : ℕ → Item → Type 0
-IsPlaced n (items.Access command way start count width offset head) = start + count < 2 ^ 32
+IsPlaced n (items.Access way count access head) = access.start + count < 2 ^ 32
+IsPlaced n (items.Direct gate count access head) = access.start + count < 2 ^ 32
 IsPlaced n (items.Long place) = place < n
 IsPlaced n item = Unit {0}
 

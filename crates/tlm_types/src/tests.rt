@@ -97,13 +97,14 @@ const WRITE: Facts = Facts {
     command: Command::Write,
     offset: 0x10,
     length: 4,
-    width: 2,
+    width: 4,
     status: Response::Ok,
 };
 
 const READ: Facts = Facts {
     command: Command::Read,
     length: 3,
+    width: 3,
     ..WRITE
 };
 
@@ -114,9 +115,9 @@ const DEBUG_READ: Facts = Facts {
 
 const WIDE: u64 = 0x1_0000_0000;
 
-// Accesses with and without enables, of fewer bytes than their length, and with numbers that are just
-// small enough for the short form of an entry, or too wide.
-const ROWS: [Row<'static>; 16] = [
+// Accesses with and without enables, of fewer bytes than their length, of another width than their
+// length, and with numbers that are just small enough for the short form of an entry, or too wide.
+const ROWS: [Row<'static>; 18] = [
     Row {
         facts: WRITE,
         sent: &[1, 2, 3, 4],
@@ -139,6 +140,7 @@ const ROWS: [Row<'static>; 16] = [
         facts: Facts {
             command: Command::Ignore,
             length: 0,
+            width: 0,
             ..WRITE
         },
         sent: &[],
@@ -202,7 +204,6 @@ const ROWS: [Row<'static>; 16] = [
         facts: Facts {
             way: Way::Direct(0xff),
             offset: WIDE - 1,
-            width: 0xffff,
             ..READ
         },
         sent: &[],
@@ -228,10 +229,7 @@ const ROWS: [Row<'static>; 16] = [
         got: &[],
     },
     Row {
-        facts: Facts {
-            width: 0x1_0000,
-            ..WRITE
-        },
+        facts: Facts { width: 2, ..WRITE },
         sent: &[6, 7, 8, 9],
         enables: &[],
         got: &[],
@@ -239,6 +237,7 @@ const ROWS: [Row<'static>; 16] = [
     Row {
         facts: Facts {
             length: 0xffff,
+            width: 0xffff,
             ..WRITE
         },
         sent: &[1; 0xffff],
@@ -248,11 +247,27 @@ const ROWS: [Row<'static>; 16] = [
     Row {
         facts: Facts {
             length: 0x1_0000,
+            width: 0x1_0000,
             ..WRITE
         },
         sent: &[2; 0x1_0000],
         enables: &[],
         got: &[],
+    },
+    Row {
+        facts: Facts {
+            way: Way::FourPhase,
+            ..WRITE
+        },
+        sent: &[7, 8, 9, 10],
+        enables: &[],
+        got: &[],
+    },
+    Row {
+        facts: DEBUG_READ,
+        sent: &[],
+        enables: &[],
+        got: &[8, 9, 10],
     },
 ];
 
@@ -370,8 +385,8 @@ fn a_log_reads_back_what_was_pushed(rt: HostRuntime) -> Result<(), Fail> {
         head(ObjectNo::Memory(0x1_0000), 7, 4),
         head(ObjectNo::Hop(0xffff), 7, 4),
         head(ObjectNo::Pool(0x1_0000), 7, 4),
-        head_of(0xffff),
-        head_of(0x1_0000),
+        head_of(0xff),
+        head_of(0x100),
     ];
     for head in heads {
         let mut log = Log::with_room(rt.alloc(), 2, 6)?;

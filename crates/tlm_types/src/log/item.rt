@@ -1,8 +1,8 @@
 // The items that a log keeps of its entries. A long history is as large as its items, so what most
-// entries have is kept in a short form, and the fields of an access are in an order that leaves no room
+// entries have is kept in a short form, and the fields of an item are in an order that leaves no room
 // between them.
 ghost use Rattle.std.specs.Prelude.{◌≡◌, ◌+◌, ◌^◌, ◌<◌, length, Some, IfSome, IsSome, IsTrue};
-ghost use Rattle.tlm_types.specs.LogItem.{facts_from, full_head, full_way, head_in, item_for, long_form, plain_in, short_span, span_from, stored_at, IsOrdered, IsPlaced, IsShortFor};
+ghost use Rattle.tlm_types.specs.LogItem.{facts_from, full_head, full_way, head_in, item_for, long_form, plain_in, short_facts, short_span, span_from, stored_at, IsOrdered, IsPlaced, IsShortFor};
 ghost use Rattle.tlm_types.specs.declared.log.long.Event.TheVariants as events;
 
 use super::long::{LongItem, Plain, Span, facts_of, head_of, span_of, what_of};
@@ -12,75 +12,122 @@ use std::mem::size_of;
 
 #[derive(Clone, Copy)]
 pub(super) enum Item {
-    // An access at a memory that answered OK, without byte enables, of just `length` bytes: those from
-    // `start` on.
+    // An access at a memory that answered OK, without byte enables, of just `length` bytes, whose
+    // streaming width is its length.
     Access {
-        command: Command,
         way: ShortWay,
-        start: u32,
         length: u16,
-        width: u16,
-        offset: u32,
+        access: ShortAccess,
+        head: ShortHead,
+    },
+    // Such an access by direct access, through a gate below 256.
+    Direct {
+        gate: u8,
+        length: u16,
+        access: ShortAccess,
         head: ShortHead,
     },
     // A call on a hop.
     Call {
         phase: Phase,
         answer: TlmSync,
+        initiator: u8,
+        object: u16,
         head: ShortHead,
     },
     // What is done with a payload of a pool.
     Take {
+        initiator: u8,
+        object: u16,
         slot: u32,
         head: ShortHead,
     },
     Acquire {
+        initiator: u8,
+        object: u16,
         slot: u32,
         head: ShortHead,
     },
     Release {
-        slot: u32,
         freed: bool,
+        initiator: u8,
+        object: u16,
+        slot: u32,
         head: ShortHead,
     },
     // Any other entry: its place among the long items.
     Long(usize),
 }
 
-const _: () = prove!(size_of::<Item>() == 40);
+const _: () = prove!(size_of::<Item>() == 32);
 
-// A head whose position and sequence number are below 2^32, with the number of its object, which is
-// below 2^16 as the initiator's is.
+// A head whose position and sequence number are below 2^32. Its initiator, below 2^8, and its object,
+// below 2^16, stand outside, since the head begins at a multiple of 8 bytes.
 #[derive(Clone, Copy)]
 pub(super) struct ShortHead {
     time: Ps,
     position: u32,
     seq: u32,
-    initiator: u16,
-    object: u16,
 }
 
-// A way whose gate is below 256.
+// A way that isn't direct.
 #[derive(Clone, Copy)]
 pub(super) enum ShortWay {
     Blocking,
     FourPhase,
-    Direct(u8),
     Debug,
+}
+
+// What accesses of each way have alike: their bytes stand from `start` on. The length stands outside,
+// since this begins at a multiple of 4 bytes.
+#[derive(Clone, Copy)]
+pub(super) struct ShortAccess {
+    command: Command,
+    initiator: u8,
+    object: u16,
+    start: u32,
+    offset: u32,
 }
 
 impl Item {
     // The entry without what happened. `long` are the long items of its log.
+    #[inline(always)]
     pub(super) fn head(&self, long: &[LongItem]) -> Head
         requires { IsPlaced (length long.now) self.now }
         ensures { result ≡ head_in (long_form long.now self.now) }
     {
         match self {
-            Item::Access { head, .. } => full_head(head, ObjectNo::Memory(head.object as u32)),
-            Item::Call { head, .. } => full_head(head, ObjectNo::Hop(head.object as u32)),
-            Item::Take { head, .. } | Item::Acquire { head, .. } | Item::Release { head, .. } => {
-                full_head(head, ObjectNo::Pool(head.object as u32))
+            Item::Access { access, head, .. } | Item::Direct { access, head, .. } => {
+                full_head(
+                    head,
+                    access.initiator,
+                    ObjectNo::Memory(access.object as u32),
+                )
             }
+            Item::Call {
+                initiator,
+                object,
+                head,
+                ..
+            } => full_head(head, *initiator, ObjectNo::Hop(*object as u32)),
+            Item::Take {
+                initiator,
+                object,
+                head,
+                ..
+            }
+            | Item::Acquire {
+                initiator,
+                object,
+                head,
+                ..
+            }
+            | Item::Release {
+                initiator,
+                object,
+                head,
+                ..
+            } => full_head(head, *initiator, ObjectNo::Pool(*object as u32)),
             Item::Long(place) => head_of(&long[*place]),
         }
     }
@@ -91,7 +138,7 @@ impl Item {
         ensures { result ≡ plain_in (long_form long.now self.now).event }
     {
         match self {
-            Item::Access { .. } => None,
+            Item::Access { .. } | Item::Direct { .. } => None,
             Item::Call { phase, answer, .. } => Some(What::Call {
                 phase: *phase,
                 answer: *answer,
@@ -107,44 +154,40 @@ impl Item {
     }
 
     // The plain parts of an access, and for any other entry none.
+    #[inline(always)]
     pub(super) fn facts(&self, long: &[LongItem]) -> Option<Facts>
         requires { IsPlaced (length long.now) self.now }
         ensures { result ≡ facts_from (long_form long.now self.now).event }
     {
         match self {
             Item::Access {
-                command,
                 way,
                 length,
-                width,
-                offset,
+                access,
                 ..
-            } => Some(Facts {
-                way: full_way(*way),
-                command: *command,
-                offset: *offset as u64,
-                length: *length as u64,
-                width: *width as u64,
-                status: Response::Ok,
-            }),
+            } => Some(short_facts(full_way(*way), *length, access)),
+            Item::Direct {
+                gate,
+                length,
+                access,
+                ..
+            } => Some(short_facts(Way::Direct(*gate as u32), *length, access)),
             Item::Long(place) => facts_of(&long[*place]),
             _ => None,
         }
     }
 
     // Where the bytes of an access stand.
+    #[inline(always)]
     pub(super) fn span(&self, long: &[LongItem]) -> Span
         requires placed { IsPlaced (length long.now) self.now }
         requires access { let item = long_form long.now self.now in IsSome (span_from item.start item.event) }
         ensures { let item = long_form long.now self.now in span_from item.start item.event ≡ Some result }
     {
         match self {
-            Item::Access {
-                command,
-                start,
-                length,
-                ..
-            } => short_span(*command, *start, *length),
+            Item::Access { length, access, .. } | Item::Direct { length, access, .. } => {
+                short_span(access.command, access.start, *length)
+            }
             Item::Long(place) => span_of(&long[*place]),
             _ => unreachable!(),
         }
@@ -152,7 +195,8 @@ impl Item {
 }
 
 // An access in the short form, where it has one: it is one of a memory that answered OK, its numbers
-// are small, and just the bytes of its length were kept.
+// are small, its width is its length, and just the bytes of its length were kept.
+#[inline(always)]
 pub(super) fn short_access(head: Head, facts: Facts, span: Span) -> Option<Item>
     requires { IsOrdered span }
     ensures { IfSome result (IsShortFor (item_for head span.start (events.Access (stored_at facts span)))) }
@@ -163,14 +207,28 @@ pub(super) fn short_access(head: Head, facts: Facts, span: Span) -> Option<Item>
     if !has_short_numbers(&facts) || !has_data_alone(&facts, &span) {
         return None;
     }
-    Some(Item::Access {
+    let length = facts.length as u16;
+    let access = ShortAccess {
         command: facts.command,
-        way: short_way(facts.way)?,
+        initiator: in_one_byte(head.txn.initiator)?,
+        object: in_two_bytes(memory)?,
         start: span.start,
-        length: facts.length as u16,
-        width: facts.width as u16,
         offset: facts.offset as u32,
-        head: short_head(&head, memory)?,
+    };
+    let head = short_head(&head)?;
+    Some(match facts.way {
+        Way::Direct(gate) => Item::Direct {
+            gate: in_one_byte(gate)?,
+            length,
+            access,
+            head,
+        },
+        way => Item::Access {
+            way: short_way(way)?,
+            length,
+            access,
+            head,
+        },
     })
 }
 
@@ -178,38 +236,50 @@ pub(super) fn short_access(head: Head, facts: Facts, span: Span) -> Option<Item>
 pub(super) fn short_event(head: Head, event: Plain) -> Option<Item>
     ensures { IfSome result (IsShortFor (item_for head 0 (events.Plain event))) }
 {
+    let short = short_head(&head)?;
+    let initiator = in_one_byte(head.txn.initiator)?;
     match (event, head.object) {
         (Plain::Call { phase, answer }, ObjectNo::Hop(hop)) => Some(Item::Call {
             phase,
             answer,
-            head: short_head(&head, hop)?,
+            initiator,
+            object: in_two_bytes(hop)?,
+            head: short,
         }),
         (Plain::Take { slot }, ObjectNo::Pool(pool)) => Some(Item::Take {
+            initiator,
+            object: in_two_bytes(pool)?,
             slot,
-            head: short_head(&head, pool)?,
+            head: short,
         }),
         (Plain::Acquire { slot }, ObjectNo::Pool(pool)) => Some(Item::Acquire {
+            initiator,
+            object: in_two_bytes(pool)?,
             slot,
-            head: short_head(&head, pool)?,
+            head: short,
         }),
         (Plain::Release { slot, freed }, ObjectNo::Pool(pool)) => Some(Item::Release {
-            slot,
             freed,
-            head: short_head(&head, pool)?,
+            initiator,
+            object: in_two_bytes(pool)?,
+            slot,
+            head: short,
         }),
         _ => None,
     }
 }
 
+#[inline(always)]
 fn has_short_numbers(facts: &Facts) -> bool
-    ensures { IsTrue result → (facts.now.offset < 2 ^ 32) × (facts.now.length < 2 ^ 16) × (facts.now.width < 2 ^ 16) }
+    ensures { IsTrue result → (facts.now.offset < 2 ^ 32) × (facts.now.length < 2 ^ 16) × (facts.now.width ≡ facts.now.length) }
 {
     facts.offset <= u32::MAX as u64
         && facts.length <= u16::MAX as u64
-        && facts.width <= u16::MAX as u64
+        && facts.width == facts.length
 }
 
 // Of the access just the bytes of its length were kept: what a read got, or another command sent.
+#[inline(always)]
 fn has_data_alone(facts: &Facts, span: &Span) -> bool
     requires { IsOrdered span.now }
     ensures { IsTrue result → span.now ≡ short_span facts.now.command span.now.start facts.now.length }
@@ -221,7 +291,23 @@ fn has_data_alone(facts: &Facts, span: &Span) -> bool
     alone && (span.end - span.start) as u64 == facts.length
 }
 
+// The plain parts of an access in the short form.
+#[inline(always)]
+fn short_facts(way: Way, length: u16, access: &ShortAccess) -> Facts
+    ensures { result ≡ short_facts way length access.now }
+{
+    Facts {
+        way,
+        command: access.command,
+        offset: access.offset as u64,
+        length: length as u64,
+        width: length as u64,
+        status: Response::Ok,
+    }
+}
+
 // Where the bytes of an access in the short form stand.
+#[inline(always)]
 fn short_span(command: Command, start: u32, length: u16) -> Span
     requires { start + length < 2 ^ 32 }
     ensures { result ≡ short_span command start length }
@@ -240,32 +326,29 @@ fn short_span(command: Command, start: u32, length: u16) -> Span
 }
 
 // The head in the short form, where it has one.
-fn short_head(head: &Head, object: u32) -> Option<ShortHead>
-    ensures { IfSome result (λ short. short ≡ record { time = head.now.time; position = head.now.position; seq = head.now.txn.seq; initiator = head.now.txn.initiator; object = object }) }
+#[inline(always)]
+fn short_head(head: &Head) -> Option<ShortHead>
+    ensures { IfSome result (λ short. short ≡ record { time = head.now.time; position = head.now.position; seq = head.now.txn.seq }) }
 {
     if head.position > u32::MAX as u64 || head.txn.seq > u32::MAX as u64 {
-        return None;
-    }
-    if head.txn.initiator > u16::MAX as u32 || object > u16::MAX as u32 {
         return None;
     }
     Some(ShortHead {
         time: head.time,
         position: head.position as u32,
         seq: head.txn.seq as u32,
-        initiator: head.txn.initiator as u16,
-        object: object as u16,
     })
 }
 
-fn full_head(head: &ShortHead, object: ObjectNo) -> Head
-    ensures { result ≡ full_head head.now object }
+#[inline(always)]
+fn full_head(head: &ShortHead, initiator: u8, object: ObjectNo) -> Head
+    ensures { result ≡ full_head head.now initiator object }
 {
     Head {
         position: head.position as u64,
         object,
         txn: TxnId {
-            initiator: head.initiator as u32,
+            initiator: initiator as u32,
             seq: head.seq as u64,
         },
         time: head.time,
@@ -273,25 +356,46 @@ fn full_head(head: &ShortHead, object: ObjectNo) -> Head
 }
 
 // The way in the short form, where it has one.
+#[inline(always)]
 fn short_way(way: Way) -> Option<ShortWay>
     ensures { IfSome result (λ short. full_way short ≡ way) }
 {
     match way {
         Way::Blocking => Some(ShortWay::Blocking),
         Way::FourPhase => Some(ShortWay::FourPhase),
-        Way::Direct(gate) if gate <= u8::MAX as u32 => Some(ShortWay::Direct(gate as u8)),
         Way::Direct(_) => None,
         Way::Debug => Some(ShortWay::Debug),
     }
 }
 
+#[inline(always)]
 fn full_way(way: ShortWay) -> Way
     ensures { result ≡ full_way way }
 {
     match way {
         ShortWay::Blocking => Way::Blocking,
         ShortWay::FourPhase => Way::FourPhase,
-        ShortWay::Direct(gate) => Way::Direct(gate as u32),
         ShortWay::Debug => Way::Debug,
     }
+}
+
+// The number, where it is so small.
+#[inline(always)]
+fn in_one_byte(number: u32) -> Option<u8>
+    ensures { IfSome result (λ byte. byte ≡ number) }
+{
+    if number > u8::MAX as u32 {
+        return None;
+    }
+    Some(number as u8)
+}
+
+#[inline(always)]
+fn in_two_bytes(number: u32) -> Option<u16>
+    ensures { IfSome result (λ bytes. bytes ≡ number) }
+{
+    if number > u16::MAX as u32 {
+        return None;
+    }
+    Some(number as u16)
 }
