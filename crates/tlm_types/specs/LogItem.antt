@@ -14,6 +14,7 @@ use Rattle.tlm_types.specs.declared.log.item.ShortWay.TheVariants as short_ways
 use Rattle.tlm_types.specs.declared.log.long.Event.{Event}
 use Rattle.tlm_types.specs.declared.log.long.Event.TheVariants.{Plain as Simple, Access}
 use Rattle.tlm_types.specs.declared.log.long.LongItem.{LongItem}
+use Rattle.tlm_types.specs.declared.log.long.PlacedAccess.{PlacedAccess}
 use Rattle.tlm_types.specs.declared.log.long.Plain.{Plain}
 use Rattle.tlm_types.specs.declared.log.long.Plain.TheVariants.{Granted, Invalidated, Closed, Call, Take, Acquire, Release}
 use Rattle.tlm_types.specs.declared.log.long.Span.{Span}
@@ -41,6 +42,9 @@ stored_at f s = record { offset = f.offset; length = f.length; width = f.width; 
 abbrev pub facts_in : StoredAccess → Facts
 facts_in a = record { way = a.way; command = a.command; offset = a.offset; length = a.length; width = a.width; status = a.status }
 
+abbrev pub span_in : ℕ → StoredAccess → Span
+span_in start a = record { start = start; enables_start = a.enables_start; got_start = a.got_start; end = a.end }
+
 -- what happened, where it is no access
 abbrev pub plain_what : Plain → What
 plain_what (Granted gate kind first last) = whats.Granted gate first last kind
@@ -62,10 +66,18 @@ facts_from (Access a) = Some (facts_in a)
 
 abbrev pub span_from : ℕ → Event → Option Span
 span_from start (Simple plain) = None
-span_from start (Access a) = Some (record { start = start; enables_start = a.enables_start; got_start = a.got_start; end = a.end })
+span_from start (Access a) = Some (span_in start a)
 
 abbrev pub span_at : List LongItem → ℕ → Option Span
 span_at items index = option_and_then (λ i. span_from i.start i.event) (slice_get items index)
+
+-- the access that an item keeps, with all that it says of it
+abbrev pub access_from : Head → ℕ → Event → Option PlacedAccess
+access_from head start (Simple plain) = None
+access_from head start (Access a) = Some (record { head = head; facts = facts_in a; span = span_in start a })
+
+abbrev pub access_in : LongItem → Option PlacedAccess
+access_in i = access_from (head_in i) i.start i.event
 
 -- what happened, where these are the bytes of the accesses, and an access's begin there
 abbrev pub what_in : List ℕ → ℕ → Event → What

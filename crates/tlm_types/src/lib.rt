@@ -6,7 +6,7 @@
 //! - `MemoryTraits` says what a memory is and allows.
 //! - `Entry` is one event of a history: its `Head` says where and when, its `What` what happened.
 //! - `Log` is the log of an object: a list of entries. The bytes of all its accesses stand in one list,
-//!   and most entries take 32 bytes more.
+//!   and most entries take 32 bytes more. A `LoggedAccess` is an access that was read from it.
 //! - `EndOf` says how an initiator ended, with the list of what was refused to it.
 //! - `Memory` is the error of every call that takes memory and was refused it.
 //!
@@ -27,7 +27,7 @@ mod words;
 pub use bytes::{Bytes, Text};
 pub use ends::{EndOf, RefusedItem, RefusedList};
 pub use entry::{Access, Content, Entry, Facts, Head, What};
-pub use log::Log;
+pub use log::{Log, LoggedAccess};
 pub use words::{
     Command, Kind, Memory, MemoryTraits, ObjectNo, Phase, Ps, ReqMode, RespMode, Response, TlmSync,
     TxnId, Way, kind_of,

@@ -15,6 +15,16 @@ use long::{Span, plain_event};
 use std::alloc::Global;
 use std::marker::Model;
 
+/// An access of a log, with its bytes. What a read sent isn't kept, so of a read `sent` says nothing.
+#[derive(Clone, Copy)]
+pub struct LoggedAccess<'a> {
+    pub head: Head,
+    pub facts: Facts,
+    pub sent: &'a [u8],
+    pub enables: &'a [u8],
+    pub got: &'a [u8],
+}
+
 /// The log of an object: its entries in order. Contracts see the list of them, with the room that was
 /// made for entries and for the bytes of accesses. A log holds less than 4 GiB of bytes: more is
 /// refused as want of memory is.
@@ -102,6 +112,7 @@ impl Log {
     /// buffer afterwards. For a read `sent` is empty: it stands for as many zeros as the length, and in
     /// a debug read for no byte. It takes no memory where there is room for the entry and for the bytes.
     /// Its only error is want of memory, after which the log is as before.
+    #[inline(always)]
     pub fn push_access(
         &mut self,
         head: Head,
@@ -142,6 +153,7 @@ impl Log {
     }
 
     /// An entry without what happened.
+    #[inline(always)]
     pub fn head(&self, index: u64) -> Head
         requires { index < length self.now.entries }
         ensures { option_map head_of (slice_get self.now.entries index) ≡ Some result }
@@ -158,6 +170,7 @@ impl Log {
     }
 
     /// The plain parts of an access, and for any other entry none.
+    #[inline(always)]
     pub fn facts(&self, index: u64) -> Option<Facts>
         requires { index < length self.now.entries }
         ensures facts { result ≡ read_at facts_of self.now.entries index }
@@ -167,6 +180,32 @@ impl Log {
             read_at sent_of self.now.entries index ≡ Some (read_sends f.way f.length)) }
     {
         self.items.facts(index as usize)
+    }
+
+    /// The access at this index with all that is kept of it, and for any other entry none.
+    #[inline(always)]
+    pub fn access(&self, index: u64) -> Option<LoggedAccess<'_>>
+        requires { index < length self.now.entries }
+        ensures facts { option_map (λ a. a.facts) result ≡ read_at facts_of self.now.entries index }
+        ensures head { IfSome result (λ a. option_map head_of (slice_get self.now.entries index) ≡ Some a.head) }
+        ensures sent { IfSome result (λ a. a.facts.command ≢ Read → read_at sent_of self.now.entries index ≡ Some a.sent.now) }
+
+        // What a read sent isn't kept.
+        ensures reads { IfSome result (λ a. a.facts.command ≡ Read →
+            read_at sent_of self.now.entries index ≡ Some (read_sends a.facts.way a.facts.length)) }
+        ensures enables { IfSome result (λ a. read_at enables_of self.now.entries index ≡ Some a.enables.now) }
+        ensures got { IfSome result (λ a. read_at got_of self.now.entries index ≡ Some a.got.now) }
+    {
+        let access = self.items.access(index as usize)?;
+        let span = access.span;
+        let bytes = self.bytes.as_slice();
+        Some(LoggedAccess {
+            head: access.head,
+            facts: access.facts,
+            sent: &bytes[span.start as usize..span.enables_start as usize],
+            enables: &bytes[span.enables_start as usize..span.got_start as usize],
+            got: &bytes[span.got_start as usize..span.end as usize],
+        })
     }
 
     /// The bytes that an access sent, which isn't a read.
@@ -201,6 +240,7 @@ impl Log {
 const BYTES_MAX: u64 = 0xffff_ffff;
 
 // Where the bytes of an access stand that come after so many. Its only error is that they are too many.
+#[inline(always)]
 fn span_after(start: usize, sent: usize, enables: usize, got: usize) -> Result<Span, Memory>
     ensures ok { IfOk result (IsLast start sent enables got) }
     ensures err { IfErr result (λ _. 2 ^ 32 ≤ start + (sent + (enables + got))) }
@@ -220,6 +260,7 @@ fn span_after(start: usize, sent: usize, enables: usize, got: usize) -> Result<S
 }
 
 // Makes room for so many more bytes: for `room` of them there is room already.
+#[inline(always)]
 fn reserve_beyond(bytes: &mut Vec<u8>, room: u64, count: usize) -> Result<(), Memory>
     requires { vec_len bytes.old + room ≤ vec_capacity bytes.old }
     ensures items { bytes.new.items ≡ bytes.old.items }
@@ -235,6 +276,7 @@ fn reserve_beyond(bytes: &mut Vec<u8>, room: u64, count: usize) -> Result<(), Me
 }
 
 // Appends these bytes, for which there is room.
+#[inline(always)]
 fn append(bytes: &mut Vec<u8>, sent: &[u8], enables: &[u8], got: &[u8])
     requires { vec_len bytes.old + (length sent.now + (length enables.now + length got.now)) ≤ vec_capacity bytes.old }
     ensures items { bytes.new.items ≡ bytes.old.items ++ (sent.now ++ (enables.now ++ got.now)) }

@@ -407,3 +407,37 @@ fn a_log_reads_back_what_was_pushed(rt: HostRuntime) -> Result<(), Fail> {
     }
     Ok(())
 }
+
+fn check_whole_access(rt: &impl Abort, log: &Log, index: u64, head: Head, row: &Row) {
+    assert!(rt; index < log.len());
+    let Some(access) = log.access(index) else {
+        panic!(rt; "entry {index} is no access");
+    };
+    assert_eq!(rt; access.head, head, "entry {index}");
+    assert_eq!(rt; access.facts, row.facts, "entry {index}");
+    if row.facts.command != Command::Read {
+        assert_eq!(rt; access.sent, row.sent, "entry {index}");
+    }
+    assert_eq!(rt; access.enables, row.enables, "entry {index}");
+    assert_eq!(rt; access.got, row.got, "entry {index}");
+}
+
+#[test]
+fn an_access_is_read_at_once(rt: HostRuntime) -> Result<(), Fail> {
+    let mut log = Log::with_room(rt.alloc(), 2, 6)?;
+    let object = ObjectNo::Memory(3);
+    for (index, row) in ROWS.iter().enumerate() {
+        assert!(rt; row.facts.command != Command::Read || row.sent.is_empty());
+        let head = head(object, index as u64, 4);
+        log.push_access(head, row.facts, row.sent, row.enables, row.got)?;
+    }
+    let count = ROWS.len() as u64;
+    log.push(head(object, count, 4), What::Closed { gate: 8 })?;
+    for (index, row) in ROWS.iter().enumerate() {
+        let head = head(object, index as u64, 4);
+        check_whole_access(&rt, &log, index as u64, head, row);
+    }
+    assert!(rt; count < log.len());
+    assert!(rt; log.access(count).is_none());
+    Ok(())
+}

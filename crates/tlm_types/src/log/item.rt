@@ -2,10 +2,13 @@
 // entries have is kept in a short form, and the fields of an item are in an order that leaves no room
 // between them.
 ghost use Rattle.std.specs.Prelude.{◌≡◌, ◌+◌, ◌^◌, ◌<◌, length, Some, IfSome, IsSome, IsTrue};
-ghost use Rattle.tlm_types.specs.LogItem.{facts_from, full_head, full_way, head_in, item_for, long_form, plain_in, short_facts, short_span, span_from, stored_at, IsOrdered, IsPlaced, IsShortFor};
+ghost use Rattle.tlm_types.specs.LogItem.{access_in, facts_from, full_access, full_head, full_way, head_in, item_for, long_form, plain_in, short_facts, short_span, span_from, stored_at, IsOrdered, IsPlaced, IsShortFor};
 ghost use Rattle.tlm_types.specs.declared.log.long.Event.TheVariants as events;
+ghost use Rattle.tlm_types.specs.declared.words.ObjectNo.TheVariants.{Memory};
 
-use super::long::{LongItem, Plain, Span, facts_of, head_of, span_of, what_of};
+use super::long::{
+    LongItem, PlacedAccess, Plain, Span, access_of, facts_of, head_of, span_of, what_of,
+};
 use crate::entry::{Facts, Head, What};
 use crate::words::{Command, ObjectNo, Phase, Ps, Response, TlmSync, TxnId, Way};
 use std::mem::size_of;
@@ -98,11 +101,7 @@ impl Item {
     {
         match self {
             Item::Access { access, head, .. } | Item::Direct { access, head, .. } => {
-                full_head(
-                    head,
-                    access.initiator,
-                    ObjectNo::Memory(access.object as u32),
-                )
+                access_head(access, head)
             }
             Item::Call {
                 initiator,
@@ -173,6 +172,30 @@ impl Item {
                 ..
             } => Some(short_facts(Way::Direct(*gate as u32), *length, access)),
             Item::Long(place) => facts_of(&long[*place]),
+            _ => None,
+        }
+    }
+
+    // An access, with where its bytes stand, and for any other entry none.
+    #[inline(always)]
+    pub(super) fn access(&self, long: &[LongItem]) -> Option<PlacedAccess>
+        requires { IsPlaced (length long.now) self.now }
+        ensures { result ≡ access_in (long_form long.now self.now) }
+    {
+        match self {
+            Item::Access {
+                way,
+                length,
+                access,
+                head,
+            } => Some(placed_access(full_way(*way), *length, access, head)),
+            Item::Direct {
+                gate,
+                length,
+                access,
+                head,
+            } => Some(placed_access(Way::Direct(*gate as u32), *length, access, head)),
+            Item::Long(place) => access_of(&long[*place]),
             _ => None,
         }
     }
@@ -289,6 +312,31 @@ fn has_data_alone(facts: &Facts, span: &Span) -> bool
         Command::Write | Command::Ignore => span.enables_start == span.end,
     };
     alone && (span.end - span.start) as u64 == facts.length
+}
+
+// An access in the short form, with where its bytes stand.
+#[inline(always)]
+fn placed_access(way: Way, length: u16, access: &ShortAccess, head: &ShortHead) -> PlacedAccess
+    requires { access.now.start + length < 2 ^ 32 }
+    ensures { Some result ≡ access_in (full_access way length access.now head.now) }
+{
+    PlacedAccess {
+        head: access_head(access, head),
+        facts: short_facts(way, length, access),
+        span: short_span(access.command, access.start, length),
+    }
+}
+
+// The head of an access in the short form.
+#[inline(always)]
+fn access_head(access: &ShortAccess, head: &ShortHead) -> Head
+    ensures { result ≡ full_head head.now access.now.initiator (Memory access.now.object) }
+{
+    full_head(
+        head,
+        access.initiator,
+        ObjectNo::Memory(access.object as u32),
+    )
 }
 
 // The plain parts of an access in the short form.

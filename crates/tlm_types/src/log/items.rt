@@ -1,10 +1,10 @@
 // The items of a log: those of most entries in a short form, and the others in a second list.
 ghost use Rattle.std.specs.Prelude.{◌≡◌, ◌<◌, [], ◌∷◌, ◌++◌, length, Some, IsOk, IsSome, IfOk, OnOk, OnErr, slice_get, option_map, option_and_then};
-ghost use Rattle.tlm_types.specs.LogItem.{facts_from, head_in, item_for, long_form, plain_in, span_at, stored_at, IsOrdered, IsPlaced};
+ghost use Rattle.tlm_types.specs.LogItem.{access_in, facts_from, head_in, item_for, long_form, plain_in, span_at, stored_at, IsOrdered, IsPlaced};
 ghost use Rattle.tlm_types.specs.declared.log.long.Event.TheVariants as events;
 
 use super::item::{Item, short_access, short_event};
-use super::long::{Event, LongItem, Plain, Span, long_item, stored_access};
+use super::long::{Event, LongItem, PlacedAccess, Plain, Span, long_item, stored_access};
 use crate::entry::{Facts, Head, What};
 use crate::words::Memory;
 use std::alloc::Global;
@@ -64,6 +64,7 @@ impl Items {
     }
 
     // Appends an access whose bytes stand there. Its only error is want of memory.
+    #[inline(always)]
     pub(super) fn push_access(&mut self, head: Head, facts: Facts, span: Span) -> Result<(), Memory>
         requires { IsOrdered span }
         ensures ok { OnOk result (self.new ≡ record self.old { items = self.old.items ++ item_for head span.start (events.Access (stored_at facts span)) ∷ [] }) }
@@ -79,6 +80,7 @@ impl Items {
         }
     }
 
+    #[inline(always)]
     fn push_short(&mut self, item: Item) -> Result<(), Memory>
         requires { IsPlaced 0 item }
         ensures ok { OnOk result (self.new ≡ record self.old { items = self.old.items ++ long_form [] item ∷ [] }) }
@@ -106,6 +108,7 @@ impl Items {
         Ok(())
     }
 
+    #[inline(always)]
     pub(super) fn head(&self, index: usize) -> Head
         requires { index < length self.now.items }
         ensures { option_map head_in (slice_get self.now.items index) ≡ Some result }
@@ -122,6 +125,7 @@ impl Items {
     }
 
     // The plain parts of an access, and for any other entry none.
+    #[inline(always)]
     pub(super) fn facts(&self, index: usize) -> Option<Facts>
         requires { index < length self.now.items }
         ensures { result ≡ option_and_then (λ i. facts_from i.event) (slice_get self.now.items index) }
@@ -129,7 +133,17 @@ impl Items {
         self.items[index].facts(&self.long)
     }
 
+    // An access, with where its bytes stand, and for any other entry none.
+    #[inline(always)]
+    pub(super) fn access(&self, index: usize) -> Option<PlacedAccess>
+        requires { index < length self.now.items }
+        ensures { result ≡ option_and_then access_in (slice_get self.now.items index) }
+    {
+        self.items[index].access(&self.long)
+    }
+
     // Where the bytes of an access stand.
+    #[inline(always)]
     pub(super) fn span(&self, index: usize) -> Span
         requires { IsSome (span_at self.now.items index) }
         ensures { span_at self.now.items index ≡ Some result }

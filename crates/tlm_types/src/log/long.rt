@@ -1,6 +1,6 @@
 // The long form of a log's items, which has room for any entry.
 ghost use Rattle.std.specs.Prelude.{◌≡◌, false, Some, IsSome};
-ghost use Rattle.tlm_types.specs.LogItem.{facts_from, head_in, item_for, plain_in, plain_what, span_from, stored_at};
+ghost use Rattle.tlm_types.specs.LogItem.{access_in, facts_from, facts_in, head_in, item_for, plain_in, plain_what, span_from, span_in, stored_at};
 ghost use Rattle.tlm_types.specs.Log.{is_access};
 
 use crate::entry::{Facts, Head, What};
@@ -80,6 +80,14 @@ pub(super) struct Span {
     pub(super) end: u32,
 }
 
+// An access, with where its bytes stand.
+#[derive(Clone, Copy)]
+pub(super) struct PlacedAccess {
+    pub(super) head: Head,
+    pub(super) facts: Facts,
+    pub(super) span: Span,
+}
+
 pub(super) fn long_item(head: Head, start: u32, event: Event) -> LongItem
     ensures { result ≡ item_for head start event }
 {
@@ -122,14 +130,7 @@ pub(super) fn facts_of(item: &LongItem) -> Option<Facts>
 {
     match &item.event {
         Event::Plain(_) => None,
-        Event::Access(access) => Some(Facts {
-            way: access.way,
-            command: access.command,
-            offset: access.offset,
-            length: access.length,
-            width: access.width,
-            status: access.status,
-        }),
+        Event::Access(access) => Some(facts_in(access)),
     }
 }
 
@@ -138,13 +139,45 @@ pub(super) fn span_of(item: &LongItem) -> Span
     ensures { span_from item.now.start item.now.event ≡ Some result }
 {
     match &item.event {
-        Event::Access(access) => Span {
-            start: item.start,
-            enables_start: access.enables_start,
-            got_start: access.got_start,
-            end: access.end,
-        },
+        Event::Access(access) => span_in(item.start, access),
         Event::Plain(_) => unreachable!(),
+    }
+}
+
+pub(super) fn access_of(item: &LongItem) -> Option<PlacedAccess>
+    ensures { result ≡ access_in item.now }
+{
+    match &item.event {
+        Event::Plain(_) => None,
+        Event::Access(access) => Some(PlacedAccess {
+            head: head_of(item),
+            facts: facts_in(access),
+            span: span_in(item.start, access),
+        }),
+    }
+}
+
+fn facts_in(access: &StoredAccess) -> Facts
+    ensures { result ≡ facts_in access.now }
+{
+    Facts {
+        way: access.way,
+        command: access.command,
+        offset: access.offset,
+        length: access.length,
+        width: access.width,
+        status: access.status,
+    }
+}
+
+fn span_in(start: u32, access: &StoredAccess) -> Span
+    ensures { result ≡ span_in start access.now }
+{
+    Span {
+        start,
+        enables_start: access.enables_start,
+        got_start: access.got_start,
+        end: access.end,
     }
 }
 
