@@ -1,5 +1,5 @@
 // A payload, and what it asks of a memory.
-ghost use Rattle.std.specs.Prelude.{◌≡◌, ◌≢◌, ◌↔◌, ◌+◌, ◌<◌, ◌≤◌, [], ◌++◌, length, take, drop, IsTrue, IfOk, true, false};
+ghost use Rattle.std.specs.Prelude.{◌≡◌, ◌≢◌, ◌↔◌, ◌+◌, ◌<◌, ◌≤◌, [], ◌++◌, length, take, drop, IsTrue, IfOk, true, false, vec_len, vec_capacity};
 ghost use Rattle.std.specs.List.{list_all};
 ghost use Rattle.generic_payload.specs.Payload.{PayloadView, new_payload, access_of, is_enable, moved_by, HasPlaces};
 ghost use Rattle.tlm_model.specs.Store.{zeros, span_of, is_allowed, checked, status_by, stored_by, got_by};
@@ -86,7 +86,7 @@ impl Payload {
         } }
     {
         self.begin(Command::Write, address, width);
-        self.attributes.bytes.extend_from_slice(bytes).unwrap();
+        append(&mut self.attributes.bytes, bytes);
     }
 
     /// Makes it a read of 1 to `room` bytes into a buffer of zeros, without byte enables.
@@ -101,7 +101,7 @@ impl Payload {
         } }
     {
         self.begin(Command::Read, address, width);
-        self.attributes.bytes.resize(length as usize, 0).unwrap();
+        fill(&mut self.attributes.bytes, length as usize);
     }
 
     /// Makes it an ignore command, with no data.
@@ -324,6 +324,37 @@ impl Payload {
     {
         let start = (self.attributes.address as usize).min(store.len());
         copy_front(&mut self.attributes.bytes, &store[start..]) as u64
+    }
+}
+
+// Appends bytes for which there is room. Most accesses are of a word or of two, which take no call.
+#[inline(always)]
+fn append(bytes: &mut Vec<u8>, more: &[u8])
+    requires { vec_len bytes.old + length more.now ≤ vec_capacity bytes.old }
+    ensures items { bytes.new.items ≡ bytes.old.items ++ more.now }
+    ensures len { vec_len bytes.new ≡ vec_len bytes.old + length more.now }
+    ensures capacity { vec_capacity bytes.old ≤ vec_capacity bytes.new }
+{
+    match more.len() {
+        4 => bytes.extend_from_slice(&more[..4]).unwrap(),
+        8 => bytes.extend_from_slice(&more[..8]).unwrap(),
+        _ => bytes.extend_from_slice(more).unwrap(),
+    }
+}
+
+// Makes it so many zeros, for which there is room.
+#[inline(always)]
+fn fill(bytes: &mut Vec<u8>, count: usize)
+    requires empty { bytes.old.items ≡ [] }
+    requires roomy { count ≤ vec_capacity bytes.old }
+    ensures items { bytes.new.items ≡ zeros count }
+    ensures len { vec_len bytes.new ≡ count }
+    ensures capacity { vec_capacity bytes.old ≤ vec_capacity bytes.new }
+{
+    match count {
+        4 => bytes.resize(4, 0).unwrap(),
+        8 => bytes.resize(8, 0).unwrap(),
+        _ => bytes.resize(count, 0).unwrap(),
     }
 }
 

@@ -12,13 +12,27 @@ pub fn is_enabled(enables: &[u8], index: usize) -> bool
     enables.is_empty() || enables[index % enables.len()] == ENABLED
 }
 
+// Most accesses are of a word or of two, whose copy takes no call.
+#[inline(always)]
+fn copy(dst: &mut [u8], src: &[u8])
+    requires { length dst.old ≡ length src.now }
+    ensures { dst.new ≡ src.now }
+{
+    match src.len() {
+        4 => dst[..4].copy_from_slice(&src[..4]),
+        8 => dst[..8].copy_from_slice(&src[..8]),
+        _ => dst.copy_from_slice(src),
+    }
+}
+
 /// Copies the enabled bytes of `src` to the same places of `dst`. The other bytes of `dst` stay.
+#[inline(always)]
 pub fn merge(dst: &mut [u8], src: &[u8], enables: &[u8])
     requires { length dst.old ≡ length src.now }
     ensures { dst.new ≡ lanes.merged dst.old src.now enables.now }
 {
     if enables.is_empty() {
-        dst.copy_from_slice(src);
+        copy(dst, src);
     } else {
         merge_enabled(dst, src, enables);
     }

@@ -5,4 +5,4 @@ use Rattle.lane_copy.proofs.lanes.merge.Goals as goal
 pub returns-then-is_empty : goal.returns-then-is_empty
 returns-then-is_empty c =
     let none : length c.args.enables.now ≡ 0 = search rules in
-    rw c.copy_from_slice.ensures.after (merged-no_enables c.args.dst.now c.args.src.now c.args.enables.now none c.requires)
+    rw c.copy.ensures (merged-no_enables c.args.dst.now c.args.src.now c.args.enables.now none c.requires)
