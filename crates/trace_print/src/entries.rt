@@ -162,8 +162,8 @@ fn put_what<K: Sink>(out: &mut K, line: &mut Line, log: &Log, index: u64)
     }
 }
 
-// The line of the entry at this place, whatever it is. The ends are given where it stands at a hop.
-fn put_any<K: Sink>(
+/// Puts the line of the entry at this place, whatever it is. The ends are given where it stands at a hop.
+pub fn put_entry<K: Sink>(
     out: &mut K,
     line: &mut Line,
     platform: &Platform,
@@ -178,11 +178,12 @@ fn put_any<K: Sink>(
 {
     put_head(out, line, platform, log.head(index), ends);
     put_what(out, line, log, index);
+    flush(out, line);
 }
 
-// The line of the entry at this place, where it is a short access at a memory without byte enables.
+/// The line of the entry at this place, where it is a short access at a memory without byte enables.
 #[inline(always)]
-fn access_line<'a>(platform: &'a Platform, log: &'a Log, index: u64) -> Option<AccessLine<'a>>
+pub fn access_line<'a>(platform: &'a Platform, log: &'a Log, index: u64) -> Option<AccessLine<'a>>
     requires { index < length log.now.entries }
     ensures short { IfSome result IsShort }
     ensures text { (e : Entry) → slice_get log.now.entries index ≡ Some e →
@@ -210,27 +211,6 @@ fn access_line<'a>(platform: &'a Platform, log: &'a Log, index: u64) -> Option<A
     }
 }
 
-/// Puts the line of the entry at this place. The ends are given where it stands at a hop.
-pub fn put_entry<K: Sink>(
-    out: &mut K,
-    line: &mut Line,
-    platform: &Platform,
-    ends: Option<HopEnds>,
-    log: &Log,
-    index: u64,
-)
-    requires { index < length log.now.entries }
-    ensures { (e : Entry) → slice_get log.now.entries index ≡ Some e → ends ≡ ends_at platform.now e.object →
-        Puts (page (K.taken out.old) (K.faults out.old) line.old)
-        (page (K.taken out.new) (K.faults out.new) line.new) (line_of (entry_words platform.now e)) }
-{
-    match access_line(platform, log, index) {
-        Some(access) => put_access_line(out, line, &access),
-        None => put_any(out, line, platform, ends, log, index),
-    }
-    flush(out, line);
-}
-
 /// The trace shows the entry at this place.
 pub fn is_shown(log: &Log, index: u64, trace: Trace) -> bool
     requires { index < length log.now.entries }
@@ -244,7 +224,9 @@ pub fn is_shown(log: &Log, index: u64, trace: Trace) -> bool
     }
 }
 
-// Puts the line of the entry at this place, where the trace shows it.
+// Puts the line of the entry at this place, where the trace shows it. Only entries that are no short accesses
+// need the ends of a hop.
+#[inline(always)]
 fn put_traced<K: Sink>(
     out: &mut K,
     line: &mut Line,
@@ -259,7 +241,13 @@ fn put_traced<K: Sink>(
         (page (K.taken out.new) (K.faults out.new) line.new)
         (text_of (map (entry_words plan.now.platform) (traced trace (e ∷ [])))) }
 {
-    if is_shown(log, index, trace) {
+    if !is_shown(log, index, trace) {
+        return;
+    }
+    if let Some(access) = access_line(plan.platform(), log, index) {
+        put_access_line(out, line, &access);
+        flush(out, line);
+    } else {
         let ends = ends_at(plan, log.head(index).object);
         put_entry(out, line, plan.platform(), ends, log, index);
     }

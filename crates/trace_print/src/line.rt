@@ -121,6 +121,7 @@ pub fn put_piece<K: Sink>(out: &mut K, line: &mut Line, piece: Piece)
 }
 
 /// Puts the line of an access.
+#[inline(always)]
 pub fn put_access_line<K: Sink>(out: &mut K, line: &mut Line, access: &AccessLine<'_>)
     requires { IsShort access.now }
     ensures { Puts (page (K.taken out.old) (K.faults out.old) line.old)

@@ -2,8 +2,8 @@ ghost use Rattle.std.specs.Prelude.{◌≡◌, false};
 ghost use Rattle.tlm_types.specs.Log.{is_access};
 
 use crate::ends::put_initiator;
-use crate::entries::{is_shown, put_entry};
-use crate::line::{Line, flush, put};
+use crate::entries::{access_line, is_shown, put_entry};
+use crate::line::{Line, flush, put, put_access_line};
 use crate::memories::{put_memory, put_rows};
 use crate::{put_count, put_title};
 use outside::{FailingWrite, VecSink};
@@ -148,7 +148,11 @@ fn put_history(
             _ => None,
         };
         if is_shown(log, index, trace) {
-            put_entry(out, line, platform, ends, log, index);
+            match access_line(platform, log, index) {
+                Some(access) => put_access_line(out, line, &access),
+                None => put_entry(out, line, platform, ends, log, index),
+            }
+            flush(out, line);
         }
     }
 }

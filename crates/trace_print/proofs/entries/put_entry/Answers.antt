@@ -1,16 +1,15 @@
-use Rattle.std.proofs.Common.{◌∙◌}
+use Rattle.std.proofs.Common.{◌≡◌}
 use Rattle.std.proofs.lemmas.List.{append-nil}
+use Rattle.tlm_types.specs.Log.{head_of}
+use Rattle.trace_print.proofs.EntryLemmas.{entry-text-is}
+use Rattle.trace_print.proofs.HopLemmas.{object-is}
 use Rattle.trace_print.proofs.Putting.{puts-as, puts-more}
 use Rattle.trace_print.proofs.entries.put_entry.Goals as goal
-use Rattle.trace_print.proofs.entries.put_entry.Goals.{in-Some, in-None}
 
 pub returns : goal.returns
 returns g c e here ends =
-    elim c.match-access_line.branch [
-      | in-Some w ↦
-          let flushed = rw (w.out-is, w.line-is) at c.flush.ensures.puts in
-          puts-as _ _ _ _ (puts-more _ _ _ _ _ w.put_access_line.ensures flushed) (append-nil _ ∙ w.in-Some.ensures.text e here)
-      | in-None w ↦
-          let flushed = rw (w.out-is, w.line-is) at c.flush.ensures.puts in
-          puts-as _ _ _ _ (puts-more _ _ _ _ _ (w.put_any.ensures e here ends) flushed) (append-nil _)
-    ]
+    let found = rw here at c.head.ensures in
+    let same : c.head.result ≡ head_of e = cc in
+    let front = rw (same, ends, object-is c.args.platform.now e.object) at c.put_head.ensures in
+    let whole = puts-as _ _ _ _ (puts-more _ _ _ _ _ front (c.put_what.ensures e here)) (entry-text-is _ _ _ _ e.what) in
+    puts-as _ _ _ _ (puts-more _ _ _ _ _ whole c.flush.ensures.puts) (append-nil _)
