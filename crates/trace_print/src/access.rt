@@ -5,7 +5,9 @@ ghost use Rattle.tlm_model.specs.Text.{data_word};
 ghost use Rattle.trace_print.specs.AccessText.{access_text, IsShort};
 ghost use Rattle.trace_print.specs.Pieces.{Adds};
 
-use crate::pieces::{write_data, write_seq, write_status, write_times, write_unmasked, write_word};
+use crate::pieces::{
+    write_data, write_name, write_seq, write_status, write_times, write_unmasked, write_word,
+};
 use tlm_types::{Facts, Head};
 
 /// The words of the line of an access without byte enables.
@@ -60,9 +62,9 @@ pub fn write_access(bytes: &mut [u8], start: usize, line: &AccessLine<'_>) -> us
     ensures within { result ≤ start + 10430 }
 {
     let name = write_times(bytes, start, line.head.position, line.head.time);
-    let seq = write_word(bytes, name, line.initiator);
+    let seq = write_name(bytes, name, line.initiator);
     let memory = write_seq(bytes, seq, line.head.txn.seq);
-    let asked = write_word(bytes, memory, line.memory);
+    let asked = write_name(bytes, memory, line.memory);
     let shown = write_unmasked(bytes, asked, line.facts);
     let status = write_shown(bytes, shown, line.shown);
     write_status(bytes, status, line.facts.status)

@@ -49,6 +49,33 @@ pub fn write_word(bytes: &mut [u8], start: usize, word: &[u8]) -> usize
     start + word.len()
 }
 
+// Copies the first and the last bytes of a word, so many of each that they are all of it.
+#[inline(always)]
+fn write_ends(bytes: &mut [u8], start: usize, word: &[u8], count: usize) -> usize
+    requires few { (count ≤ length word.now) × (length word.now ≤ 2 * count) }
+    requires room { start + length word.now ≤ length bytes.old }
+    ensures { Adds bytes.old bytes.new start result word.now }
+{
+    let rest = word.len() - count;
+    write_word(bytes, start, &word[..count]);
+    write_word(bytes, start + rest, &word[rest..])
+}
+
+/// Writes a name. A short one takes no call, since as many bytes as are known are copied at once.
+#[inline(always)]
+pub fn write_name(bytes: &mut [u8], start: usize, name: &[u8]) -> usize
+    requires { start + length name.now ≤ length bytes.old }
+    ensures { Adds bytes.old bytes.new start result name.now }
+{
+    match name.len() {
+        1 => write_ends(bytes, start, name, 1),
+        2..=3 => write_ends(bytes, start, name, 2),
+        4..=7 => write_ends(bytes, start, name, 4),
+        8..=16 => write_ends(bytes, start, name, 8),
+        _ => write_word(bytes, start, name),
+    }
+}
+
 // How many digits a number has that has four at most.
 #[inline(always)]
 fn few_digits(number: u64) -> usize
