@@ -11,6 +11,13 @@ adds-more a b c i j k x y p q = record {
   holds = q.holds ∙ (ap (λ (l : List ℕ). l ++ y) p.holds ∙ append_assoc (take i a) x y);
 }
 
+-- the same text
+pub adds-as : (a b : List ℕ) (i j : ℕ) (x y : List ℕ) → Adds a b i j x → x ≡ y → Adds a b i j y
+adds-as a b i j x y p e = record {
+  ends = p.ends ∙ ap (λ (l : List ℕ). i + length l) e;
+  holds = p.holds ∙ ap (λ (l : List ℕ). take i a ++ l) e;
+}
+
 -- what stands before a place, and the first of some bytes that were copied behind it
 copied-first : (start count : ℕ) (old bytes rest : List ℕ) → start ≤ length old → count ≤ length bytes → take (start + count) (take start old ++ bytes ++ rest) ≡ take start old ++ take count bytes
 copied-first start count old bytes rest within few =

@@ -1,10 +1,11 @@
 -- The lines of entries, put together from their parts.
 use Rattle.std.proofs.Common.{◌≡◌, ℕ, zero, suc, ◌+◌, ◌<◌, List, [], ◌∷◌, ◌++◌, length, take, map, Option, Some, None, Bool, true, false, cond, refl, ap, sym, ◌∙◌, arith, append_assoc}
-use Rattle.std.specs.Prelude.{codes, is_some, option_and_then, slice_get, if◌then◌else◌}
+use Rattle.std.specs.Prelude.{◌≢◌, codes, is_some, option_and_then, slice_get, if◌then◌else◌}
 use Rattle.std.specs.Fmt.{decimal}
 use Rattle.std.specs.List.{join_with_byte}
 use Rattle.std.proofs.lemmas.List.{map-append}
 use Rattle.std.proofs.lemmas.List.Elements.{filter-append}
+use Rattle.tlm_types.specs.declared.words.Command.{Command}
 use Rattle.tlm_types.specs.declared.words.Command.TheVariants.{Read, Write, Ignore}
 use Rattle.tlm_types.specs.declared.words.ObjectNo.{ObjectNo}
 use Rattle.tlm_types.specs.declared.words.ObjectNo.TheVariants.{Memory as memory_object}
@@ -21,7 +22,7 @@ use Rattle.tlm_model.specs.declared.trace.Trace.TheVariants.{All, Accesses, None
 use Rattle.tlm_model.specs.Report.{command_word, entry_words, freed_words, initiator_name, is_access, kind_word, memory_name, object_word, phase_word, range_word, shown_by, status_word, sync_words, traced, txn_word, way_word, what_words}
 use Rattle.tlm_model.specs.Text.{address_word, data_word, line_of}
 use Rattle.trace_print.specs.Pieces.{asked_text, seq_text, status_text, times_text, unmasked_text, width_text}
-use Rattle.trace_print.specs.Told.{access_words, shown_at, text_of}
+use Rattle.trace_print.specs.Told.{access_words, shown_at, shown_of, text_of}
 use Rattle.trace_print.proofs.TextLemmas.{access-line, head-front}
 pub use Rattle.trace_print.proofs.Texts.{text-append, text-one}
 
@@ -184,6 +185,16 @@ shown-write-at (Some e) f sent a c b = sym (shown-write e.what f sent a c b)
 pub shown-ignore-at : (o : Option Entry) (f : Facts) → option_and_then (λ (e : Entry). facts_of e.what) o ≡ Some f → f.command ≡ Ignore → Some [] ≡ option_and_then (λ (e : Entry). shown_at e.what) o
 shown-ignore-at None f a c = cc
 shown-ignore-at (Some e) f a c = sym (shown-ignore e.what f a c)
+
+shown-by-command : (o : Option Entry) (f : Facts) (sent got : List ℕ) (c : Command) → f.command ≡ c → option_and_then (λ (e : Entry). facts_of e.what) o ≡ Some f → (f.command ≢ Read → option_and_then (λ (e : Entry). sent_of e.what) o ≡ Some sent) →
+    option_and_then (λ (e : Entry). got_of e.what) o ≡ Some got → Some (shown_of c sent got) ≡ option_and_then (λ (e : Entry). shown_at e.what) o
+shown-by-command o f sent got Read e facts s g = shown-read-at o f got facts e g
+shown-by-command o f sent got Write e facts s g = shown-write-at o f sent facts e (s (λ r. let no : Write ≡ Read = sym e ∙ r in cc (no)))
+shown-by-command o f sent got Ignore e facts s g = shown-ignore-at o f facts e
+
+pub shown-access-at : (o : Option Entry) (f : Facts) (sent got : List ℕ) → option_and_then (λ (e : Entry). facts_of e.what) o ≡ Some f → (f.command ≢ Read → option_and_then (λ (e : Entry). sent_of e.what) o ≡ Some sent) →
+    option_and_then (λ (e : Entry). got_of e.what) o ≡ Some got → Some (shown_of f.command sent got) ≡ option_and_then (λ (e : Entry). shown_at e.what) o
+shown-access-at o f sent got facts s g = shown-by-command o f sent got f.command refl facts s g
 
 -- an entry's own facts at its place
 pub plain-at : (o : Option Entry) (w : What) → Some w ≡ option_and_then (λ (e : Entry). plain_of e.what) o → is_access w ≡ false

@@ -7,6 +7,8 @@ use Rattle.tlm_types.specs.declared.ends.RefusedItem.{RefusedItem}
 use Rattle.tlm_types.specs.declared.entry.Facts.{Facts}
 use Rattle.tlm_types.specs.declared.entry.What.{What}
 use Rattle.tlm_types.specs.declared.entry.What.TheVariants.{Access as Accessed}
+use Rattle.tlm_types.specs.declared.words.Command.{Command}
+use Rattle.tlm_types.specs.declared.words.Command.TheVariants.{Read, Write, Ignore}
 use Rattle.tlm_model.specs.declared.platform.InitiatorRow.{InitiatorRow}
 use Rattle.tlm_model.specs.declared.platform.MemoryRow.{MemoryRow}
 use Rattle.tlm_model.specs.Report.{command_word, ends_words, memory_lines, seq_word, shown_by, status_word, way_word}
@@ -26,6 +28,12 @@ access_words f enables shown =
 abbrev pub shown_at : What → Option (List ℕ)
 shown_at (Accessed way a status got) = Some (shown_by a.command a got)
 shown_at w = None
+
+-- those of an access of this command, of the bytes that it sent and got
+abbrev pub shown_of : Command → List ℕ → List ℕ → List ℕ
+shown_of Read sent got = got
+shown_of Write sent got = sent
+shown_of Ignore sent got = []
 
 -- the command of a refused request
 abbrev pub refused_command : RefusedItem → List ℕ

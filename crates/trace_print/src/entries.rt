@@ -4,13 +4,12 @@ ghost use Rattle.std.specs.Fmt.{decimal};
 ghost use Rattle.std.specs.List.{join_with_byte};
 ghost use Rattle.tlm_types.specs.declared.entry.Entry.{Entry};
 ghost use Rattle.tlm_types.specs.declared.entry.What.TheVariants.{Granted, Call};
-ghost use Rattle.tlm_types.specs.Log.{facts_of, read_at};
 ghost use Rattle.tlm_model.specs.Report.{entry_words, is_access, traced, txn_word, what_words};
 ghost use Rattle.tlm_model.specs.Text.{line_of};
 ghost use Rattle.trace_print.specs.AccessText.{access_text, IsShort};
 ghost use Rattle.trace_print.specs.Hops.{ends_at, object_word_by};
 ghost use Rattle.trace_print.specs.Putting.{Puts, page};
-ghost use Rattle.trace_print.specs.Told.{access_words, shown_at, text_of};
+ghost use Rattle.trace_print.specs.Told.{access_words, shown_of, text_of};
 
 use crate::access::AccessLine;
 use crate::line::{Line, flush, put, put_access_line, put_piece};
@@ -21,7 +20,7 @@ use outside::Sink;
 use plat_core::LogReader;
 use route_plan::{HopEnds, Plan};
 use tlm_model::{Platform, Trace};
-use tlm_types::{Command, Facts, Head, Kind, Log, ObjectNo, Phase, TlmSync, What};
+use tlm_types::{Command, Facts, Head, Kind, Log, LoggedAccess, ObjectNo, Phase, TlmSync, What};
 
 // The position, the time, the transaction and the object of an entry.
 #[inline(always)]
@@ -62,13 +61,13 @@ fn put_access<K: Sink>(out: &mut K, line: &mut Line, facts: Facts, enables: &[u8
 }
 
 // The bytes that the line of an access shows.
-fn shown(log: &Log, index: u64, command: Command) -> &[u8]
-    requires { (f : Facts) × (read_at facts_of log.now.entries index ≡ Some f) × (command ≡ f.command) }
-    ensures { Some result.now ≡ read_at shown_at log.now.entries index }
+#[inline(always)]
+fn shown<'a>(access: &LoggedAccess<'a>) -> &'a [u8]
+    ensures { result.now ≡ shown_of access.now.facts.command access.now.sent.now access.now.got.now }
 {
-    match command {
-        Command::Read => log.got(index),
-        Command::Write => log.sent(index),
+    match access.facts.command {
+        Command::Read => access.got,
+        Command::Write => access.sent,
         Command::Ignore => &[],
     }
 }
@@ -154,9 +153,8 @@ fn put_what<K: Sink>(out: &mut K, line: &mut Line, log: &Log, index: u64)
         Puts (page (K.taken out.old) (K.faults out.old) line.old)
         (page (K.taken out.new) (K.faults out.new) line.new) (codes " " ++ line_of (what_words e.what)) }
 {
-    if let Some(facts) = log.facts(index) {
-        let shown = shown(log, index, facts.command);
-        put_access(out, line, facts, log.enables(index), shown);
+    if let Some(access) = log.access(index) {
+        put_access(out, line, access.facts, access.enables, shown(&access));
     } else if let Some(what) = log.what(index) {
         put_told(out, line, &what);
     }
@@ -189,26 +187,21 @@ pub fn access_line<'a>(platform: &'a Platform, log: &'a Log, index: u64) -> Opti
     ensures text { (e : Entry) → slice_get log.now.entries index ≡ Some e →
         IfSome result (λ access. access_text access ≡ line_of (entry_words platform.now e)) }
 {
-    let facts = log.facts(index)?;
-    if !log.enables(index).is_empty() {
+    let access = log.access(index)?;
+    if !access.enables.is_empty() {
         return None;
     }
-    let head = log.head(index);
-    let ObjectNo::Memory(memory) = head.object else {
+    let ObjectNo::Memory(memory) = access.head.object else {
         return None;
     };
-    let access = AccessLine {
-        head,
-        initiator: initiator_name(platform, head.txn.initiator).as_bytes(),
+    let line = AccessLine {
+        head: access.head,
+        initiator: initiator_name(platform, access.head.txn.initiator).as_bytes(),
         memory: memory_name(platform, memory).as_bytes(),
-        facts,
-        shown: shown(log, index, facts.command),
+        facts: access.facts,
+        shown: shown(&access),
     };
-    if access.is_short() {
-        Some(access)
-    } else {
-        None
-    }
+    if line.is_short() { Some(line) } else { None }
 }
 
 /// The trace shows the entry at this place.
