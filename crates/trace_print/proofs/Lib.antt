@@ -9,6 +9,7 @@ pub mod StoreLemmas
 pub mod ReportLemmas
 pub mod TextLemmas
 pub mod WordLemmas
+pub mod NumberLemmas
 pub mod HexLemmas
 pub mod SplitLemmas
 pub mod SameWords

@@ -142,10 +142,21 @@ fn write_spaced(bytes: &mut [u8], start: usize, number: u64) -> usize
     write_word(bytes, end, b" ")
 }
 
-// Below so many bytes each digit is looked up by itself.
+// Below so many bytes the digits of each are looked up by themselves.
 const FEW: usize = 16;
 
-const GLYPHS: [u8; 16] = *b"0123456789abcdef";
+// The two digits of each byte.
+static HEX_PAIRS: [u8; 512] =
+    *b"000102030405060708090a0b0c0d0e0f101112131415161718191a1b1c1d1e1f202122232425262728292a2b2c2d2e2f303132333435363738393a3b3c3d3e3f404142434445464748494a4b4c4d4e4f505152535455565758595a5b5c5d5e5f606162636465666768696a6b6c6d6e6f707172737475767778797a7b7c7d7e7f808182838485868788898a8b8c8d8e8f909192939495969798999a9b9c9d9e9fa0a1a2a3a4a5a6a7a8a9aaabacadaeafb0b1b2b3b4b5b6b7b8b9babbbcbdbebfc0c1c2c3c4c5c6c7c8c9cacbcccdcecfd0d1d2d3d4d5d6d7d8d9dadbdcdddedfe0e1e2e3e4e5e6e7e8e9eaebecedeeeff0f1f2f3f4f5f6f7f8f9fafbfcfdfeff";
+
+// The digits of a byte.
+#[inline(always)]
+fn pair_of(byte: u8) -> [u8; 2]
+    ensures { result ≡ digit_glyph false (byte / 16) ∷ digit_glyph false (byte % 16) ∷ [] }
+{
+    let from = byte as usize * 2;
+    [HEX_PAIRS[from], HEX_PAIRS[from + 1]]
+}
 
 // Writes each byte as two digits, which are the first of these. So few are done by the time that several at
 // once would have begun.
@@ -155,18 +166,10 @@ fn write_few_pairs(bytes: &[u8], digits: &mut [u8])
     ensures { take (2 * length bytes.now) digits.new ≡ hex_of bytes.now }
 {
     for (k, byte) in bytes.iter().enumerate() {
-        digits[2 * k] = glyph_at(*byte / 16);
-        digits[2 * k + 1] = glyph_at(*byte % 16);
+        let [high, low] = pair_of(*byte);
+        digits[2 * k] = high;
+        digits[2 * k + 1] = low;
     }
-}
-
-// A digit below 16, as a lower-case hexadecimal one, by a table.
-#[inline(always)]
-fn glyph_at(digit: u8) -> u8
-    requires { digit < 16 }
-    ensures { result ≡ digit_glyph false digit }
-{
-    GLYPHS[digit as usize]
 }
 
 // A digit below 16, as a lower-case hexadecimal one. Without a table a compiler makes several at once.
