@@ -1,8 +1,7 @@
 -- Hexadecimal digits, one after another.
-use Rattle.std.proofs.Common.{◌≡◌, ℕ, zero, suc, ◌+◌, ◌-◌, ◌/◌, ◌%◌, ◌^◌, ◌<◌, ◌≤◌, List, [], ◌∷◌, ◌++◌, length, set, take, drop, false, cond, ap, sym, ◌∙◌, arith, inl, inr, eq-zero-or-pos, append_assoc, length-append, eq-eqb, ne_eqb}
+use Rattle.std.proofs.Common.{◌≡◌, ℕ, zero, suc, ◌+◌, ◌/◌, ◌%◌, ◌^◌, ◌<◌, ◌≤◌, List, [], ◌∷◌, ◌++◌, length, false, cond, refl, ap, sym, ◌∙◌, arith, inl, inr, eq-zero-or-pos, append_assoc, length-append, eq-eqb, ne_eqb}
 use Rattle.std.specs.Fmt.{digit_glyph, digits, digits_onto}
 use Rattle.std.proofs.lemmas.Fmt.{hex_one_digit}
-use Rattle.std.proofs.lemmas.List.{drop-set, take-set-le, take-take}
 use Rattle.trace_print.proofs.WordLemmas.{onto-append}
 
 abbrev last_glyph : ℕ → ℕ
@@ -53,27 +52,32 @@ length-le (suc k) n few small = elim (eq-zero-or-pos (n / 16)) [
 pub length-within : (n : ℕ) → n < 2 ^ 64 → (1 ≤ length (digits 16 false n)) × (length (digits 16 false n) ≤ 16)
 length-within n small = length-le 15 n (omega arith) small
 
--- one more digit, in front of those that stand behind a place
-pub digit-next : (place rest y : ℕ) (bytes whole : List ℕ) → 0 < place → place < length bytes → 16 ≤ rest → rest < 2 ^ 64 → y ≡ digit_glyph false (rest % 16) →
-    digits 16 false rest ++ drop (place + 1) bytes ≡ whole → digits 16 false (rest / 16) ++ drop (place - 1 + 1) (set bytes place y) ≡ whole
-digit-next place rest y bytes whole pos within more small is e =
-    let here : place - 1 + 1 ≡ place = omega arith in
-    let written : drop place (set bytes place y) ≡ last_glyph rest ∷ drop (place + 1) bytes = drop-set bytes place y within ∙ ap (λ (d : ℕ). d ∷ drop (place + 1) bytes) is in
-    ap (λ (n : ℕ). digits 16 false (rest / 16) ++ drop n (set bytes place y)) here
-    ∙ (ap (λ (l : List ℕ). digits 16 false (rest / 16) ++ l) written
-    ∙ (sym (append_assoc (digits 16 false (rest / 16)) (last_glyph rest ∷ []) (drop (place + 1) bytes))
-    ∙ (ap (λ (l : List ℕ). l ++ drop (place + 1) bytes) (sym (digits-step rest more small)) ∙ e)))
+-- the digits of a byte
+abbrev pub pair : ℕ → List ℕ
+pair p = digit_glyph false (p / 16) ∷ digit_glyph false (p % 16) ∷ []
 
--- the first digit
-pub digit-first : (place rest y : ℕ) (bytes whole : List ℕ) → place < length bytes → rest < 16 → y ≡ digit_glyph false rest →
-    digits 16 false rest ++ drop (place + 1) bytes ≡ whole → drop place (set bytes place y) ≡ whole
-digit-first place rest y bytes whole within few is e =
-    drop-set bytes place y within
-    ∙ (ap (λ (d : ℕ). d ∷ drop (place + 1) bytes) is
-    ∙ (ap (λ (l : List ℕ). l ++ drop (place + 1) bytes) (sym (hex_one_digit false rest few)) ∙ e))
+pub digits-two : (n : ℕ) → 16 ≤ n → n < 256 → digits 16 false n ≡ pair n
+digits-two n lo hi = rw (digits-step n lo (omega arith), hex_one_digit false (n / 16) (omega arith)) refl
 
--- what stands in front stays
-pub front-stays : (place n y : ℕ) (bytes old : List ℕ) → n ≤ place → take (place + 1) bytes ≡ take (place + 1) old → take n (set bytes place y) ≡ take n old
-front-stays place n y bytes old below e =
-    take-set-le n bytes place y below
-    ∙ (sym (take-take n (place + 1) bytes (omega arith)) ∙ (ap (take n) e ∙ take-take n (place + 1) old (omega arith)))
+pub digits-pair : (n : ℕ) → 256 ≤ n → n < 2 ^ 64 → digits 16 false n ≡ digits 16 false (n / 256) ++ pair (n % 256)
+digits-pair n lo hi =
+    let a : n / 16 / 16 ≡ n / 256 = omega arith in
+    let b : n / 16 % 16 ≡ n % 256 / 16 = omega arith in
+    let c : n % 16 ≡ n % 256 % 16 = omega arith in
+    rw (digits-step n (omega arith) hi, digits-step (n / 16) (omega arith) (omega arith), append_assoc, a, b, ← c) refl
+
+pub digits-four : (n : ℕ) → 65536 ≤ n → n < 2 ^ 64 → digits 16 false n ≡ digits 16 false (n / 65536) ++ (pair (n % 65536 / 256) ++ pair (n % 65536 % 256))
+digits-four n lo hi =
+    let a : n / 256 / 256 ≡ n / 65536 = omega arith in
+    let b : n / 256 % 256 ≡ n % 65536 / 256 = omega arith in
+    let c : n % 65536 % 256 ≡ n % 256 = omega arith in
+    rw (digits-pair n (omega arith) hi, digits-pair (n / 256) (omega arith) (omega arith), append_assoc, a, b, c) refl
+
+pub length-two : (n : ℕ) → 16 ≤ n → n < 256 → length (digits 16 false n) ≡ 2
+length-two n lo hi = ap length (digits-two n lo hi)
+
+pub length-pair : (n : ℕ) → 256 ≤ n → n < 2 ^ 64 → length (digits 16 false n) ≡ length (digits 16 false (n / 256)) + 2
+length-pair n lo hi = ap length (digits-pair n lo hi) ∙ length-append (digits 16 false (n / 256)) (pair (n % 256))
+
+pub length-four : (n : ℕ) → 65536 ≤ n → n < 2 ^ 64 → length (digits 16 false n) ≡ length (digits 16 false (n / 65536)) + 4
+length-four n lo hi = ap length (digits-four n lo hi) ∙ length-append (digits 16 false (n / 65536)) (pair (n % 65536 / 256) ++ pair (n % 65536 % 256))

@@ -212,50 +212,60 @@ pub fn write_data(bytes: &mut [u8], start: usize, source: &[u8]) -> usize
     start + 2 * source.len()
 }
 
-// How many hexadecimal digits a number has.
+// A hexadecimal number of one or two digits.
 #[inline(always)]
-fn hex_count(number: u64) -> usize
-    ensures { result ≡ length (digits 16 false number) }
+fn write_short_hex(bytes: &mut [u8], start: usize, number: u64) -> usize
+    requires { (number < 256) × (start + length (digits 16 false number) ≤ length bytes.old) }
+    ensures { Adds bytes.old bytes.new start result (digits 16 false number) }
 {
-    let mut rest = number;
-    let mut count = 1;
-    while rest >= 16 {
-        rest /= 16;
-        count += 1;
+    if number < 16 {
+        write_word(bytes, start, &[glyph(number as u8)])
+    } else {
+        write_word(bytes, start, &pair_of(number as u8))
     }
-    count
 }
 
-// Writes a number in hexadecimal, without leading zeros, so that its digits end at `end`, and returns
-// where they start.
+// A hexadecimal number of up to four digits.
 #[inline(always)]
-fn write_hex(number: u64, bytes: &mut [u8], end: usize) -> usize
-    requires { (length (digits 16 false number) ≤ end) × (end ≤ length bytes.old) }
-    ensures start { result + length (digits 16 false number) ≡ end }
-    ensures written { drop result bytes.new ≡ digits 16 false number ++ drop end bytes.old }
-    ensures before { take result bytes.new ≡ take result bytes.old }
+fn write_few_hex(bytes: &mut [u8], start: usize, number: u64) -> usize
+    requires { (number < 65536) × (start + length (digits 16 false number) ≤ length bytes.old) }
+    ensures { Adds bytes.old bytes.new start result (digits 16 false number) }
 {
-    let mut place = end - 1;
-    let mut rest = number;
-    while rest >= 16 {
-        bytes[place] = glyph((rest % 16) as u8);
-        rest /= 16;
-        place -= 1;
+    if number < 256 {
+        return write_short_hex(bytes, start, number);
     }
-    bytes[place] = glyph(rest as u8);
-    place
+    let place = write_short_hex(bytes, start, number / 256);
+    write_word(bytes, place, &pair_of((number % 256) as u8))
+}
+
+// The last four digits follow those in front of them. Up to eight take no call.
+fn write_hex(bytes: &mut [u8], start: usize, number: u64) -> usize
+    requires { start + length (digits 16 false number) ≤ length bytes.old }
+    ensures { Adds bytes.old bytes.new start result (digits 16 false number) }
+{
+    if number < 65536 {
+        return write_few_hex(bytes, start, number);
+    }
+    let high = number / 65536;
+    let place = if high < 65536 {
+        write_few_hex(bytes, start, high)
+    } else {
+        write_hex(bytes, start, high)
+    };
+    let low = number % 65536;
+    let last = write_word(bytes, place, &pair_of((low / 256) as u8));
+    write_word(bytes, last, &pair_of((low % 256) as u8))
 }
 
 // An address or an offset of an access.
+#[inline(always)]
 fn write_address(bytes: &mut [u8], start: usize, address: u64) -> usize
     requires { start + 18 ≤ length bytes.old }
     ensures adds { Adds bytes.old bytes.new start result (address_word address) }
     ensures within { result ≤ start + 18 }
 {
     let place = write_word(bytes, start, b"0x");
-    let end = place + hex_count(address);
-    write_hex(address, bytes, end);
-    end
+    write_hex(bytes, place, address)
 }
 
 /// Writes a position and a time, each with a space after it.
