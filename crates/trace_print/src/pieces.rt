@@ -29,24 +29,15 @@ pub enum Piece {
     Status(Response),
 }
 
-// Copies a word into these bytes, from a place on.
-#[inline(always)]
-fn copy_at(bytes: &mut [u8], start: usize, word: &[u8])
-    requires { start + length word.now ≤ length bytes.old }
-    ensures { bytes.new ≡ take start bytes.old ++ word.now ++ drop (start + length word.now) bytes.old }
-{
-    let end = start + word.len();
-    bytes[start..end].copy_from_slice(word);
-}
-
 /// Writes a word. Where its length is known, that takes no call.
 #[inline(always)]
 pub fn write_word(bytes: &mut [u8], start: usize, word: &[u8]) -> usize
     requires { start + length word.now ≤ length bytes.old }
     ensures { Adds bytes.old bytes.new start result word.now }
 {
-    copy_at(bytes, start, word);
-    start + word.len()
+    let end = start + word.len();
+    bytes[start..end].copy_from_slice(word);
+    end
 }
 
 // Copies the first and the last bytes of a word, so many of each that they are all of it.
