@@ -1,6 +1,6 @@
 -- What is written at a place of some bytes, one thing after another.
-use Rattle.std.proofs.Common.{◌≡◌, ℕ, ◌+◌, ◌-◌, ◌≤◌, List, [], ◌++◌, length, take, drop, ap, sym, ◌∙◌, arith, append_assoc, length-append, length-drop, length-take-le, take-append-drop}
-use Rattle.std.proofs.Math.Seq.{take-append-add}
+use Rattle.std.proofs.Common.{◌≡◌, ℕ, ◌+◌, ◌-◌, ◌≤◌, List, [], ◌++◌, length, take, drop, ap, sym, ◌∙◌, arith, append_assoc, length-append, length-drop, length-take-le, take-add, take-append-drop}
+use Rattle.std.proofs.Math.Seq.{take-append-add, take-append_seam}
 use Rattle.std.proofs.lemmas.List.{append-nil, take-append-le, take-take, take_all}
 use Rattle.trace_print.specs.Pieces.{Adds}
 
@@ -62,3 +62,17 @@ adds-ends old mid new word start count rest i j within few over p q =
 -- all of them
 pub adds-word : (old new word rest : List ℕ) (start : ℕ) → start ≤ length old → new ≡ take start old ++ word ++ rest → Adds old new start (start + length word) word
 adds-word old new word rest start within e = adds-first old new word rest word start (length word) within (omega arith) e (take_all (length word) word (omega arith))
+
+-- digits that were written in front of a place
+pub adds-digits : (old new text : List ℕ) (start first end : ℕ) → end ≡ start + length text → first + length text ≡ end → drop first new ≡ text ++ drop end old → take first new ≡ take first old →
+    Adds old new start end text
+adds-digits old new text start first end behind begins here before =
+    let same : first ≡ start = omega (arith, behind, begins) in
+    record {
+      ends = behind;
+      holds = ap (λ (n : ℕ). take n new) (sym begins)
+          ∙ (take-add first (length text) new
+          ∙ (ap (λ (l : List ℕ). l ++ take (length text) (drop first new)) before
+          ∙ (ap (λ (l : List ℕ). take first old ++ l) (ap (take (length text)) here ∙ take-append_seam text (drop end old))
+          ∙ ap (λ (n : ℕ). take n old ++ text) same)));
+    }

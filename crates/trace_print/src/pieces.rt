@@ -1,6 +1,6 @@
 // Pieces of a line, written at a place of some bytes. Each call answers the place behind what it wrote.
 // The place goes from one write to the next in a register, and digits are written where they stay.
-ghost use Rattle.std.specs.Prelude.{◌≡◌, ◌+◌, ◌*◌, ◌<◌, ◌≤◌, ◌++◌, false, codes, drop, length, take};
+ghost use Rattle.std.specs.Prelude.{◌≡◌, ◌+◌, ◌*◌, ◌/◌, ◌%◌, ◌<◌, ◌≤◌, [], ◌∷◌, ◌++◌, false, codes, drop, length, take};
 ghost use Rattle.std.specs.Fmt.{decimal, digits, digit_glyph};
 ghost use Rattle.tlm_model.specs.Report.{command_word, way_word};
 ghost use Rattle.tlm_model.specs.Text.{address_word, hex_of};
