@@ -68,7 +68,7 @@ pub fn run<N: Naming<Plan, TlmLaw> + Send + Sync, P: Pace + Sync, R: Threads + W
         memories,
     } = net.into_parts();
     let done = take_apart(rt, alloc, memories)?;
-    finish::<N>(alloc, history, ends, notes, done, seats)
+    finish::<N>(history, ends, notes, done, seats)
 }
 
 // Gives turns to these jobs, which are so many, by so many workers, until all have finished. Its only error
@@ -140,7 +140,6 @@ fn run_opened<N: Naming<Plan, TlmLaw> + Send + Sync, P: Pace + Sync, R: Threads 
 // Seals the history, and makes the outcome of what the jobs and the memories have left. Its only error is
 // want of memory.
 fn finish<N: Naming<Plan, TlmLaw>>(
-    alloc: Global,
     history: PlatHistory,
     ends: Vec<EndOf>,
     notes: Vec<PlatNote>,
