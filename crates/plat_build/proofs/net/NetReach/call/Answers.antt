@@ -17,10 +17,11 @@ pub step_alone-requires-clause-ticket : goal.step_alone-requires-clause-ticket
 step_alone-requires-clause-ticket g c = λ o built lawful admitted.
     let m = c.args.memory in
     let place = c.index_mut-place.result.now in
-    let num : place.number ≡ m = ap (λ (x : Numbers). x.number) (memory_read c.self.inside.plan g.N.Naming.frame.world c.self.inside.memories.items m place c.self.invariant.4 c.self.invariant.0 c.requires.memory c.index_mut-place.ensures.value) in
-    (subst (λ (k : ℕ). IsTicket g.N.Naming.tokens k c.pull-ticket.result) (sym num)
-    (subst (λ (t : TableId). IsTicket t m c.pull-ticket.result) c.self.invariant.3 c.pull-ticket.ensures.ticket),
-    omega (arith, c.pull-ticket.ensures.amount, c.cost.ensures))
+    let num : place.number ≡ m = ap (λ (x : Numbers). x.number) (memory_read c.self.inside.plan g.N.Naming.frame.world c.self.inside.memories.items m place c.self.invariant.4 c.self.invariant.0 c.requires.memory c.index_mut-place.ensures.value) in (
+      subst (λ (k : ℕ). IsTicket g.N.Naming.tokens k c.pull-ticket.result) (sym num)
+          (subst (λ (t : TableId). IsTicket t m c.pull-ticket.result) c.self.invariant.3 c.pull-ticket.ensures.ticket),
+      omega (arith, c.pull-ticket.ensures.amount, c.cost.ensures),
+    )
 
 pub returns-clause-entry : goal.returns-clause-entry
 returns-clause-entry g c =
