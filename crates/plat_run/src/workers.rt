@@ -123,7 +123,7 @@ fn give_round<N: Naming<Plan, TlmLaw>, P: Pace, R: Wait>(
 }
 
 /// Gives turns by the caller alone, in the order in which they would come off a queue, until all jobs have
-/// finished. No lock is taken for a turn or a call at a memory, and no memory.
+/// finished. No lock is taken to give a turn or to make an access, and no memory.
 pub fn work_alone<N: Naming<Plan, TlmLaw>, P: Pace, R: Wait>(
     rt: &R,
     net: &mut Net<N>,
