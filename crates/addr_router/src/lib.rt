@@ -10,12 +10,10 @@
 //! Promises: `Windows::new` takes just the valid rows, and refuses others with their first fault.
 //! `decode` answers the port and the translated address of the one window that has the address, and
 //! nothing exactly where no window has it. `translate_up` answers just the addresses that lead through
-//! the port into a range that the target sees. Nothing here takes memory.
+//! the port into a range that the target sees. No call can fail for want of memory.
 #![tactic(auto)]
 
 pub mod laws;
-#[cfg(test)]
-mod tests;
 mod window;
 mod windows;
 

@@ -13,8 +13,6 @@
 //! and no memory is taken.
 #![tactic(auto)]
 
-#[cfg(test)]
-mod tests;
 mod transport;
 
 pub use transport::{b_transport, b_transport_along, transport_dbg};

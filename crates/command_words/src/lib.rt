@@ -7,14 +7,12 @@
 //!
 //! Promises: what is read is `command_of` of the words, in `specs/Words`: options stand anywhere after
 //! the first word, each at most once, and every other list of words is no command line. Words that are
-//! no command line are told without taking memory.
+//! no command line are told as such, never as want of memory.
 #![tactic(auto)]
 
 mod command;
 mod read;
 mod shape;
-#[cfg(test)]
-mod tests;
 mod values;
 pub mod worked;
 

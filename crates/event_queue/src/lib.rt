@@ -6,7 +6,7 @@
 //!
 //! Promises: entries are given in the order of their times, those of equal times in the order of their
 //! notification. An entry is given as soon as its time has come, and none before. No call but `new`
-//! takes memory, and no call but `pop` lets go of an item.
+//! can fail for want of memory, and no call but `pop` lets go of an item.
 #![tactic(auto)]
 
 mod queue;

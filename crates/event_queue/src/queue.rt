@@ -46,7 +46,7 @@ impl<T> EventQueue<T> {
     }
 
     /// Adds an item that is to be given at this time, in picoseconds. It stands behind all entries whose
-    /// time is at most its own, and takes no memory.
+    /// time is at most its own. The room for it is there.
     pub fn notify(&mut self, item: T, at: u64)
         requires { length self.old.entries < self.old.room }
         ensures { self.new ≡ record self.old { entries = notified self.old.entries item at } }

@@ -16,7 +16,7 @@ use Rattle.hop_model.specs.Board.{ends_response}
 use Rattle.flow_model.specs.World.{World, Passage, hop_at, hop_count, row_of}
 use Rattle.flow_model.specs.Events.{Event, Among, Finds, FindsAt, IsCall, IsPhase, IsOwn, IsTake, IsAcquire, IsAccess}
 use Rattle.flow_model.specs.Numbers.{ArrIs, EndIs, IsAnswered, IsByReturn, IsEnder, IsEnding, IsResponding, IsResponse, NumberOf, Past, ReqIs, RspFrom, UpFrom, released_hop, served_hop}
-use Rattle.flow_model.specs.Backed.{AccessBacked, AcquireBacked, BackedBy, CallAfter, CallBacked, Delays, EndsRequest, EndsRequestBy, EndsResponse, HasRow, IsBacked, ReleaseBacked, SequenceBacked, TimeBacked}
+use Rattle.flow_model.specs.Backed.{AccessBacked, AcquireBacked, BackedBy, CallAfter, CallBacked, Delays, EndsRequest, EndsRequestBy, EndsResponse, IsBacked, ReleaseBacked, SequenceBacked, TimeBacked}
 use Rattle.flow_check.proofs.Decide.{bind, either, find, find_at, guard_accept, guard_less, guard_true, is_mode, is_phase, is_same_object, is_same_txn, less, same_nat}
 
 -- kinds of entries
@@ -173,24 +173,16 @@ module _ (w : World) (before : List Event) (x : TxnId) where
   sequence pass k BeginReq = Some tt
   sequence pass k EndResp = Some tt
 
-  abbrev row_by : (pass : Passage) → w.passage x ≡ Some pass → (o : ℕ) → Option (PlaceOf pass.hops o) → Option (HasRow w x o Short)
-  row_by pass q o None = None
-  row_by pass q o (Some g) = bind (less g.index (hop_count pass)) (λ l. bind (is_mode Short (row_of w pass g.index)) (λ m. Some (record { passage = pass; is = q; hop = g.index; below = l; place = g.is; same = m })))
+abbrev ends_request_by : (n : ℕ) (p : Phase) (a : TlmSync) → Option (EndsRequestBy n p a)
+ends_request_by n EndReq a = Some tt
+ends_request_by n BeginReq Accepted = None
+ends_request_by n BeginReq (Updated p) = Some tt
+ends_request_by n BeginReq Completed = Some tt
+ends_request_by n BeginResp a = same_nat n 1
+ends_request_by n EndResp a = None
 
-  abbrev short_by : (o : ℕ) (f : Option Passage) → w.passage x ≡ f → Option (HasRow w x o Short)
-  short_by o None q = None
-  short_by o (Some pass) q = row_by pass q o (place_from pass.hops o (hop_count pass) 0)
-
-abbrev ends_request_by : (w : World) (o : ℕ) (y : TxnId) (p : Phase) (a : TlmSync) → Option (EndsRequestBy w o y p a)
-ends_request_by w o y EndReq a = Some tt
-ends_request_by w o y BeginReq Accepted = None
-ends_request_by w o y BeginReq (Updated p) = Some tt
-ends_request_by w o y BeginReq Completed = Some tt
-ends_request_by w o y BeginResp a = short_by w [] y o (w.passage y) refl
-ends_request_by w o y EndResp a = None
-
-abbrev ends_request : (w : World) (o : ℕ) (e : Event) → Option (EndsRequest w o e)
-ends_request w o e = bind (is_own e.txn o e) (λ c. bind (ends_request_by w o e.txn c.phase c.answer) (λ q. Some (record { phase = c.phase; answer = c.answer; call = c.call; ends = q })))
+abbrev ends_request : (o : ℕ) (e : Event) → Option (EndsRequest o e)
+ends_request o e = bind (is_own e.txn o e) (λ c. bind (ends_request_by e.number c.phase c.answer) (λ q. Some (record { phase = c.phase; answer = c.answer; call = c.call; ends = q })))
 
 abbrev truth : (b : Bool) → Option (b ≡ true)
 truth true = Some refl
@@ -199,18 +191,18 @@ truth false = None
 abbrev ends_response_of : (o : ℕ) (e : Event) → Option (EndsResponse o e)
 ends_response_of o e = bind (is_own e.txn o e) (λ c. bind (truth (ends_response c.phase c.answer)) (λ q. Some (record { phase = c.phase; answer = c.answer; call = c.call; ends = q })))
 
-abbrev delays : (w : World) (o : ℕ) (p : Phase) (e : Event) → Option (Delays w o p e)
-delays w o BeginReq e = ends_request w o e
-delays w o EndReq e = None
-delays w o BeginResp e = ends_response_of o e
-delays w o EndResp e = None
+abbrev delays : (o : ℕ) (p : Phase) (e : Event) → Option (Delays o p e)
+delays o BeginReq e = ends_request o e
+delays o EndReq e = None
+delays o BeginResp e = ends_response_of o e
+delays o EndResp e = None
 
 module _ (w : World) (before : List Event) (x : TxnId) where
-  abbrev own_or_delay : (o : ℕ) (p : Phase) (e : Event) → Option (IsOwn x o e ⊎ Delays w o p e)
-  own_or_delay o p e = either (bind (is_own x o e) (λ c. Some (inl c))) (bind (delays w o p e) (λ c. Some (inr c)))
+  abbrev own_or_delay : (o : ℕ) (p : Phase) (e : Event) → Option (IsOwn x o e ⊎ Delays o p e)
+  own_or_delay o p e = either (bind (is_own x o e) (λ c. Some (inl c))) (bind (delays o p e) (λ c. Some (inr c)))
 
-  abbrev later_call : (pass : Passage) (k : ℕ) (p : Phase) (t : ℕ) → Option (FindsAt (Among before) (λ f. IsOwn x (hop_at pass k) f ⊎ Delays w (hop_at pass k) p f) t)
-  later_call pass k p t = find_at (λ f. IsOwn x (hop_at pass k) f ⊎ Delays w (hop_at pass k) p f) (own_or_delay (hop_at pass k) p) t before
+  abbrev later_call : (pass : Passage) (k : ℕ) (p : Phase) (t : ℕ) → Option (FindsAt (Among before) (λ f. IsOwn x (hop_at pass k) f ⊎ Delays (hop_at pass k) p f) t)
+  later_call pass k p t = find_at (λ f. IsOwn x (hop_at pass k) f ⊎ Delays (hop_at pass k) p f) (own_or_delay (hop_at pass k) p) t before
 
   abbrev time_backed : (pass : Passage) (k : ℕ) (p : Phase) (t : ℕ) → Option (TimeBacked w (Among before) x pass k p t)
   time_backed pass k p t =

@@ -1,11 +1,13 @@
-mod Decide
-mod DecideBacked
-mod DecideLogs
-mod DecidePremises
-mod WorkedRequests
-mod WorkedHistories
-mod WrongHistories
-mod NotGood
-mod SilentPremises
-mod CheckLemmas
+pub mod Decide
+pub mod DecideBacked
+pub mod DecideLogs
+pub mod DecidePremises
+pub mod WorkedRequests
+pub mod WorkedHistories
+pub mod WrongHistories
+pub mod NotGood
+pub mod SilentPremises
+pub mod CheckLemmas
 pub mod CountedAccesses
+pub mod Overlapping
+pub mod Reports

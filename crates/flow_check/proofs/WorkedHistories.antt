@@ -73,13 +73,13 @@ pub record Issues (p : Plan) (h : List Entry) : Type 0 where
   pub others : IssuesInTime p h
   pub waits : WaitsForEnds p h
 
-abbrev issues : (p : Plan) (h : List Entry) → Option (Issues p h)
+abbrev pub issues : (p : Plan) (h : List Entry) → Option (Issues p h)
 issues p h =
     bind (each _ (of_request p (λ before e i r. IsIssuedBy i.row.style e.time (issue_time p before e.txn) e.what) (λ before e i r. issued_by i.row.style e.time (issue_time p before e.txn) e.what)) h) (λ o.
     bind (each _ (of_request p (λ before e i q. AllByRecursion (IsWaitedFor p before i q) (requests_of p.platform i before)) (λ before e i q. all (IsWaitedFor p before i q) (not_waited p before i q) (requests_of p.platform i before))) h) (λ w.
     Some (record { others = o; waits = w })))
 
-abbrev first : TxnId
+abbrev pub first : TxnId
 first = record { initiator = 0; seq = 0 }
 
 -- the freed Release
@@ -87,7 +87,7 @@ abbrev freed_by : (x : TxnId) (e : Event) → e.object ≡ Pool x.initiator → 
 freed_by x e d t (Release k true) v = Some (record { number = e.number; release = record { object = d; txn = t; number = refl; slot = k; what = v } })
 freed_by x e d t _ v = None
 
-abbrev is_freed : (x : TxnId) (e : Event) → Option (IsFreed x e)
+abbrev pub is_freed : (x : TxnId) (e : Event) → Option (IsFreed x e)
 is_freed x e = bind (is_same_object (Pool x.initiator) e.object) (λ d. bind (is_same_txn x e.txn) (λ t. freed_by x e d t e.what refl))
 
 abbrev frees : (h : List Event) → Option (Finds (Among h) (IsFreed first))
@@ -97,18 +97,23 @@ frees h = find (IsFreed first) (is_freed first) h
 abbrev HasOne : Plan → Type 0
 HasOne p = (i s : ℕ) (pass : Passage) → (world_of p).passage (record { initiator = i; seq = s }) ≡ Some pass → first ≡ record { initiator = i; seq = s }
 
-worked : (p : Plan) (h : List Event) → Premises (world_of p) (slots_of p) (issue_time p) h → RunsRequests p (entries h) → Issues p (entries h) → HasOne p → Finds (Among h) (IsFreed first) → IsWorked p h
-worked p h pr r i one f = record {
+-- a history whose accesses are freed
+pub worked_by : (p : Plan) (h : List Event) → Premises (world_of p) (slots_of p) (issue_time p) h → RunsRequests p (entries h) → Issues p (entries h)
+    → ((x : TxnId) (pass : Passage) → (world_of p).passage x ≡ Some pass → Finds (Among h) (IsFreed x)) → IsWorked p h
+worked_by p h pr r i freed = record {
   premises = pr;
   good = record {
     sound = record { requests = r.keeps; traffic = issue_law p (entries h) (traffic_law p h pr) i.others i.waits };
     requests = r.ends;
-    traffic = ended_law p h pr (λ x pass q. subst (λ (y : TxnId). Finds (Among h) (IsFreed y)) (one x.initiator x.seq pass q) f);
+    traffic = ended_law p h pr freed;
   };
 }
 
+worked : (p : Plan) (h : List Event) → Premises (world_of p) (slots_of p) (issue_time p) h → RunsRequests p (entries h) → Issues p (entries h) → HasOne p → Finds (Among h) (IsFreed first) → IsWorked p h
+worked p h pr r i one f = worked_by p h pr r i (λ x pass q. subst (λ (y : TxnId). Finds (Among h) (IsFreed y)) (one x.initiator x.seq pass q) f)
+
 -- the objects that have entries
-places : List ObjectNo
+unfoldable pub places : List ObjectNo
 places = Hop 0 ∷ Pool 0 ∷ Memory 0 ∷ []
 
 some_same : {X : Type 0} (a b : X) → Some a ≡ Some b → a ≡ b

@@ -1,3 +1,4 @@
 pub mod Checks
 pub mod Worked
 pub mod Premises
+pub mod Reported

@@ -1,15 +1,18 @@
 -- What each premise of the law is for: small histories that have all others, and miss a conclusion.
 use Rattle.std.specs.Prelude.{ℕ, ◌≡◌, ◌^◌, List, [], ◌∷◌, Option, Some, None, Bool, true, false}
-use Rattle.tlm_types.specs.declared.words.ObjectNo.TheVariants.{Pool}
+use Rattle.tlm_types.specs.declared.words.ObjectNo.TheVariants.{Hop, Pool}
 use Rattle.tlm_types.specs.declared.words.Phase.TheVariants.{BeginReq, EndReq, BeginResp, EndResp}
 use Rattle.tlm_types.specs.declared.words.ReqMode.{ReqMode}
 use Rattle.tlm_types.specs.declared.words.ReqMode.TheVariants as Req
 use Rattle.tlm_types.specs.declared.words.RespMode.TheVariants as Resp
+use Rattle.tlm_types.specs.declared.words.TlmSync.{TlmSync}
 use Rattle.tlm_types.specs.declared.words.TlmSync.TheVariants.{Accepted, Updated, Completed}
 use Rattle.tlm_types.specs.declared.words.TxnId.{TxnId}
 use Rattle.tlm_types.specs.declared.entry.Entry.{Entry}
+use Rattle.tlm_types.specs.declared.entry.What.TheVariants.{Call}
 use Rattle.tlm_model.specs.Each.{AtEach}
 use Rattle.tlm_model.specs.Requests.{is_txn}
+use Rattle.hop_model.specs.Calls.{has_open_request}
 use Rattle.hop_model.specs.Protocol.{BeginsOnce}
 use Rattle.flow_model.specs.World.{HopEnds, Passage, World}
 use Rattle.flow_model.specs.Events.{Event, Among, Finds, IsAccess, IsTake, at, entries, hop_log}
@@ -22,6 +25,7 @@ use Rattle.flow_check.specs.Worked.{acquire, call, take, written}
 pub record HasLogs (w : World) (slots : ℕ → ℕ) (issued : List Entry → TxnId → ℕ) (h : List Event) : Type 0 where
   pub backed : AtEach (λ before e. IsBacked w (Among before) e) h
   pub hops : (o : ℕ) → HasSteps w o h
+  pub marks : (o : ℕ) → AtEach (λ before e. (a : TlmSync) → e.what ≡ Call BeginResp a → e.number ≡ 1 → has_open_request e.txn (entries before) ≡ true) (at (Hop o) h)
   pub pools : (i : ℕ) → IsPoolLog (slots i) (at (Pool i) h)
   pub one_take : (i : ℕ) → TakesOnce (at (Pool i) h)
   pub one_access : AtEach (λ before e. (x : TxnId) → IsAccess x e → ¬ Finds (Among before) (IsAccess x)) h

@@ -2,6 +2,7 @@
 //! good: it runs its script, has all the points of four-phase traffic, and has come to its end.
 ghost use Rattle.tlm_types.specs.declared.words.ReqMode.TheVariants as Req;
 ghost use Rattle.tlm_types.specs.declared.words.RespMode.TheVariants as Resp;
+ghost use Rattle.flow_check.specs.Reported.{overlapping, overlapping_plan};
 ghost use Rattle.flow_check.specs.Worked.{IsWorked, accepting, answering, completing, ending, lone, refused, refused_plan, routed, routed_plan};
 
 /// The memory accepts the request, and the initiator the response: four calls.
@@ -32,4 +33,9 @@ pub fn router_refuses()
 /// An access passes two routers.
 pub fn passes_two_routers()
     ensures { IsWorked routed_plan routed }
+{}
+
+/// Two writes that are under way at once.
+pub fn writes_overlap()
+    ensures { IsWorked overlapping_plan overlapping }
 {}

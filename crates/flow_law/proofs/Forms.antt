@@ -20,8 +20,9 @@ use Rattle.tlm_types.specs.declared.entry.What.TheVariants.{Call, Acquire}
 use Rattle.tlm_model.specs.Route.{greatest_time}
 use Rattle.hop_model.specs.Answers.{response_answer}
 use Rattle.hop_model.specs.ByRules.{request_end as hop_request_end}
+use Rattle.hop_model.specs.Calls.{has_open_request}
 use Rattle.flow_model.specs.World.{World, Passage, IsWorld}
-use Rattle.flow_model.specs.Events.{Event, Among, Finds, IsPhase, IsOwn, IsTake, IsTakeOf, IsAccess, at, entries, hop_log}
+use Rattle.flow_model.specs.Events.{Event, Among, Finds, IsCall, IsPhase, IsOwn, IsTake, IsTakeOf, IsAccess, at, entries, hop_log}
 use Rattle.flow_model.specs.Backed.{IsBacked, EndsResponse}
 use Rattle.flow_model.specs.Pools.{PoolStepBy, slots_after}
 use Rattle.flow_model.specs.Slots.{no_slots}
@@ -178,6 +179,7 @@ pub record Given (w : World) (slots : ℕ → ℕ) (issued : List Entry → TxnI
   pub world : IsWorld w
   pub backed : AtSplits (λ before e. IsBacked w (Among before) e) h
   pub hops : (o : ℕ) → HopModel w o (at (Hop o) h)
+  pub marks : AtSplits (λ before e. (o : ℕ) (a : TlmSync) → IsCall e.txn o BeginResp a e → e.number ≡ 1 → has_open_request e.txn (hop_log o before) ≡ true) h
   pub pools : (i : ℕ) → PoolSteps (slots i) (at (Pool i) h)
   pub one_take : (i : ℕ) → TakesOnce (at (Pool i) h)
   pub one_access : AtSplits (λ before e. (x : TxnId) → IsAccess x e → ¬ Finds (Among before) (IsAccess x)) h

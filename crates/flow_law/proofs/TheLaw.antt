@@ -1,5 +1,5 @@
 -- The law.
-use Rattle.std.proofs.Common.{◌≡◌, ℕ, ◌+◌, List, [], ◌∷◌, ◌++◌, refl, ap, sym, ◌∙◌, subst}
+use Rattle.std.proofs.Common.{true, ◌≡◌, ℕ, ◌+◌, List, [], ◌∷◌, ◌++◌, refl, ap, sym, ◌∙◌, subst}
 use Rattle.std.proofs.lemmas.List.Elements.{filter-append}
 use Rattle.tlm_types.specs.declared.words.ObjectNo.TheVariants.{Hop, Pool}
 use Rattle.tlm_types.specs.declared.words.TxnId.{TxnId}
@@ -27,7 +27,8 @@ use Rattle.flow_law.proofs.HopLogs.{hop_model, begins_once, request_end_same}
 use Rattle.flow_law.proofs.OneNumber.{counts}
 use Rattle.flow_law.proofs.Orders.{orders}
 use Rattle.flow_law.proofs.Renumbered.{orders as numbered_orders, freed_last as numbered_freed_last, in_turn as numbered_in_turn, times as numbered_times}
-use Rattle.flow_law.proofs.Splits.{from_at}
+use Rattle.flow_law.proofs.Splits.{at-split, from_at}
+use Rattle.hop_model.specs.Calls.{has_open_request}
 use Rattle.flow_law.proofs.Table.{table}
 use Rattle.flow_law.proofs.Times.{times}
 
@@ -56,6 +57,9 @@ module _ (w : World) (slots : ℕ → ℕ) (issued : List Entry → TxnId → �
     world = pr.world;
     backed = at_each _ h pr.backed;
     hops = λ o. hop_model w o (at (Hop o) h) (mine o) (pr.hops o).board (steps o) (once o);
+    marks = λ before e after q o a c n.
+        subst (λ (l : List Entry). has_open_request e.txn l ≡ true) (sym (entries-at (Hop o) before))
+        (at_each _ (at (Hop o) h) (pr.marks o) (at (Hop o) before) e (at (Hop o) after) (at-split (Hop o) h before after e q c.object) a c.what n);
     pools = λ i. at_each _ (at (Pool i) h) (pr.pools i);
     one_take = λ i. at_each _ (at (Pool i) h) (pr.one_take i);
     one_access = at_each _ h pr.one_access;

@@ -15,11 +15,14 @@ use Rattle.tlm_types.specs.declared.entry.What.TheVariants.{Access as Accessed, 
 use Rattle.tlm_types.specs.declared.words.ReqMode.TheVariants.{Accept, Short, EndReq as AtOnce, BeginResp as WithResponse, Complete}
 use Rattle.tlm_model.specs.Route.{later, greatest_time}
 use Rattle.hop_model.specs.ByRules.{request_end as hop_request_end}
-use Rattle.flow_model.specs.Backed.{TimeBacked, BackedBy, EndsRequestBy as EndsRequestInWorld}
+use Rattle.flow_model.specs.Backed.{TimeBacked, BackedBy, EndsRequestBy as EndsRequestMarked}
 use Rattle.flow_model.specs.Events.{Event, Among, Finds, IsCall, IsPhase, IsOwn, at, hop_log}
 use Rattle.flow_model.specs.Numbers.{ReqIs, UpFrom, RspFrom, NumberOf, released_hop, IsByReturn, served_hop, IsAnswered}
 use Rattle.flow_model.specs.Points.{CallTimed, TimedBy, IsTimed}
 use Rattle.flow_model.specs.World.{World, Passage, hop_count, hop_at, row_by, row_of, is_refused}
+use Rattle.hop_model.specs.Calls.{request_by}
+use Rattle.std.specs.List.{fold}
+use Rattle.flow_law.proofs.CallLists.{calls, calls_at, call_of}
 use Rattle.flow_law.proofs.Each.{each_from}
 use Rattle.flow_law.proofs.Forms.{Saying, says, sayings, is_requested, ends_request, request_end, Given}
 use Rattle.flow_law.proofs.LastRequest.{last_is_greatest}
@@ -277,40 +280,27 @@ module _ (w : World) (slots : ℕ → ℕ) (issued : List Entry → TxnId → �
   among_more : (before after : List Event) (e : Event) → h ≡ before ++ e ∷ after → (f : Event) → Among before f → Among h f
   among_more before after e q f m = among_whole h before after e f q m
 
-  -- a call that ends a request by the table ends it by the log
-  ends_in_log : (b after : List Event) (f : Event) → h ≡ b ++ f ∷ after → (o : ℕ) (p : Phase) (a : TlmSync) → IsCall f.txn o p a f → EndsRequestInWorld w o f.txn p a → ends_request o (at (Hop o) b) f.txn p a ≡ true
+  -- a call that ends a request by its mark ends it by the log
+  ends_in_log : (b after : List Event) (f : Event) → h ≡ b ++ f ∷ after → (o : ℕ) (p : Phase) (a : TlmSync) → IsCall f.txn o p a f → EndsRequestMarked f.number p a → ends_request o (at (Hop o) b) f.txn p a ≡ true
+  unfolding calls call_of
   ends_in_log b after f q o EndReq a c r = refl
   ends_in_log b after f q o BeginReq Accepted c r = absurd r
   ends_in_log b after f q o BeginReq (Updated p) c r = refl
   ends_in_log b after f q o BeginReq Completed c r = refl
   ends_in_log b after f q o EndResp a c r = absurd r
-  ends_in_log b after f q o BeginResp a c r = ap is_requested (sayings-at f.txn o b ∙ requested (came w slots issued h pr b after f q f.txn o BeginResp a c).0)
+  ends_in_log b after f q o BeginResp a c r = ap is_requested (sayings-at f.txn o b ∙ requested (sayings f.txn o b) (came w slots issued h pr b after f q f.txn o BeginResp a c).0 marked)
     where
-      late : (g : Finds (Among b) (IsCall f.txn o EndReq Accepted)) → ⊥
-      late g =
-          let s = among_split h g.event (among_more b after f q g.event g.known) in
-          let d = (backed_at w slots issued h pr s.before s.after g.event s.is f.txn o EndReq Accepted g.is r.passage r.is r.hop r.below r.place).sequence in
-          short_late (row_of w r.passage r.hop) r.same d
-        where
-          short_late : (m : ReqMode) → m ≡ Short → m ≡ Accept → ⊥
-          short_late m u v = cc
+      marked : fold request_by false (calls (sayings f.txn o b)) ≡ true
+      marked = subst (λ (l : List _). fold request_by false l ≡ true) (calls_at f.txn o b) (pr.marks b f after q o a c r)
 
-      at_once : (g : Finds (Among b) (IsCall f.txn o BeginReq (Updated EndReq))) → ⊥
-      at_once g =
-          let s = among_split h g.event (among_more b after f q g.event g.known) in
-          let d = (step w slots issued h pr s.before s.after g.event s.is f.txn o BeginReq (Updated EndReq) g.is).request_answer refl in
-          let u : RowAnswer (row_by (is_refused w r.passage r.hop) (w.hop o).req) (Updated EndReq) = row_answer (is_refused w r.passage r.hop) (w.hop o).req (Updated EndReq) d in
-          let v : row_by (is_refused w r.passage r.hop) (w.hop o).req ≡ Short = subst (λ (n : ℕ). row_by (is_refused w r.passage r.hop) (w.hop n).req ≡ Short) r.place r.same in
-          wrong (subst (λ (m : ReqMode). RowAnswer m (Updated EndReq)) v u)
-        where
-          wrong : ◌≡◌ {A = TlmSync} (Updated EndReq) Accepted → ⊥
-          wrong z = cc
+      wrong : {X : Type 0} → false ≡ true → X
+      wrong m = cc
 
-      requested : OneOf (before_call BeginResp) (sayings f.txn o b) → sayings f.txn o b ≡ says BeginReq Accepted ∷ []
-      requested (inl m) = m
-      requested (inr (inl m)) = absurd (at_once (in_said f.txn o b BeginReq (Updated EndReq) (subst (λ (l : List Saying). In l (says BeginReq (Updated EndReq))) (sym m) (inl refl))))
-      requested (inr (inr (inl m))) = absurd (late (in_said f.txn o b EndReq Accepted (subst (λ (l : List Saying). In l (says EndReq Accepted)) (sym m) (inr (inl refl)))))
-      requested (inr (inr (inr m))) = absurd m
+      requested : (l : List Saying) → OneOf (before_call BeginResp) l → fold request_by false (calls l) ≡ true → l ≡ says BeginReq Accepted ∷ []
+      requested l (inl m) n = m
+      requested l (inr (inl m)) n = wrong (subst (λ (k : List Saying). fold request_by false (calls k) ≡ true) m n)
+      requested l (inr (inr (inl m))) n = wrong (subst (λ (k : List Saying). fold request_by false (calls k) ≡ true) m n)
+      requested l (inr (inr (inr m))) n = absurd m
 
   module _ (before after : List Event) (e : Event) (q : h ≡ before ++ e ∷ after) (x : TxnId) (pass : Passage) (is : w.passage x ≡ Some pass) (k : ℕ) (below : k < hop_count pass) where
     timed_begin_req : (a : TlmSync) → IsCall x (hop_at pass k) BeginReq a e → CallTimed w before x pass (hop_at pass k) BeginReq e.time

@@ -1,12 +1,16 @@
 -- The law: what each entry's backing and each object's log give for the whole history.
-use Rattle.std.specs.Prelude.{ℕ, ◌≡◌, ◌≤◌, List, Some, false}
+use Rattle.std.specs.Prelude.{ℕ, ◌≡◌, ◌≤◌, List, Some, true, false}
 use Rattle.tlm_types.specs.declared.words.ObjectNo.TheVariants.{Hop, Pool}
+use Rattle.tlm_types.specs.declared.words.Phase.TheVariants.{BeginResp}
+use Rattle.tlm_types.specs.declared.words.TlmSync.{TlmSync}
 use Rattle.tlm_types.specs.declared.words.TxnId.{TxnId}
 use Rattle.tlm_types.specs.declared.entry.Entry.{Entry}
+use Rattle.tlm_types.specs.declared.entry.What.TheVariants.{Call as Called}
 use Rattle.tlm_model.specs.Each.{AtEach}
 use Rattle.tlm_model.specs.History.{entries_at}
 use Rattle.tlm_model.specs.Route.{greatest_time}
 use Rattle.hop_model.specs.Board.{Board, Reaches, start}
+use Rattle.hop_model.specs.Calls.{has_open_request}
 use Rattle.hop_model.specs.Protocol.{BeginsOnce, IsExclusive}
 use Rattle.flow_model.specs.World.{World, Passage, IsWorld}
 use Rattle.flow_model.specs.Events.{Event, Among, Finds, at, entries, hop_log, numbered, IsTake, IsAccess}
@@ -27,6 +31,8 @@ pub record Premises (w : World) (slots : ℕ → ℕ) (issued : List Entry → T
   pub backed : AtEach (λ before e. IsBacked w (Among before) e) h
   -- each hop and each pool made its log
   pub hops : (o : ℕ) → HasSteps w o h
+  -- which marks a BEGIN_RESP only where the request of its access is open
+  pub marks : (o : ℕ) → AtEach (λ before e. (a : TlmSync) → e.what ≡ Called BeginResp a → e.number ≡ 1 → has_open_request e.txn (entries before) ≡ true) (at (Hop o) h)
   pub pools : (i : ℕ) → IsPoolLog (slots i) (at (Pool i) h)
   -- no access is taken, served or begun twice, and none without a route is served
   pub one_take : (i : ℕ) → TakesOnce (at (Pool i) h)

@@ -7,8 +7,7 @@ use Rattle.tlm_types.specs.declared.words.Phase.TheVariants.{BeginReq, EndReq, B
 use Rattle.tlm_types.specs.declared.words.TlmSync.{TlmSync}
 use Rattle.tlm_types.specs.declared.words.TlmSync.TheVariants.{Accepted}
 use Rattle.tlm_types.specs.declared.words.TxnId.{TxnId}
-use Rattle.tlm_types.specs.declared.words.ReqMode.{ReqMode}
-use Rattle.tlm_types.specs.declared.words.ReqMode.TheVariants.{Accept, Short}
+use Rattle.tlm_types.specs.declared.words.ReqMode.TheVariants.{Accept}
 use Rattle.tlm_types.specs.declared.entry.What.{What}
 use Rattle.tlm_types.specs.declared.entry.What.TheVariants.{Access as Accessed, Call, Take, Acquire, Release}
 use Rattle.hop_model.specs.Board.{ends_response}
@@ -16,28 +15,20 @@ use Rattle.flow_model.specs.World.{World, Passage, hop_count, hop_at, row_of}
 use Rattle.flow_model.specs.Events.{Event, Finds, FindsAt, IsCall, IsPhase, IsOwn, IsTake, IsAcquire, IsAccess}
 use Rattle.flow_model.specs.Numbers.{IsEnder, IsResponse, NumberOf, ReqIs, ArrIs, EndIs, released_hop}
 
--- the table gives x a sequence of this row on the hop
-pub record HasRow (w : World) (y : TxnId) (o : ℕ) (row : ReqMode) : Type 0 where
-  pub passage : Passage
-  pub is : w.passage y ≡ Some passage
-  pub hop : ℕ
-  pub below : hop < hop_count passage
-  pub place : hop_at passage hop ≡ o
-  pub same : row_of w passage hop ≡ row
+-- Calls that end a request: END_REQ, a BEGIN_REQ that is answered otherwise than ACCEPTED, a BEGIN_RESP that implies END_REQ. The last has the
+-- number 1: only the hop knows whether the request was still open, so it marks the entry.
+abbrev pub EndsRequestBy : ℕ → Phase → TlmSync → Type 0
+EndsRequestBy n EndReq a = Unit {0}
+EndsRequestBy n BeginReq Accepted = ⊥
+EndsRequestBy n BeginReq _ = Unit {0}
+EndsRequestBy n BeginResp a = n ≡ 1
+EndsRequestBy n EndResp a = ⊥
 
--- calls that end a request: END_REQ, a BEGIN_REQ that is answered otherwise than ACCEPTED, a BEGIN_RESP that implies END_REQ
-abbrev pub EndsRequestBy : World → ℕ → TxnId → Phase → TlmSync → Type 0
-EndsRequestBy w o y EndReq a = Unit {0}
-EndsRequestBy w o y BeginReq Accepted = ⊥
-EndsRequestBy w o y BeginReq _ = Unit {0}
-EndsRequestBy w o y BeginResp a = HasRow w y o Short
-EndsRequestBy w o y EndResp a = ⊥
-
-pub record EndsRequest (w : World) (o : ℕ) (e : Event) : Type 0 where
+pub record EndsRequest (o : ℕ) (e : Event) : Type 0 where
   pub phase : Phase
   pub answer : TlmSync
   pub call : IsCall e.txn o phase answer e
-  pub ends : EndsRequestBy w o e.txn phase answer
+  pub ends : EndsRequestBy e.number phase answer
 
 -- calls that end a response: END_RESP, a BEGIN_RESP that is answered otherwise than ACCEPTED
 pub record EndsResponse (o : ℕ) (e : Event) : Type 0 where
@@ -47,11 +38,11 @@ pub record EndsResponse (o : ℕ) (e : Event) : Type 0 where
   pub ends : ends_response phase answer ≡ true
 
 -- the calls that may delay a call on the hop
-abbrev pub Delays : World → ℕ → Phase → Event → Type 0
-Delays w o BeginReq f = EndsRequest w o f
-Delays w o EndReq f = ⊥
-Delays w o BeginResp f = EndsResponse o f
-Delays w o EndResp f = ⊥
+abbrev pub Delays : ℕ → Phase → Event → Type 0
+Delays o BeginReq f = EndsRequest o f
+Delays o EndReq f = ⊥
+Delays o BeginResp f = EndsResponse o f
+Delays o EndResp f = ⊥
 
 -- what an entry of x stands after, and what gives its time, as far as the entries K are known
 module _ (w : World) (K : Event → Type 0) (x : TxnId) where
@@ -90,7 +81,7 @@ module _ (w : World) (K : Event → Type 0) (x : TxnId) where
   pub record TimeBacked (pass : Passage) (k : ℕ) (p : Phase) (t : ℕ) : Type 0 where
     pub number : ℕ
     pub is_number : NumberOf w K x pass k p number
-    pub time : (t ≡ number) ⊎ ((number < t) × FindsAt K (λ f. IsOwn x (hop_at pass k) f ⊎ Delays w (hop_at pass k) p f) t)
+    pub time : (t ≡ number) ⊎ ((number < t) × FindsAt K (λ f. IsOwn x (hop_at pass k) f ⊎ Delays (hop_at pass k) p f) t)
 
   -- the sequences 6 to 8 have their END_REQ, the others have none
   abbrev pub SequenceBacked : Passage → ℕ → Phase → Type 0

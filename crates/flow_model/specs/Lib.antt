@@ -10,3 +10,5 @@ pub mod Ends
 pub mod Platform
 pub mod Issue
 pub mod Traffic
+pub mod Marked
+pub mod Called

@@ -7,12 +7,10 @@
 //!
 //! Promises: every call is exact. The check and the moves are those of the definitions for the
 //! access that the payload stands for. Room for data bytes and byte enables is taken once, by
-//! `with_room`: no other call takes memory, and none of them can fail.
+//! `with_room`: no other call can fail.
 #![tactic(auto)]
 
 mod payload;
 mod stream;
-#[cfg(test)]
-mod tests;
 
 pub use payload::Payload;

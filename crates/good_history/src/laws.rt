@@ -17,7 +17,7 @@ pub fn decoupled_histories_are_sound()
     ensures { DecoupledIsSound }
 {}
 
-/// And good by its points of requests and those of the end.
+/// Without four-phase initiators a history is good by its points of requests and those of the end.
 pub fn decoupled_histories_are_good()
     ensures { DecoupledIsGood }
 {}

@@ -1,20 +1,19 @@
 -- What a call gives and leaves was carried or brought before.
-use Rattle.std.proofs.Common.{◌≡◌, ℕ, suc, Bool, true, false, List, [], ◌∷◌, ◌++◌, take, drop, Option, Some, None, refl, sym, ap, ◌∙◌, subst}
+use Rattle.std.proofs.Common.{◌≡◌, ℕ, suc, [], ◌∷◌, ◌++◌, take, drop, Option, Some, None, refl, sym, ap, ◌∙◌, subst}
 use Rattle.tlm_types.specs.declared.words.TxnId.{TxnId}
 use Rattle.tlm_types.specs.declared.words.Phase.TheVariants as Phases
 use Rattle.tlm_types.specs.declared.words.TlmSync.{TlmSync}
 use Rattle.tlm_types.specs.declared.words.TlmSync.TheVariants.{Accepted, Updated, Completed}
-use Rattle.tlm_types.specs.declared.entry.Entry.{Entry}
 use Rattle.base_phases.specs.declared.phases.LaneState.{LaneState}
 use Rattle.base_phases.specs.declared.phases.LaneState.TheVariants.{Requested, Waiting, Responding}
 use Rattle.token_book.specs.Account.{Slip}
 use Rattle.hop_model.specs.Answers.{response_answer}
-use Rattle.view_lists.specs.Lists.{Has, Within}
+use Rattle.flow_model.specs.Events.{Event}
+use Rattle.view_lists.specs.Lists.{Within}
 use Rattle.view_lists.proofs.Members.{has_right}
 use Rattle.hop_object.specs.declared.lane.Lane.{Lane}
 use Rattle.hop_object.specs.declared.call.Begun.{Begun}
 use Rattle.hop_object.specs.declared.call.Responded.{Responded}
-use Rattle.hop_object.specs.declared.call.Responded.TheVariants as Answers
 use Rattle.hop_object.specs.declared.call.HopCall.{HopCall}
 use Rattle.hop_object.specs.declared.call.HopCall.TheVariants as Calls
 use Rattle.hop_object.specs.declared.call.HopReply.{HopReply}
@@ -23,8 +22,8 @@ use Rattle.hop_object.specs.States.{state_by}
 use Rattle.hop_object.specs.View.{HopView}
 use Rattle.hop_object.specs.Lanes.{any_responding, step_lane}
 use Rattle.hop_object.specs.Hops.{begin_answer, begin_entry, can_begin, new_lane}
-use Rattle.hop_object.specs.Calls.{begun_as, begun, refused, AnswersRequest, AnswersResponse, EndsRequest, EndsResponse, FetchesDown, FetchesUp, HandsOut, LetsGo, RefusesResponse, Responds, TakesUp}
-use Rattle.hop_object.specs.Objects.{brought_by, carried_by, given_begun, given_by, given_responded, lane_of, of_item, txn_of, Applied}
+use Rattle.hop_object.specs.Calls.{begun_as, refused, AnswersRequest, AnswersResponse, EndsRequest, EndsResponse, HandsOut, LetsGo, RefusesResponse, Responds, TakesUp}
+use Rattle.hop_object.specs.Objects.{brought_by, carried_by, given_begun, given_by, given_responded, lane_of, of_item, of_lane, Applied}
 use Rattle.hop_object.proofs.Items.{items_added, items_changed, nothing, within_same}
 use Rattle.hop_object.proofs.Meanings.{decide}
 
@@ -33,12 +32,12 @@ module _ {T : Type 0} where
   Begins : HopView T → TxnId → T → HopView T × Begun T → Type 0
   Begins v x item r = Within (carried_by r.0.lanes ++ given_begun x r.1) (carried_by v.lanes ++ (x, item) ∷ [])
 
-  waits_there : (v : HopView T) (e : Entry) (item : T) (state : LaneState) → Within (carried_by (v.lanes ++ new_lane e state (Some item) ∷ []) ++ []) (carried_by v.lanes ++ (e.txn, item) ∷ [])
+  waits_there : (v : HopView T) (e : Event) (item : T) (state : LaneState) → Within (carried_by (v.lanes ++ new_lane e state (Some item) ∷ []) ++ []) (carried_by v.lanes ++ (e.txn, item) ∷ [])
   waits_there v e item state =
       let lane = new_lane e state (Some item) in
       items_added v.lanes (v.lanes ++ lane ∷ []) (lane ∷ []) [] ((e.txn, item) ∷ []) refl (λ x h. h)
 
-  begun_given : (v : HopView T) (e : Entry) (item : T) (answer : TlmSync) → Begins v e.txn item (begun_as v e item answer)
+  begun_given : (v : HopView T) (e : Event) (item : T) (answer : TlmSync) → Begins v e.txn item (begun_as v e item answer)
   unfolding Begins
   begun_given v e item Accepted = waits_there v e item Requested
   begun_given v e item Completed = λ x h. h
@@ -67,29 +66,28 @@ module _ {T : Type 0} where
       items_changed v.lanes w.lanes r.before r.lane r.behind [] [] [] r.here (ap (λ (h : HopView T). h.lanes) r.after) (nothing (of_item r.lane.txn r.lane.item ++ []))
 
   -- BEGIN_RESP
-  Responding_gives : HopView T → TxnId → T → HopView T → Responded T → Type 0
-  Responding_gives v x item w answer = Within (carried_by w.lanes ++ given_responded x answer) (carried_by v.lanes ++ (x, item) ∷ [])
+  Responding_gives : HopView T → Slip → T → HopView T → Responded T → Type 0
+  Responding_gives v leg item w answer = Within (carried_by w.lanes ++ given_responded v answer) (carried_by v.lanes ++ of_lane (lane_of v leg) item)
 
-  sent_given : (v : HopView T) (leg : Slip) (p at : ℕ) (item : T) (w : HopView T) (answer : Responded T) → Responds v leg p at item w answer → Responding_gives v (txn_of (lane_of v leg)) item w answer
+  sent_given : (v : HopView T) (leg : Slip) (p at : ℕ) (item : T) (w : HopView T) (answer : Responded T) → Responds v leg p at item w answer → Responding_gives v leg item w answer
   unfolding Responding_gives
   sent_given v leg p at item w answer s =
-      let x = txn_of (lane_of v leg) in
       let mid = step_lane s.lane (state_by (response_answer v.traits.resp)) s.time p (Some item) in
-      let own : (s.lane.txn, item) ∷ [] ≡ (x, item) ∷ [] = ap (λ (o : Option (Lane T)). (txn_of o, item) ∷ []) (sym s.leg_is) in
-      subst (λ (r : Responded T). Within (carried_by w.lanes ++ given_responded x r) (carried_by v.lanes ++ (x, item) ∷ [])) (sym s.answer_is)
-      (items_changed v.lanes w.lanes s.before s.lane s.behind (mid ∷ []) [] ((x, item) ∷ []) s.here (ap (λ (h : HopView T). h.lanes) s.after)
-      (λ y h. has_right (of_item s.lane.txn s.lane.item) ((x, item) ∷ []) y (within_same ((s.lane.txn, item) ∷ []) ((x, item) ∷ []) own y h)))
+      let own : (s.lane.txn, item) ∷ [] ≡ of_lane (lane_of v leg) item = ap (λ (o : Option (Lane T)). of_lane o item) (sym s.leg_is) in
+      subst (λ (r : Responded T). Within (carried_by w.lanes ++ given_responded v r) (carried_by v.lanes ++ of_lane (lane_of v leg) item)) (sym s.answer_is)
+      (items_changed v.lanes w.lanes s.before s.lane s.behind (mid ∷ []) [] (of_lane (lane_of v leg) item) s.here (ap (λ (h : HopView T). h.lanes) s.after)
+      (λ y h. has_right (of_item s.lane.txn s.lane.item) (of_lane (lane_of v leg) item) y (within_same ((s.lane.txn, item) ∷ []) (of_lane (lane_of v leg) item) own y h)))
 
-  busy_given : (v : HopView T) (x : TxnId) (leg : Slip) (item : T) (w : HopView T) (answer : Responded T) → RefusesResponse v leg item w answer → Responding_gives v x item w answer
+  busy_given : (v : HopView T) (leg : Slip) (item : T) (w : HopView T) (answer : Responded T) → RefusesResponse v leg item w answer → Responding_gives v leg item w answer
   unfolding Responding_gives
-  busy_given v x leg item w answer b =
-      subst (λ (r : Responded T). Within (carried_by w.lanes ++ given_responded x r) (carried_by v.lanes ++ (x, item) ∷ [])) (sym b.answer_is)
-      (within_same (carried_by w.lanes ++ (x, item) ∷ []) (carried_by v.lanes ++ (x, item) ∷ []) (ap (λ (h : HopView T). carried_by h.lanes ++ (x, item) ∷ []) b.same))
+  busy_given v leg item w answer b =
+      subst (λ (r : Responded T). Within (carried_by w.lanes ++ given_responded v r) (carried_by v.lanes ++ of_lane (lane_of v leg) item)) (sym b.answer_is)
+      (within_same (carried_by w.lanes ++ of_lane (lane_of v leg) item) (carried_by v.lanes ++ of_lane (lane_of v leg) item) (ap (λ (h : HopView T). carried_by h.lanes ++ of_lane (lane_of v leg) item) b.same))
 
-  response_given : (v : HopView T) (leg : Slip) (p at : ℕ) (item : T) (w : HopView T) (answer : Responded T) → AnswersResponse v leg p at item w answer → Responding_gives v (txn_of (lane_of v leg)) item w answer
+  response_given : (v : HopView T) (leg : Slip) (p at : ℕ) (item : T) (w : HopView T) (answer : Responded T) → AnswersResponse v leg p at item w answer → Responding_gives v leg item w answer
   response_given v leg p at item w answer a =
       decide (any_responding v.lanes)
-      (λ open_. busy_given v (txn_of (lane_of v leg)) leg item w answer (a.busy open_))
+      (λ open_. busy_given v leg item w answer (a.busy open_))
       (λ free. sent_given v leg p at item w answer (a.sent free))
 
   -- a fetch

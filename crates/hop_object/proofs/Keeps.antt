@@ -1,8 +1,8 @@
 -- Each call keeps what holds of a hop.
-use Rattle.std.proofs.Common.{◌≡◌, ◌⊎◌, ℕ, suc, ◌+◌, ◌<◌, ◌≤◌, Bool, true, false, cond, not, ◌&&◌, nat_lt, List, [], ◌∷◌, ◌++◌, length, Option, Some, None, refl, sym, ap, ◌∙◌, subst, ⊎_elim, arith, length-append}
-use Rattle.std.specs.Prelude.{max, is_none, ◌==◌}
+use Rattle.std.proofs.Common.{◌≡◌, ◌⊎◌, ℕ, ◌+◌, ◌<◌, ◌≤◌, Bool, true, false, cond, not, ◌&&◌, nat_lt, List, [], ◌∷◌, ◌++◌, length, Option, Some, None, refl, sym, ap, ◌∙◌, subst, inl, ⊎_elim, arith, length-append}
+use Rattle.std.specs.Prelude.{is_none, ◌==◌}
 use Rattle.std.specs.List.{All, AllPairs, count_by}
-use Rattle.std.proofs.lemmas.List.Elements.{All-push, All-append, All-head, All-tail, All-nil, All-cons, All-same}
+use Rattle.std.proofs.lemmas.List.Elements.{All-push, All-append, All-head, All-tail, All-nil, All-cons, All-same, All-weaker}
 use Rattle.std.proofs.lemmas.List.{append-nil}
 use Rattle.std.proofs.lemmas.List.Quantifiers.{all_pairs_push}
 use Rattle.std.proofs.lemmas.List.Sums.{sum_by-append, sum_by-cons, count_by-le-length}
@@ -15,27 +15,35 @@ use Rattle.tlm_types.specs.declared.words.RespMode.{RespMode}
 use Rattle.tlm_types.specs.declared.words.RespMode.TheVariants as Resp
 use Rattle.tlm_types.specs.declared.words.TlmSync.{TlmSync}
 use Rattle.tlm_types.specs.declared.words.TlmSync.TheVariants.{Accepted, Completed}
-use Rattle.tlm_types.specs.declared.entry.Entry.{Entry}
 use Rattle.base_phases.specs.declared.phases.LaneState.{LaneState}
 use Rattle.base_phases.specs.declared.phases.LaneState.TheVariants.{Free, Requested, Waiting, Responding}
 use Rattle.base_phases.specs.Phases.{next_state}
 use Rattle.token_book.specs.Account.{Account, Slip, out_of, retired}
 use Rattle.hop_model.specs.Answers.{is_requested, is_responding, request_answer, response_answer}
-use Rattle.hop_model.specs.Board.{Open, Board, Rules, Steps, Moves, InTurn, fresh_lane, lane_after, start, Reaches}
-use Rattle.hop_model.proofs.StepLemmas.{reaches_push}
+use Rattle.hop_model.specs.Board.{Open, Rules, Moves, InTurn, fresh_lane, lane_after, start}
+use Rattle.flow_model.specs.Events.{Event}
+use Rattle.flow_model.specs.Marked.{Marks, ReachesMarked, mark_of}
+use Rattle.numbered_log.specs.Logged.{IsBefore}
 use Rattle.hop_object.specs.declared.call.HopTraits.{HopTraits}
 use Rattle.hop_object.specs.declared.lane.Lane.{Lane}
+use Rattle.hop_object.specs.declared.lane.Side.TheVariants.{Up}
 use Rattle.hop_object.specs.States.{state_by}
 use Rattle.hop_object.specs.View.{HopView}
-use Rattle.hop_object.specs.Lanes.{leg_name, has_leg, legs_out, any_requested, any_responding, open_by, opens, step_lane, IsPlaced}
-use Rattle.hop_object.specs.Hops.{rules_of, board_of, Follows, IsBefore, Kept, MayCall, can_begin, begin_answer, begun_with, entry_of, new_lane, entered, passed, called, with_lanes, leg_changed, leg_out, IsLegOf}
+use Rattle.hop_object.specs.Lanes.{leg_name, has_leg, legs_out, any_requested, any_responding, open_by, opens, step_lane, waits, IsPlaced}
+use Rattle.hop_object.specs.Hops.{rules_of, board_of, HasSent, Follows, Kept, can_begin, begin_answer, begun_with, entry_of, new_lane, entered, passed, called, with_lanes, leg_changed, leg_out, IsLegOf}
 use Rattle.hop_object.proofs.Boards.{opens-append, any-opens, length-opens}
+use Rattle.hop_object.proofs.Marked.{marked_push}
 use Rattle.hop_object.proofs.LegLemmas.{both, leg_state, legs_changed, legs_ended, out_issued}
 use Rattle.hop_object.proofs.Places.{All-left, All-right}
+use Rattle.hop_object.proofs.TimeLemmas.{in_front, behind_all}
 
 flip : (a : Bool) → not a ≡ true → a ≡ false
 flip false e = refl
 flip true e = cc
+
+clash : (a : Bool) → a ≡ true → a ≡ false → ⊥
+clash false e f = cc
+clash true e f = cc
 
 -- BEGIN_RESP is allowed on a lane whose request is open, and on one that waits
 from_requested : (m : RespMode) → next_state Requested BeginResp (response_answer m) ≡ Some (state_by (response_answer m))
@@ -63,26 +71,42 @@ module _ {T : Type 0} where
   pub few_out : (v : HopView T) → Kept v → (n : ℕ) → out_of n v.book.out ≤ 16
   few_out v k n = let q = k.legs n in let f = k.few in let s = k.small in let c = count_by-le-length (has_leg n) v.lanes in omega arith
 
+  -- what was sent stands in a longer log
+  sent_longer : (n : ℕ) (es : List Event) (e : Event) (lanes : List (Lane T)) → All (HasSent n es) lanes → All (HasSent n (es ++ e ∷ [])) lanes
+  sent_longer n es e lanes h = All-weaker (HasSent n es) (HasSent n (es ++ e ∷ [])) (λ l was up. let s = was up in record { event = s.event; known = in_front es (e ∷ []) s.event s.known; is = s.is }) lanes h
+
+  -- a lane whose item doesn't wait upstream
+  not_up : (n : ℕ) (es : List Event) (l : Lane T) → waits Up l ≡ false → All (HasSent n es) (l ∷ [])
+  not_up n es l idle = All-cons (HasSent n es) l [] (λ up. absurd (clash (waits Up l) up idle)) (All-nil (HasSent n es))
+
+  -- what holds of each lane, with these in place of one
+  all_round : (P : Lane T → Type 0) (lanes before : List (Lane T)) (lane : Lane T) (behind mid : List (Lane T)) → All P lanes → lanes ≡ before ++ lane ∷ behind → All P mid → All P (before ++ (mid ++ behind))
+  all_round P lanes before lane behind mid all here new =
+      let parts : All P (before ++ lane ∷ behind) = All-same P (before ++ lane ∷ behind) lanes (sym here) all in
+      All-append P before (mid ++ behind) (All-left P before (lane ∷ behind) parts) (All-append P mid behind new (All-tail P lane behind (All-right P before (lane ∷ behind) parts)))
+
   only : (l : Lane T) → IsPlaced l → All IsPlaced (l ∷ [])
   only l h = All-cons IsPlaced l [] h (All-nil IsPlaced)
 
   -- one more entry, by a step of the model
-  pushed : (v w : HopView T) (e : Entry) → Follows v → All (λ y. y.position < e.position) v.log.entries → w.traits ≡ v.traits → w.log.entries ≡ v.log.entries ++ e ∷ [] → Steps (rules_of v) (board_of v) e (board_of w) → Follows w
-  pushed v w e f past made is step =
+  pushed : (v w : HopView T) (e : Event) → Follows v → All (λ (y : Event). y.position < e.position) v.log.events → e.object ≡ Hop v.number → w.number ≡ v.number → w.traits ≡ v.traits → w.log.events ≡ v.log.events ++ e ∷ [] → All (HasSent v.number (v.log.events ++ e ∷ [])) w.lanes → Marks (rules_of v) (board_of v) e (board_of w) → Follows w
+  pushed v w e f past here number made is sent step =
       let rules : rules_of w ≡ rules_of v = ap (λ (m : HopTraits). record { limit = m.lanes; req = m.req; resp = m.resp }) made in
       record {
-        reached = subst (λ (r : Rules). Reaches r start w.log.entries (board_of w)) (sym rules) (subst (λ (es : List Entry). Reaches (rules_of v) start es (board_of w)) (sym is) (reaches_push (rules_of v) v.log.entries start (board_of v) e (board_of w) f.reached step));
-        ordered = subst (λ (es : List Entry). AllPairs IsBefore es) (sym is) (all_pairs_push IsBefore v.log.entries e f.ordered (λ k d h. past k d h));
+        reached = subst (λ (r : Rules). ReachesMarked r start w.log.events (board_of w)) (sym rules) (subst (λ (es : List Event). ReachesMarked (rules_of v) start es (board_of w)) (sym is) (marked_push (rules_of v) v.log.events start (board_of v) e (board_of w) f.reached step));
+        ordered = subst (λ (es : List Event). AllPairs IsBefore es) (sym is) (all_pairs_push IsBefore v.log.events e f.ordered (λ k d h. past k d h));
+        own = subst (λ (n : ℕ). All (λ (y : Event). y.object ≡ Hop n) w.log.events) (sym number) (subst (λ (es : List Event). All (λ (y : Event). y.object ≡ Hop v.number) es) (sym is) (All-push (λ (y : Event). y.object ≡ Hop v.number) v.log.events e f.own here));
+        sent = subst (λ (n : ℕ). All (HasSent n w.log.events) w.lanes) (sym number) (subst (λ (es : List Event). All (HasSent v.number es) w.lanes) (sym is) sent);
       }
 
   -- a BEGIN_REQ that adds these lanes
   kept_begun : (v : HopView T) (p : ℕ) (x : TxnId) (t : ℕ) (answer : TlmSync) (state : LaneState) (mid : List (Lane T)) (book : Account)
-      → Kept v → All (λ e. e.position < p) v.log.entries → can_begin v ≡ true → answer ≡ begin_answer v → next_state Free BeginReq answer ≡ Some state → v.request_end ≤ t
-      → length mid ≤ 1 → All IsPlaced mid → opens mid ≡ lane_after (fresh_lane (entry_of v.number p x t BeginReq answer)) state t
+      → Kept v → All (λ (e : Event). e.position < p) v.log.events → can_begin v ≡ true → answer ≡ begin_answer v → next_state Free BeginReq answer ≡ Some state → v.request_end ≤ t
+      → length mid ≤ 1 → All IsPlaced mid → All (HasSent v.number (v.log.events ++ entry_of v.number p x t BeginReq answer 0 ∷ [])) mid → opens mid ≡ lane_after (fresh_lane (entry_of v.number p x t BeginReq answer 0).entry) state t
       → ((n : ℕ) → out_of n book.out ≡ out_of n v.book.out + count_by (has_leg n) mid)
-      → Kept (begun_with v (entry_of v.number p x t BeginReq answer) answer (v.lanes ++ mid) book)
-  kept_begun v p x t answer state mid book k past can is next late short placed sees out =
-      let e = entry_of v.number p x t BeginReq answer in
+      → Kept (begun_with v (entry_of v.number p x t BeginReq answer 0) answer (v.lanes ++ mid) book)
+  kept_begun v p x t answer state mid book k past can is next late short placed sends sees out =
+      let e = entry_of v.number p x t BeginReq answer 0 in
       let w = begun_with v e answer (v.lanes ++ mid) book in
       let m = may_begin v can in
       record {
@@ -90,19 +114,21 @@ module _ {T : Type 0} where
         small = k.small;
         placed = All-append IsPlaced v.lanes mid k.placed placed;
         legs = λ n. let o = out n in let q = k.legs n in let s = sum_by-append (λ (l : Lane T). cond {A = ℕ} (has_leg n l) 1 0) v.lanes mid in omega arith;
-        follows = pushed v w e k.follows past refl refl (record {
-          alone = any-opens is_requested refl v.lanes ∙ m.0;
-          room = let q = length-opens v.lanes in let h = m.1 in omega arith;
-          answered = is ∙ ap (request_answer v.traits.req) (sym (any-opens is_responding refl v.lanes));
-          late = late;
-          state = state;
-          allowed = next;
-          after = ap (λ (os : List Open). record { lanes = os; request_end = w.request_end; response_end = w.response_end }) (opens-append v.lanes mid ∙ ap (λ (os : List Open). opens v.lanes ++ os) sees);
+        follows = pushed v w e k.follows past refl refl refl refl (All-append (HasSent v.number (v.log.events ++ e ∷ [])) v.lanes mid (sent_longer v.number v.log.events e v.lanes k.follows.sent) sends) (record {
+          marked = refl;
+          steps = record {
+            alone = any-opens is_requested refl v.lanes ∙ m.0;
+            room = let q = length-opens v.lanes in let h = m.1 in omega arith;
+            answered = is ∙ ap (request_answer v.traits.req) (sym (any-opens is_responding refl v.lanes));
+            late = late;
+            state = state;
+            allowed = next;
+            after = ap (λ (os : List Open). record { lanes = os; request_end = w.request_end; response_end = w.response_end }) (opens-append v.lanes mid ∙ ap (λ (os : List Open). opens v.lanes ++ os) sees);
+          };
         });
-        own = All-push (λ (y : Entry). y.object ≡ Hop v.number) v.log.entries e k.own refl;
       }
 
-  one_open : (e : Entry) (state : LaneState) (item : Option T) → opens (new_lane e state item ∷ []) ≡ lane_after (fresh_lane e) state e.time
+  one_open : (e : Event) (state : LaneState) (item : Option T) → opens (new_lane e state item ∷ []) ≡ lane_after (fresh_lane e.entry) state e.time
   one_open e Free item = refl
   one_open e Requested item = refl
   one_open e Waiting item = refl
@@ -110,30 +136,28 @@ module _ {T : Type 0} where
 
   -- a BEGIN_REQ that takes a lane
   pub kept_entered : (v : HopView T) (p : ℕ) (x : TxnId) (t : ℕ) (answer : TlmSync) (state : LaneState) (item : Option T) (book : Account)
-      → Kept v → All (λ e. e.position < p) v.log.entries → can_begin v ≡ true → answer ≡ begin_answer v → next_state Free BeginReq answer ≡ Some state → v.request_end ≤ t → p < 1000000
-      → ((n : ℕ) → out_of n book.out ≡ out_of n v.book.out + count_by (has_leg n) (new_lane (entry_of v.number p x t BeginReq answer) state item ∷ []))
-      → Kept (entered v (entry_of v.number p x t BeginReq answer) answer state item book)
-  kept_entered v p x t answer state item book k past can is next late below out =
-      let e = entry_of v.number p x t BeginReq answer in
+      → Kept v → All (λ (e : Event). e.position < p) v.log.events → can_begin v ≡ true → answer ≡ begin_answer v → next_state Free BeginReq answer ≡ Some state → v.request_end ≤ t → p < 1000000 → waits Up (new_lane (entry_of v.number p x t BeginReq answer 0) state item) ≡ false
+      → ((n : ℕ) → out_of n book.out ≡ out_of n v.book.out + count_by (has_leg n) (new_lane (entry_of v.number p x t BeginReq answer 0) state item ∷ []))
+      → Kept (entered v (entry_of v.number p x t BeginReq answer 0) answer state item book)
+  kept_entered v p x t answer state item book k past can is next late below idle out =
+      let e = entry_of v.number p x t BeginReq answer 0 in
       let mid = new_lane e state item in
-      kept_begun v p x t answer state (mid ∷ []) book k past can is next late (omega arith) (only mid below) (one_open e state item) out
+      kept_begun v p x t answer state (mid ∷ []) book k past can is next late (omega arith) (only mid below) (not_up v.number (v.log.events ++ e ∷ []) mid idle) (one_open e state item) out
 
   -- a BEGIN_REQ that ends the transaction
-  pub kept_passed : (v : HopView T) (p : ℕ) (x : TxnId) (t : ℕ) → Kept v → All (λ e. e.position < p) v.log.entries → can_begin v ≡ true → Completed ≡ begin_answer v → v.request_end ≤ t
-      → Kept (passed v (entry_of v.number p x t BeginReq Completed) Completed)
+  pub kept_passed : (v : HopView T) (p : ℕ) (x : TxnId) (t : ℕ) → Kept v → All (λ (e : Event). e.position < p) v.log.events → can_begin v ≡ true → Completed ≡ begin_answer v → v.request_end ≤ t
+      → Kept (passed v (entry_of v.number p x t BeginReq Completed 0) Completed)
   kept_passed v p x t k past can is late =
-      let e = entry_of v.number p x t BeginReq Completed in
+      let e = entry_of v.number p x t BeginReq Completed 0 in
       subst (λ (ls : List (Lane T)). Kept (begun_with v e Completed ls v.book)) (append-nil v.lanes)
-      (kept_begun v p x t Completed Free [] v.book k past can is refl late (omega arith) (All-nil IsPlaced) refl (λ n. omega arith))
+      (kept_begun v p x t Completed Free [] v.book k past can is refl late (omega arith) (All-nil IsPlaced) (All-nil (HasSent v.number (v.log.events ++ e ∷ []))) refl (λ n. omega arith))
 
   -- the lane at a place, and those round it
   placed_lane : (v : HopView T) (before : List (Lane T)) (lane : Lane T) (behind : List (Lane T)) → Kept v → v.lanes ≡ before ++ lane ∷ behind → IsPlaced lane
   placed_lane v before lane behind k here = All-head IsPlaced lane behind (All-right IsPlaced before (lane ∷ behind) (All-same IsPlaced (before ++ lane ∷ behind) v.lanes (sym here) k.placed))
 
   placed_round : (v : HopView T) (before : List (Lane T)) (lane : Lane T) (behind mid : List (Lane T)) → Kept v → v.lanes ≡ before ++ lane ∷ behind → All IsPlaced mid → All IsPlaced (before ++ (mid ++ behind))
-  placed_round v before lane behind mid k here placed =
-      let parts : All IsPlaced (before ++ lane ∷ behind) = All-same IsPlaced (before ++ lane ∷ behind) v.lanes (sym here) k.placed in
-      All-append IsPlaced before (mid ++ behind) (All-left IsPlaced before (lane ∷ behind) parts) (All-append IsPlaced mid behind placed (All-tail IsPlaced lane behind (All-right IsPlaced before (lane ∷ behind) parts)))
+  placed_round v before lane behind mid k here placed = all_round IsPlaced v.lanes before lane behind mid k.placed here placed
 
   few_round : (v : HopView T) (before : List (Lane T)) (lane : Lane T) (behind mid : List (Lane T)) → Kept v → v.lanes ≡ before ++ lane ∷ behind → length mid ≤ 1 → length (before ++ (mid ++ behind)) ≤ v.traits.lanes
   few_round v before lane behind mid k here short =
@@ -160,22 +184,22 @@ module _ {T : Type 0} where
   seen l = record { txn = l.txn; position = l.position; state = l.state; last = l.last }
 
   -- a later call, which puts these lanes in place of its own
-  kept_called : (v : HopView T) (before : List (Lane T)) (lane : Lane T) (behind mid : List (Lane T)) (p t : ℕ) (next : LaneState) (phase : Phase) (answer : TlmSync) (book : Account)
-      → Kept v → All (λ e. e.position < p) v.log.entries → v.lanes ≡ before ++ lane ∷ behind → open_by lane lane.state ≡ seen lane ∷ [] → next_state lane.state phase answer ≡ Some next
-      → opens mid ≡ lane_after (seen lane) next t → length mid ≤ 1 → All IsPlaced mid → lane.last ≤ t
-      → InTurn (rules_of v) (board_of v) (entry_of v.number p lane.txn t phase answer) phase answer
+  kept_called : (v : HopView T) (before : List (Lane T)) (lane : Lane T) (behind mid : List (Lane T)) (p t : ℕ) (next : LaneState) (phase : Phase) (answer : TlmSync) (mark : ℕ) (book : Account)
+      → Kept v → All (λ (e : Event). e.position < p) v.log.events → v.lanes ≡ before ++ lane ∷ behind → open_by lane lane.state ≡ seen lane ∷ [] → next_state lane.state phase answer ≡ Some next
+      → opens mid ≡ lane_after (seen lane) next t → length mid ≤ 1 → All IsPlaced mid → All (HasSent v.number (v.log.events ++ entry_of v.number p lane.txn t phase answer mark ∷ [])) mid → lane.last ≤ t
+      → InTurn (rules_of v) (board_of v) (entry_of v.number p lane.txn t phase answer mark).entry phase answer
       → ((n : ℕ) → out_of n book.out + cond {A = ℕ} (has_leg n lane) 1 0 ≡ out_of n v.book.out + count_by (has_leg n) mid)
-      → (Moves (rules_of v) (board_of v) (entry_of v.number p lane.txn t phase answer) phase answer (board_of (called v (before ++ (mid ++ behind)) (entry_of v.number p lane.txn t phase answer) lane.state phase answer book)) → Steps (rules_of v) (board_of v) (entry_of v.number p lane.txn t phase answer) (board_of (called v (before ++ (mid ++ behind)) (entry_of v.number p lane.txn t phase answer) lane.state phase answer book)))
-      → Kept (called v (before ++ (mid ++ behind)) (entry_of v.number p lane.txn t phase answer) lane.state phase answer book)
-  kept_called v before lane behind mid p t next phase answer book k past here one allowed left short placed late turn out into =
-      let e = entry_of v.number p lane.txn t phase answer in
+      → ((m : Moves (rules_of v) (board_of v) (entry_of v.number p lane.txn t phase answer mark).entry phase answer (board_of (called v (before ++ (mid ++ behind)) (entry_of v.number p lane.txn t phase answer mark) lane.state phase answer book))) → m.lane.state ≡ lane.state → Marks (rules_of v) (board_of v) (entry_of v.number p lane.txn t phase answer mark) (board_of (called v (before ++ (mid ++ behind)) (entry_of v.number p lane.txn t phase answer mark) lane.state phase answer book)))
+      → Kept (called v (before ++ (mid ++ behind)) (entry_of v.number p lane.txn t phase answer mark) lane.state phase answer book)
+  kept_called v before lane behind mid p t next phase answer mark book k past here one allowed left short placed sends late turn out into =
+      let e = entry_of v.number p lane.txn t phase answer mark in
       let w = called v (before ++ (mid ++ behind)) e lane.state phase answer book in
       record {
         few = few_round v before lane behind mid k here short;
         small = k.small;
         placed = placed_round v before lane behind mid k here placed;
         legs = λ n. legs_round v before lane behind mid book n k here (out n);
-        follows = pushed v w e k.follows past refl refl (into (record {
+        follows = pushed v w e k.follows past refl refl refl refl (all_round (HasSent v.number (v.log.events ++ e ∷ [])) v.lanes before lane behind mid (sent_longer v.number v.log.events e v.lanes k.follows.sent) here sends) (into (record {
           before = opens before;
           lane = seen lane;
           behind = opens behind;
@@ -186,8 +210,7 @@ module _ {T : Type 0} where
           state = next;
           allowed = allowed;
           after = ap (λ (os : List Open). record { lanes = os; request_end = w.request_end; response_end = w.response_end }) (opens-append before (mid ++ behind) ∙ ap (λ (os : List Open). opens before ++ os) (opens-append mid behind ∙ ap (λ (os : List Open). os ++ opens behind) left));
-        }));
-        own = All-push (λ (y : Entry). y.object ≡ Hop v.number) v.log.entries e k.own refl;
+        }) refl);
       }
 
   -- a lane in a state that isn't Free is one that the model sees
@@ -201,31 +224,34 @@ module _ {T : Type 0} where
   one_moved l Responding t p item = refl
 
   pub kept_end_req : (v : HopView T) (leg : Slip) (before : List (Lane T)) (lane : Lane T) (behind : List (Lane T)) (p t : ℕ)
-      → Kept v → All (λ e. e.position < p) v.log.entries → Redeemed v leg before lane behind → IsLegOf v leg Requested → lane.last ≤ t
-      → Kept (called v (before ++ step_lane lane Waiting t p None ∷ behind) (entry_of v.number p lane.txn t EndReq Accepted) Requested EndReq Accepted (leg_changed v.book leg lane Waiting))
+      → Kept v → All (λ (e : Event). e.position < p) v.log.events → Redeemed v leg before lane behind → IsLegOf v leg Requested → lane.last ≤ t
+      → Kept (called v (before ++ step_lane lane Waiting t p None ∷ behind) (entry_of v.number p lane.txn t EndReq Accepted 0) Requested EndReq Accepted (leg_changed v.book leg lane Waiting))
   kept_end_req v leg before lane behind p t k past r own late =
       let is : lane.state ≡ Requested = leg_state leg.name lane Requested r.has own.state_is in
       let b = leg_changed v.book leg lane Waiting in
       let mid = step_lane lane Waiting t p None in
       let placed : IsPlaced mid = placed_lane v before lane behind k r.here in
-      subst (λ (s : LaneState). Kept (called v (before ++ mid ∷ behind) (entry_of v.number p lane.txn t EndReq Accepted) s EndReq Accepted b)) is
-      (kept_called v before lane behind (mid ∷ []) p t Waiting EndReq Accepted b k past r.here (open_live lane Requested is refl) (ap (λ (s : LaneState). next_state s EndReq Accepted) is) (one_moved lane Waiting t p None) (omega arith) (only mid placed) late tt (legs_changed v.book leg lane Waiting t p r.one r.was r.has) (λ m. m))
+      subst (λ (s : LaneState). Kept (called v (before ++ mid ∷ behind) (entry_of v.number p lane.txn t EndReq Accepted 0) s EndReq Accepted b)) is
+      (kept_called v before lane behind (mid ∷ []) p t Waiting EndReq Accepted 0 b k past r.here (open_live lane Requested is refl) (ap (λ (s : LaneState). next_state s EndReq Accepted) is) (one_moved lane Waiting t p None) (omega arith) (only mid placed) (not_up v.number (v.log.events ++ entry_of v.number p lane.txn t EndReq Accepted 0 ∷ []) mid refl) late tt (legs_changed v.book leg lane Waiting t p r.one r.was r.has) (λ m same. record { steps = m; marked = refl }))
 
   kept_respond_at : (v : HopView T) (leg : Slip) (before : List (Lane T)) (lane : Lane T) (behind : List (Lane T)) (p t : ℕ) (item : T)
-      → Kept v → All (λ e. e.position < p) v.log.entries → Redeemed v leg before lane behind → lane.last ≤ t → v.response_end ≤ t → any_responding v.lanes ≡ false
+      → Kept v → All (λ (e : Event). e.position < p) v.log.events → Redeemed v leg before lane behind → lane.last ≤ t → v.response_end ≤ t → any_responding v.lanes ≡ false
       → (s : LaneState) → lane.state ≡ s → open_by lane s ≡ record { txn = lane.txn; position = lane.position; state = s; last = lane.last } ∷ []
       → ((m : RespMode) → next_state s BeginResp (response_answer m) ≡ Some (state_by (response_answer m)))
-      → Kept (called v (before ++ step_lane lane (state_by (response_answer v.traits.resp)) t p (Some item) ∷ behind) (entry_of v.number p lane.txn t BeginResp (response_answer v.traits.resp)) lane.state BeginResp (response_answer v.traits.resp) (retired v.book leg))
+      → Kept (called v (before ++ step_lane lane (state_by (response_answer v.traits.resp)) t p (Some item) ∷ behind) (entry_of v.number p lane.txn t BeginResp (response_answer v.traits.resp) (mark_of lane.state)) lane.state BeginResp (response_answer v.traits.resp) (retired v.book leg))
   kept_respond_at v leg before lane behind p t item k past r late later free s is live next =
       let answer = response_answer v.traits.resp in
       let mid = step_lane lane (state_by answer) t p (Some item) in
       let placed : IsPlaced mid = placed_lane v before lane behind k r.here in
-      kept_called v before lane behind (mid ∷ []) p t (state_by answer) BeginResp answer (retired v.book leg) k past r.here (open_live lane s is live) (ap (λ (q : LaneState). next_state q BeginResp answer) is ∙ next v.traits.resp) (one_moved lane (state_by answer) t p (Some item)) (omega arith) (only mid placed) late (any-opens is_responding refl v.lanes ∙ free, refl, later) (λ n. omega (arith, legs_ended v.book leg lane r.one r.was r.has n)) (λ m. m)
+      let e = entry_of v.number p lane.txn t BeginResp answer (mark_of lane.state) in
+      let P : Lane T → Type 0 = HasSent v.number (v.log.events ++ e ∷ []) in
+      let sends : All P (mid ∷ []) = All-cons P mid [] (λ up. record { event = e; known = behind_all v.log.events (e ∷ []) e (inl refl); is = record { phase = record { answer = answer; call = record { object = refl; txn = refl; what = refl } }; place = refl; time = refl } }) (All-nil P) in
+      kept_called v before lane behind (mid ∷ []) p t (state_by answer) BeginResp answer (mark_of lane.state) (retired v.book leg) k past r.here (open_live lane s is live) (ap (λ (q : LaneState). next_state q BeginResp answer) is ∙ next v.traits.resp) (one_moved lane (state_by answer) t p (Some item)) (omega arith) (only mid placed) sends late (any-opens is_responding refl v.lanes ∙ free, refl, later) (λ n. omega (arith, legs_ended v.book leg lane r.one r.was r.has n)) (λ m same. record { steps = m; marked = ap mark_of (sym same) })
 
   pub kept_respond : (v : HopView T) (leg : Slip) (before : List (Lane T)) (lane : Lane T) (behind : List (Lane T)) (p t : ℕ) (item : T)
-      → Kept v → All (λ e. e.position < p) v.log.entries → Redeemed v leg before lane behind → lane.last ≤ t → v.response_end ≤ t → any_responding v.lanes ≡ false
+      → Kept v → All (λ (e : Event). e.position < p) v.log.events → Redeemed v leg before lane behind → lane.last ≤ t → v.response_end ≤ t → any_responding v.lanes ≡ false
       → IsLegOf v leg Requested ⊎ IsLegOf v leg Waiting
-      → Kept (called v (before ++ step_lane lane (state_by (response_answer v.traits.resp)) t p (Some item) ∷ behind) (entry_of v.number p lane.txn t BeginResp (response_answer v.traits.resp)) lane.state BeginResp (response_answer v.traits.resp) (retired v.book leg))
+      → Kept (called v (before ++ step_lane lane (state_by (response_answer v.traits.resp)) t p (Some item) ∷ behind) (entry_of v.number p lane.txn t BeginResp (response_answer v.traits.resp) (mark_of lane.state)) lane.state BeginResp (response_answer v.traits.resp) (retired v.book leg))
   kept_respond v leg before lane behind p t item k past r late later free which =
       ⊎_elim
       (λ (own : IsLegOf v leg Requested). kept_respond_at v leg before lane behind p t item k past r late later free Requested (leg_state leg.name lane Requested r.has own.state_is) refl from_requested)
@@ -233,32 +259,33 @@ module _ {T : Type 0} where
       which
 
   pub kept_end_resp : (v : HopView T) (leg : Slip) (before : List (Lane T)) (lane : Lane T) (behind : List (Lane T)) (p t : ℕ)
-      → Kept v → All (λ e. e.position < p) v.log.entries → Redeemed v leg before lane behind → IsLegOf v leg Responding → lane.last ≤ t
-      → Kept (called v (before ++ behind) (entry_of v.number p lane.txn t EndResp Completed) Responding EndResp Completed (retired v.book leg))
+      → Kept v → All (λ (e : Event). e.position < p) v.log.events → Redeemed v leg before lane behind → IsLegOf v leg Responding → lane.last ≤ t
+      → Kept (called v (before ++ behind) (entry_of v.number p lane.txn t EndResp Completed 0) Responding EndResp Completed (retired v.book leg))
   kept_end_resp v leg before lane behind p t k past r own late =
       let is : lane.state ≡ Responding = leg_state leg.name lane Responding r.has own.state_is in
       let b = retired v.book leg in
-      subst (λ (s : LaneState). Kept (called v (before ++ behind) (entry_of v.number p lane.txn t EndResp Completed) s EndResp Completed b)) is
-      (kept_called v before lane behind [] p t Free EndResp Completed b k past r.here (open_live lane Responding is refl) (ap (λ (s : LaneState). next_state s EndResp Completed) is) refl (omega arith) (All-nil IsPlaced) late tt (λ n. omega (arith, legs_ended v.book leg lane r.one r.was r.has n)) (λ m. m))
+      subst (λ (s : LaneState). Kept (called v (before ++ behind) (entry_of v.number p lane.txn t EndResp Completed 0) s EndResp Completed b)) is
+      (kept_called v before lane behind [] p t Free EndResp Completed 0 b k past r.here (open_live lane Responding is refl) (ap (λ (s : LaneState). next_state s EndResp Completed) is) refl (omega arith) (All-nil IsPlaced) (All-nil (HasSent v.number (v.log.events ++ entry_of v.number p lane.txn t EndResp Completed 0 ∷ []))) late tt (λ n. omega (arith, legs_ended v.book leg lane r.one r.was r.has n)) (λ m same. record { steps = m; marked = refl }))
 
   -- a fetch, which puts these lanes in place of one that the model sees as they are
   kept_fetched : (v : HopView T) (before : List (Lane T)) (lane : Lane T) (behind mid : List (Lane T)) (book : Account)
-      → Kept v → v.lanes ≡ before ++ lane ∷ behind → opens mid ≡ open_by lane lane.state → length mid ≤ 1 → All IsPlaced mid
+      → Kept v → v.lanes ≡ before ++ lane ∷ behind → opens mid ≡ open_by lane lane.state → length mid ≤ 1 → All IsPlaced mid → All (HasSent v.number v.log.events) mid
       → ((n : ℕ) → out_of n book.out + cond {A = ℕ} (has_leg n lane) 1 0 ≡ out_of n v.book.out + count_by (has_leg n) mid)
       → Kept (with_lanes v (before ++ (mid ++ behind)) book)
-  kept_fetched v before lane behind mid book k here sees short placed out =
+  kept_fetched v before lane behind mid book k here sees short placed sends out =
       record {
         few = few_round v before lane behind mid k here short;
         small = k.small;
         placed = placed_round v before lane behind mid k here placed;
         legs = λ n. legs_round v before lane behind mid book n k here (out n);
         follows = record {
-          reached = subst (λ (os : List Open). Reaches (rules_of v) start v.log.entries (record { lanes = os; request_end = v.request_end; response_end = v.response_end }))
+          reached = subst (λ (os : List Open). ReachesMarked (rules_of v) start v.log.events (record { lanes = os; request_end = v.request_end; response_end = v.response_end }))
               (ap opens here ∙ opens-append before (lane ∷ behind) ∙ ap (λ (os : List Open). opens before ++ (os ++ opens behind)) (sym sees) ∙ ap (λ (os : List Open). opens before ++ os) (sym (opens-append mid behind)) ∙ sym (opens-append before (mid ++ behind)))
               k.follows.reached;
           ordered = k.follows.ordered;
+          own = k.follows.own;
+          sent = all_round (HasSent v.number v.log.events) v.lanes before lane behind mid k.follows.sent here sends;
         };
-        own = k.own;
       }
 
   -- a lane that carries something has no leg out
@@ -278,7 +305,7 @@ module _ {T : Type 0} where
   kept_handed v before lane behind item k here carried =
       let mid = step_lane lane lane.state lane.last lane.latest None in
       let placed : IsPlaced mid = placed_lane v before lane behind k here in
-      kept_fetched v before lane behind (mid ∷ []) (leg_out v.book lane.position lane.state) k here (open_same lane lane.state None) (omega arith) (only mid placed)
+      kept_fetched v before lane behind (mid ∷ []) (leg_out v.book lane.position lane.state) k here (open_same lane lane.state None) (omega arith) (only mid placed) (not_up v.number v.log.events mid refl)
       (λ n. let o = out_issued n v.book (leg_name lane) in let z = no_leg n lane item carried in omega arith)
 
   -- the response of an ended transaction was fetched
@@ -286,5 +313,5 @@ module _ {T : Type 0} where
       → Kept v → v.lanes ≡ before ++ lane ∷ behind → lane.item ≡ Some item → lane.state ≡ Free
       → Kept (with_lanes v (before ++ behind) v.book)
   kept_freed v before lane behind item k here carried ended =
-      kept_fetched v before lane behind [] v.book k here (ap (λ (s : LaneState). open_by lane s) (sym ended)) (omega arith) (All-nil IsPlaced)
+      kept_fetched v before lane behind [] v.book k here (ap (λ (s : LaneState). open_by lane s) (sym ended)) (omega arith) (All-nil IsPlaced) (All-nil (HasSent v.number v.log.events))
       (λ n. let z = no_leg n lane item carried in omega arith)

@@ -1,27 +1,27 @@
--- Legs of replies fit, and a leg's lane has the transaction of its BEGIN_REQ.
-use Rattle.std.proofs.Common.{◌≡◌, ◌≢◌, ◌⊎◌, ℕ, zero, suc, ◌+◌, ◌*◌, ◌<◌, ◌≤◌, ◌==◌, ◌&&◌, ◌||◌, Bool, true, false, cond, List, [], ◌∷◌, ◌++◌, length, Option, Some, None, refl, sym, ap, ◌∙◌, subst, ⊎_elim, arith}
-use Rattle.std.specs.Prelude.{◌/◌, ◌%◌}
+-- Legs of replies fit, a leg's lane has the transaction of its BEGIN_REQ, and the times of a hop are those of its log.
+use Rattle.std.proofs.Common.{◌≡◌, ◌≢◌, ◌⊎◌, ℕ, suc, ◌<◌, ◌≤◌, ◌==◌, ◌&&◌, ◌||◌, Bool, true, false, cond, List, [], ◌∷◌, ◌++◌, Option, Some, None, refl, sym, ap, ◌∙◌, subst, ⊎_elim, inl, inr, arith}
+use Rattle.std.specs.Prelude.{◌%◌}
 use Rattle.std.specs.List.{All, AllPairs, count_by, find, list_any}
 use Rattle.std.proofs.lemmas.Bool.{cases_eq, ne_eqb}
 use Rattle.std.proofs.lemmas.List.Elements.{All-head, All-tail}
 use Rattle.std.proofs.lemmas.List.Sums.{sum_by-cons}
-use mathlib.Core.Option.{some, some-ne-none, some-injective}
-use lib.ListN.{get_elem?}
 use Rattle.tlm_types.specs.declared.words.TxnId.{TxnId}
+use Rattle.tlm_types.specs.declared.words.ObjectNo.TheVariants.{Hop}
 use Rattle.tlm_types.specs.declared.entry.Entry.{Entry}
 use Rattle.base_phases.specs.Sequences.{IsBegun}
 use Rattle.base_phases.specs.declared.phases.LaneState.{LaneState}
 use Rattle.base_phases.specs.declared.phases.LaneState.TheVariants.{Free, Requested, Waiting, Responding}
-use Rattle.token_book.specs.Account.{Account, Slip, slip}
-use Rattle.view_lists.specs.Lists.{Has}
-use Rattle.view_lists.proofs.Members.{has_right}
+use Rattle.token_book.specs.Account.{Account, Slip}
 use Rattle.hop_model.specs.Board.{Open}
 use Rattle.hop_model.specs.Calls.{begins_request}
 use Rattle.hop_model.specs.Lives.{HasOneBeginAt, life_of}
-use Rattle.hop_model.proofs.LifeLemmas.{lanes_begun, life_begun}
+use Rattle.hop_model.proofs.LifeLemmas.{life_begun}
+use Rattle.flow_model.specs.Events.{Among, Event, FindsAt, IsOwn, entries}
 use Rattle.tlm_types.specs.declared.words.Phase.TheVariants.{BeginReq, EndReq, BeginResp, EndResp}
 use Rattle.tlm_types.specs.declared.words.TlmSync.{TlmSync}
 use Rattle.tlm_types.specs.declared.words.TlmSync.TheVariants.{Accepted, Updated, Completed}
+use Rattle.numbered_log.specs.Logged.{IsBefore}
+use Rattle.numbered_log.proofs.Ordered.{among_has, each_has, one_entry}
 use Rattle.hop_object.specs.declared.lane.Lane.{Lane}
 use Rattle.hop_object.specs.declared.call.Begun.{Begun}
 use Rattle.hop_object.specs.declared.call.Responded.{Responded}
@@ -32,59 +32,48 @@ use Rattle.hop_object.specs.declared.call.HopReply.TheVariants as Replies
 use Rattle.hop_object.specs.States.{number_of_state}
 use Rattle.hop_object.specs.View.{HopView}
 use Rattle.hop_object.specs.Lanes.{any_responding, has_leg, leg_name, open_by, opens}
-use Rattle.hop_object.specs.Hops.{begin_answer, begin_entry, board_of, can_begin, leg_at, rules_of, Follows, IsBefore, IsLegOf}
+use Rattle.hop_object.specs.Hops.{begin_answer, begin_entry, board_of, can_begin, leg_at, reached_of, rules_of, Follows, IsLegOf}
 use Rattle.hop_object.specs.Calls.{begun_as, refused, AnswersRequest, AnswersResponse, HandsOut, TakesUp}
-use Rattle.hop_object.specs.Objects.{knows, lane_of, txn_of, Applied, IsFit}
-use Rattle.hop_object.specs.Laws.{BegunFits, IsOwed, LegsFit, NamesTransaction, RespondedFits}
+use Rattle.hop_object.specs.Objects.{knows, lane_of, last_of, state_of, txn_of, Applied, IsFit}
+use Rattle.hop_object.specs.Laws.{BegunFits, HasTimes, IsOwed, LegsFit, NamesTransaction, RespondedFits}
 use Rattle.hop_object.proofs.Boards.{opens-append}
 use Rattle.hop_object.proofs.LegLemmas.{leg_parts, small}
 use Rattle.hop_object.proofs.Meanings.{decide}
+use Rattle.hop_object.proofs.TimeLemmas.{AreKnown, times_are_known}
 
 never : (a : Bool) → a && false ≡ false
 never true = refl
 never false = refl
 
+pub among_middle : {X : Type 0} (xs ys : List X) (x : X) → Among (xs ++ x ∷ ys) x
+among_middle [] ys x = inl refl
+among_middle (y ∷ xs) ys x = inr (among_middle xs ys x)
+
 cond_one : (b : Bool) → cond {A = ℕ} b 1 0 ≤ 1
 cond_one true = omega arith
 cond_one false = omega arith
 
--- the entries with one position are one
-before_all : (x : Entry) (xs : List Entry) → AllPairs IsBefore (x ∷ xs) → (e : Entry) → Has xs e → x.position < e.position
-before_all x xs f e h = at_each xs (λ k d below. f 0 (suc k) d (omega arith) (omega arith)) h.0 h.1
-  where
-    at_each : (ys : List Entry) → All (λ y. x.position < y.position) ys → (k : ℕ) → get_elem? ys k ≡ some e → x.position < e.position
-    at_each [] g k is = absurd (some-ne-none e (sym is))
-    at_each (y ∷ ys) g zero is = subst (λ (z : Entry). x.position < z.position) (some-injective y e is) (g 0 y (omega arith))
-    at_each (y ∷ ys) g (suc k) is = at_each ys (λ j d below. g (suc j) d (omega arith)) k is
-
-pub one_entry : (xs : List Entry) → AllPairs IsBefore xs → (d e : Entry) → Has xs d → Has xs e → d.position ≡ e.position → d ≡ e
-one_entry [] f d e (k, is) h same = absurd (some-ne-none d (sym is))
-one_entry (x ∷ xs) f d e (zero, is) (zero, at) same = sym (some-injective x d is) ∙ some-injective x e at
-one_entry (x ∷ xs) f d e (zero, is) (suc j, at) same = let p = before_all x xs f e (j, at) in let q : x.position ≡ d.position = ap (λ (y : Entry). y.position) (some-injective x d is) in absurd (omega arith)
-one_entry (x ∷ xs) f d e (suc k, is) (zero, at) same = let p = before_all x xs f d (k, is) in let q : x.position ≡ e.position = ap (λ (y : Entry). y.position) (some-injective x e at) in absurd (omega arith)
-one_entry (x ∷ xs) f d e (suc k, is) (suc j, at) same = one_entry xs (λ i l z less below. f (suc i) (suc l) z (omega arith) (omega arith)) d e (k, is) (j, at) same
-
 -- no entry stands at a position that is before all of them
-none_there : (p : ℕ) (es : List Entry) → All (λ e. p < e.position) es → count_by (λ (e : Entry). begins_request e.what && (e.position == p)) es ≡ 0
+none_there : (p : ℕ) (es : List Event) → All (λ (e : Event). p < e.position) es → count_by (λ (e : Entry). begins_request e.what && (e.position == p)) (entries es) ≡ 0
 none_there p [] all = refl
 none_there p (e ∷ es) all =
-    let here : p < e.position = All-head (λ (y : Entry). p < y.position) e es all in
+    let here : p < e.position = All-head (λ (y : Event). p < y.position) e es all in
     let apart : (e.position == p) ≡ false = ne_eqb e.position p (λ same. absurd (omega arith)) in
     let fails : (begins_request e.what && (e.position == p)) ≡ false = ap (λ (b : Bool). begins_request e.what && b) apart ∙ never (begins_request e.what) in
     let one : cond {A = ℕ} (begins_request e.what && (e.position == p)) 1 0 ≡ 0 = ap (λ (b : Bool). cond {A = ℕ} b 1 0) fails in
-    let n = sum_by-cons (λ (x : Entry). cond {A = ℕ} (begins_request x.what && (x.position == p)) 1 0) e es in
-    let rest = none_there p es (All-tail (λ (y : Entry). p < y.position) e es all) in
+    let n = sum_by-cons (λ (x : Entry). cond {A = ℕ} (begins_request x.what && (x.position == p)) 1 0) e.entry (entries es) in
+    let rest = none_there p es (All-tail (λ (y : Event). p < y.position) e es all) in
     omega arith
 
 -- one BEGIN_REQ at most stands at a position
-one_begin : (p : ℕ) (es : List Entry) → AllPairs IsBefore es → HasOneBeginAt p es
+one_begin : (p : ℕ) (es : List Event) → AllPairs IsBefore es → HasOneBeginAt p (entries es)
 one_begin p [] f = omega arith
 one_begin p (e ∷ es) f =
     let later : AllPairs IsBefore es = λ i j d less below. f (suc i) (suc j) d (omega arith) (omega arith) in
-    let n = sum_by-cons (λ (x : Entry). cond {A = ℕ} (begins_request x.what && (x.position == p)) 1 0) e es in
+    let n = sum_by-cons (λ (x : Entry). cond {A = ℕ} (begins_request x.what && (x.position == p)) 1 0) e.entry (entries es) in
     ⊎_elim
     (λ (same : e.position ≡ p).
-    let behind : All (λ y. p < y.position) es = λ k d below. let q = f 0 (suc k) d (omega arith) (omega arith) in omega arith in
+    let behind : All (λ (y : Event). p < y.position) es = λ k d below. let q = f 0 (suc k) d (omega arith) (omega arith) in omega arith in
     let z = none_there p es behind in
     let c = cond_one (begins_request e.what && (e.position == p)) in
     omega arith)
@@ -117,29 +106,68 @@ module _ {X : Type 0} where
 
 module _ {T : Type 0} where
   -- the calls of one lane begin one of the eleven sequences
-  pub lives_begun : (h : HopView T) (f : Follows h) (position : ℕ) → IsBegun (life_of position (rules_of h) h.log.entries (board_of h) f.reached)
-  lives_begun h f position = life_begun (rules_of h) h.log.entries (board_of h) f.reached position (one_begin position h.log.entries f.ordered)
+  pub lives_begun : (h : HopView T) (f : Follows h) (position : ℕ) → IsBegun (life_of position (rules_of h) (entries h.log.events) (board_of h) (reached_of h f))
+  lives_begun h f position = life_begun (rules_of h) (entries h.log.events) (board_of h) (reached_of h f) position (one_begin position h.log.events f.ordered)
 
   -- the model sees a lane whose state isn't Free
-  live_open : (l : Lane T) (s : LaneState) → 0 < number_of_state s → open_by l s ≡ record { txn = l.txn; position = l.position; state = s; last = l.last } ∷ []
+  pub live_open : (l : Lane T) (s : LaneState) → 0 < number_of_state s → open_by l s ≡ record { txn = l.txn; position = l.position; state = s; last = l.last } ∷ []
   live_open l Free h = absurd (omega arith)
   live_open l Requested h = refl
   live_open l Waiting h = refl
   live_open l Responding h = refl
 
-  pub names_transaction : (h : HopView T) (leg : Slip) → Follows h → knows h leg ≡ true → 0 < leg.name % 4 → NamesTransaction h leg
-  names_transaction h leg f known live e has at =
+  -- what the model sees of the lane of a leg
+  pub record Seen (h : HopView T) (leg : Slip) : Type 0 where
+    pub lane : Lane T
+    pub found : lane_of h leg ≡ Some lane
+    pub name : leg_name lane ≡ leg.name
+    pub there : Among (opens h.lanes) (record { txn = lane.txn; position = lane.position; state = lane.state; last = lane.last })
+
+  seen_there : (h : HopView T) (leg : Slip) → knows h leg ≡ true → 0 < leg.name % 4 → Seen h leg
+  seen_there h leg known live =
       let r = found_there (has_leg leg.name) h.lanes known in
       let lane = r.item in
       let name : leg_name lane ≡ leg.name = (leg_parts leg.name lane r.passes).1 in
       let s = small lane.state in
       let seen = live_open lane lane.state (omega arith) in
       let o : Open = record { txn = lane.txn; position = lane.position; state = lane.state; last = lane.last } in
-      let b = lanes_begun (rules_of h) h.log.entries (board_of h) f.reached (opens r.before) o (opens r.behind) (ap opens r.here ∙ opens-append r.before (lane ∷ r.behind) ∙ ap (λ (os : List Open). opens r.before ++ (os ++ opens r.behind)) seen) in
-      let there : Has h.log.entries b.entry = subst (λ (l : List Entry). Has l b.entry) (sym b.here) (has_right b.before (b.entry ∷ b.behind) b.entry (0, refl)) in
-      let begun = b.position in
-      let one : b.entry ≡ e = one_entry h.log.entries f.ordered b.entry e there has (omega arith) in
-      ap txn_of r.found ∙ sym b.txn ∙ ap (λ (y : Entry). y.txn) one
+      let here : opens h.lanes ≡ opens r.before ++ o ∷ opens r.behind = ap opens r.here ∙ opens-append r.before (lane ∷ r.behind) ∙ ap (λ (os : List Open). opens r.before ++ (os ++ opens r.behind)) seen in
+      record { lane = lane; found = r.found; name = name; there = subst (λ (os : List Open). Among os o) (sym here) (among_middle (opens r.before) (opens r.behind) o) }
+
+  -- the times of the board are those of the log
+  pub board_known : (h : HopView T) → Follows h → AreKnown h.number h.log.events (board_of h)
+  board_known h f = times_are_known h.number (rules_of h) h.log.events (board_of h) (λ e m. each_has (λ (y : Event). y.object ≡ Hop h.number) h.log.events f.own e (among_has h.log.events e m)) f.reached
+
+  pub names_transaction : (h : HopView T) (leg : Slip) → Follows h → knows h leg ≡ true → 0 < leg.name % 4 → NamesTransaction h leg
+  names_transaction h leg f known live =
+      let s = seen_there h leg known live in
+      let b = (board_known h f).begun (record { txn = s.lane.txn; position = s.lane.position; state = s.lane.state; last = s.lane.last }) s.there in
+      let q = small s.lane.state in
+      let name = s.name in
+      let place = b.is.place in
+      let own : txn_of (lane_of h leg) ≡ s.lane.txn = ap txn_of s.found in
+      let call = b.is.phase.call in
+      record {
+        begun = record {
+          event = b.event;
+          known = b.known;
+          is = record { phase = record { answer = b.is.phase.answer; call = record { object = call.object; txn = call.txn ∙ sym own; what = call.what } }; place = omega arith };
+        };
+        one = λ e has at. own ∙ sym call.txn ∙ ap (λ (y : Event). y.txn) (one_entry h.log.events f.ordered b.event e (among_has h.log.events b.event b.known) has (omega arith));
+        state = ap (λ (o : Option (Lane T)). number_of_state (state_of o)) s.found ∙ (omega arith);
+      }
+
+  pub has_times : (h : HopView T) → Follows h → HasTimes h
+  has_times h f =
+      let b = board_known h f in
+      record {
+        request = b.request;
+        response = b.response;
+        last = λ leg known live.
+            let s = seen_there h leg known live in
+            subst (λ (o : Option (Lane T)). FindsAt (Among h.log.events) (IsOwn (txn_of o) h.number) (last_of o)) (sym s.found)
+            (b.last (record { txn = s.lane.txn; position = s.lane.position; state = s.lane.state; last = s.lane.last }) s.there);
+      }
 
   -- a leg that was issued
   pub issued_fits : (w : HopView T) (book : Account) (position : ℕ) (state : LaneState) (leg : Slip) → leg ≡ leg_at book position state → book.table ≡ w.book.table → book.owner ≡ w.book.owner → IsLegOf w leg state
@@ -154,7 +182,7 @@ module _ {T : Type 0} where
   same_books : (v w : HopView T) → w.book.table ≡ v.book.table → w.book.owner ≡ v.book.owner → (leg : Slip) (position : ℕ) (state : LaneState) → leg ≡ leg_at v.book position state → IsLegOf w leg state
   same_books v w table owner leg position state is = issued_fits w v.book position state leg is (sym table) (sym owner)
 
-  begun_fits : (v : HopView T) (e : Entry) (item : T) (answer : TlmSync) → BegunFits (begun_as v e item answer).0 (begun_as v e item answer).1
+  begun_fits : (v : HopView T) (e : Event) (item : T) (answer : TlmSync) → BegunFits (begun_as v e item answer).0 (begun_as v e item answer).1
   begun_fits v e item Accepted = tt
   begun_fits v e item Completed = tt
   begun_fits v e item (Updated BeginReq) = tt

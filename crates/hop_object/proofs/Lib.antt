@@ -2,11 +2,13 @@ pub mod Boards
 pub mod Places
 pub mod Firsts
 pub mod LegLemmas
+pub mod Marked
 pub mod Keeps
 pub mod Items
 pub mod Meanings
 pub mod Carried
+pub mod TimeLemmas
+pub mod MarkLemmas
 pub mod LegLaws
-pub mod Benches
-pub mod SeatedHops
+pub mod ReplyLaws
 pub mod NewLemmas

@@ -1,24 +1,20 @@
 -- What a call leaves, in the words of an object.
-use Rattle.std.proofs.Common.{◌≡◌, ◌⊎◌, ℕ, suc, ◌+◌, ◌-◌, ◌<◌, Bool, true, false, not, ◌&&◌, List, [], ◌∷◌, ◌++◌, length, map, take, drop, Option, Some, None, refl, sym, ap, ◌∙◌, subst, arith, length-append}
+use Rattle.std.proofs.Common.{◌≡◌, ℕ, ◌+◌, ◌-◌, ◌<◌, Bool, true, false, not, ◌&&◌, [], ◌∷◌, ◌++◌, length, map, Option, Some, None, refl, sym, ap, ◌∙◌, arith, length-append}
 use Rattle.std.specs.Prelude.{max}
-use Rattle.std.specs.List.{All}
 use Rattle.std.proofs.lemmas.List.{map-append}
-use Rattle.std.proofs.lemmas.List.Elements.{All-nil, All-cons}
 use Rattle.tlm_types.specs.declared.words.TxnId.{TxnId}
-use Rattle.tlm_types.specs.declared.words.ObjectNo.TheVariants.{Hop}
 use Rattle.tlm_types.specs.declared.words.Phase.{Phase}
 use Rattle.tlm_types.specs.declared.words.Phase.TheVariants as Phases
 use Rattle.tlm_types.specs.declared.words.TlmSync.{TlmSync}
 use Rattle.tlm_types.specs.declared.words.TlmSync.TheVariants.{Accepted, Updated, Completed}
-use Rattle.tlm_types.specs.declared.entry.Entry.{Entry}
-use Rattle.tlm_types.specs.Log.{LogView, with_entry}
 use Rattle.base_phases.specs.declared.phases.LaneState.{LaneState}
-use Rattle.base_phases.specs.declared.phases.LaneState.TheVariants.{Free, Requested, Waiting, Responding}
 use Rattle.token_book.specs.Account.{Slip}
-use Rattle.view_lists.specs.Lists.{Has}
-use Rattle.view_lists.proofs.Members.{has_later}
-use Rattle.shared_object.specs.Written.{MayWrite, Written, logged, noted, wrote}
+use Rattle.shared_object.specs.Written.{MayWrite, wrote}
 use Rattle.hop_model.specs.Answers.{response_answer}
+use Rattle.flow_model.specs.Events.{Event}
+use Rattle.flow_model.specs.Marked.{mark_of}
+use Rattle.numbered_log.specs.Logged.{LoggedView, with_event, written_by}
+use Rattle.numbered_log.proofs.Ordered.{all_past}
 use Rattle.hop_object.specs.declared.lane.Lane.{Lane}
 use Rattle.hop_object.specs.declared.call.Begun.{Begun}
 use Rattle.hop_object.specs.declared.call.Responded.{Responded}
@@ -30,7 +26,7 @@ use Rattle.hop_object.specs.View.{HopView}
 use Rattle.hop_object.specs.Lanes.{any_responding, has_leg}
 use Rattle.hop_object.specs.Hops.{can_begin, entry_of, MayCall}
 use Rattle.hop_object.specs.Calls.{begun_as, AnswersRequest, AnswersResponse, EndsRequest, EndsResponse, FetchesDown, FetchesUp, TakesUp}
-use Rattle.hop_object.specs.Objects.{answer_by, built_of, content_by, is_admitted, knows, lane_of, last_of, txn_of, Applied}
+use Rattle.hop_object.specs.Objects.{answer_by, built_of, content_by, is_admitted, knows, lane_of, last_of, mark_by, phase_by, state_of, time_by, txn_by, txn_of, Applied}
 use Rattle.hop_object.proofs.LegLemmas.{both}
 use Rattle.hop_object.proofs.Places.{found_any}
 
@@ -49,20 +45,19 @@ pub both_true : (a b : Bool) → a ≡ true → b ≡ false → a && not b ≡ t
 both_true true false e f = refl
 both_true a b e f = cc
 
--- each entry stands before a position that is past all that was written
-all_past : (es : List Entry) (p : ℕ) → ((x : Written) → Has (map (noted 0) es) x → x.position < p) → All (λ e. e.position < p) es
-all_past [] p h = All-nil (λ (e : Entry). e.position < p)
-all_past (e ∷ es) p h = All-cons (λ (y : Entry). y.position < p) e es (h (noted 0 e) (0, refl)) (all_past es p (λ x k. h x (has_later (noted 0 e) (map (noted 0) es) x k)))
-
 module _ {T : Type 0} where
+  -- the entry of a call
+  abbrev pub entry_by : HopView T → ℕ → HopCall T → Event
+  entry_by v p call = entry_of v.number p (txn_by v call) (time_by v call) (phase_by call) (answer_by v call) (mark_by v call)
+
   -- what a call leaves: how the hop is built, and its entry if it is taken
   pub record Leaves (v : HopView T) (p : ℕ) (call : HopCall T) (w : HopView T) : Type 0 where
     pub built : built_of w ≡ built_of v
-    pub taken : is_admitted v call ≡ true → w.log ≡ with_entry v.log (logged (Hop v.number) (wrote p (content_by v call)))
+    pub taken : is_admitted v call ≡ true → w.log ≡ with_event v.log (entry_by v p call)
     pub other : is_admitted v call ≡ false → w.log ≡ v.log
 
   -- BEGIN_REQ
-  begun_built : (v : HopView T) (e : Entry) (item : T) (answer : TlmSync) → built_of (begun_as v e item answer).0 ≡ built_of v
+  begun_built : (v : HopView T) (e : Event) (item : T) (answer : TlmSync) → built_of (begun_as v e item answer).0 ≡ built_of v
   begun_built v e item Accepted = refl
   begun_built v e item Completed = refl
   begun_built v e item (Updated Phases.BeginReq) = refl
@@ -70,7 +65,7 @@ module _ {T : Type 0} where
   begun_built v e item (Updated Phases.BeginResp) = refl
   begun_built v e item (Updated Phases.EndResp) = refl
 
-  begun_log : (v : HopView T) (e : Entry) (item : T) (answer : TlmSync) → (begun_as v e item answer).0.log ≡ with_entry v.log e
+  begun_log : (v : HopView T) (e : Event) (item : T) (answer : TlmSync) → (begun_as v e item answer).0.log ≡ with_event v.log e
   begun_log v e item Accepted = refl
   begun_log v e item Completed = refl
   begun_log v e item (Updated Phases.BeginReq) = refl
@@ -80,7 +75,7 @@ module _ {T : Type 0} where
 
   begins_leave : (v : HopView T) (p : ℕ) (x : TxnId) (at : ℕ) (item : T) (w : HopView T) (answer : Begun T) → AnswersRequest v p x at item w answer → Leaves v p (Calls.BeginReq x at item) w
   begins_leave v p x at item w answer a =
-      let e = logged (Hop v.number) (wrote p (content_by v (Calls.BeginReq x at item))) in
+      let e = entry_by v p (Calls.BeginReq x at item) in
       let e_answer : TlmSync = answer_by v (Calls.BeginReq x at item) in
       record {
         built = decide (can_begin v)
@@ -91,11 +86,11 @@ module _ {T : Type 0} where
       }
 
   -- the entry of a call by a leg names the transaction of its lane
-  entry_here : (v : HopView T) (p at : ℕ) (leg : Slip) (lane : Lane T) (time : ℕ) (phase : Phase) (answer : TlmSync) (when : ℕ → ℕ) → lane_of v leg ≡ Some lane → time ≡ when lane.last
-      → with_entry v.log (entry_of v.number p lane.txn time phase answer) ≡ with_entry v.log (entry_of v.number p (txn_of (lane_of v leg)) (when (last_of (lane_of v leg))) phase answer)
-  entry_here v p at leg lane time phase answer when leg_is time_is =
-      ap (λ (t : ℕ). with_entry v.log (entry_of v.number p lane.txn t phase answer)) time_is
-      ∙ ap (λ (o : Option (Lane T)). with_entry v.log (entry_of v.number p (txn_of o) (when (last_of o)) phase answer)) (sym leg_is)
+  entry_here : (v : HopView T) (p at : ℕ) (leg : Slip) (lane : Lane T) (time : ℕ) (phase : Phase) (answer : TlmSync) (when : ℕ → ℕ) (mark : LaneState → ℕ) → lane_of v leg ≡ Some lane → time ≡ when lane.last
+      → with_event v.log (entry_of v.number p lane.txn time phase answer (mark lane.state)) ≡ with_event v.log (entry_of v.number p (txn_of (lane_of v leg)) (when (last_of (lane_of v leg))) phase answer (mark (state_of (lane_of v leg))))
+  entry_here v p at leg lane time phase answer when mark leg_is time_is =
+      ap (λ (t : ℕ). with_event v.log (entry_of v.number p lane.txn t phase answer (mark lane.state))) time_is
+      ∙ ap (λ (o : Option (Lane T)). with_event v.log (entry_of v.number p (txn_of o) (when (last_of o)) phase answer (mark (state_of o)))) (sym leg_is)
 
   known : (v : HopView T) (leg : Slip) (lane : Lane T) → lane_of v leg ≡ Some lane → knows v leg ≡ true
   known v leg lane is = found_any (has_leg leg.name) v.lanes lane is
@@ -104,7 +99,7 @@ module _ {T : Type 0} where
   end_req_leaves : (v : HopView T) (p : ℕ) (leg : Slip) (at : ℕ) (w : HopView T) (next : Slip) (time : ℕ) → EndsRequest v leg p at w next time → Leaves v p (Calls.EndReq leg at) w
   end_req_leaves v p leg at w next time r = record {
     built = ap built_of r.after;
-    taken = λ _. ap (λ (h : HopView T). h.log) r.after ∙ entry_here v p at leg r.lane time Phases.EndReq Accepted (λ t. max at t) r.leg_is r.time_is;
+    taken = λ _. ap (λ (h : HopView T). h.log) r.after ∙ entry_here v p at leg r.lane time Phases.EndReq Accepted (λ t. max at t) (λ s. 0) r.leg_is r.time_is;
     other = λ never. not_both (knows v leg) (known v leg r.lane r.leg_is) never;
   }
 
@@ -112,7 +107,7 @@ module _ {T : Type 0} where
   end_resp_leaves : (v : HopView T) (p : ℕ) (leg : Slip) (at : ℕ) (w : HopView T) (time : ℕ) → EndsResponse v leg p at w time → Leaves v p (Calls.EndResp leg at) w
   end_resp_leaves v p leg at w time r = record {
     built = ap built_of r.after;
-    taken = λ _. ap (λ (h : HopView T). h.log) r.after ∙ entry_here v p at leg r.lane time Phases.EndResp Completed (λ t. max at t) r.leg_is r.time_is;
+    taken = λ _. ap (λ (h : HopView T). h.log) r.after ∙ entry_here v p at leg r.lane time Phases.EndResp Completed (λ t. max at t) (λ s. 0) r.leg_is r.time_is;
     other = λ never. not_both (knows v leg) (known v leg r.lane r.leg_is) never;
   }
 
@@ -121,7 +116,7 @@ module _ {T : Type 0} where
   responds_leave v p leg at item w answer a = record {
     built = decide (any_responding v.lanes) (λ open_. ap built_of (a.busy open_).same) (λ free. ap built_of (a.sent free).after);
     taken = λ is. let s = a.sent (flip (any_responding v.lanes) (both (knows v leg) (not (any_responding v.lanes)) is).1) in
-        ap (λ (h : HopView T). h.log) s.after ∙ entry_here v p at leg s.lane s.time Phases.BeginResp (response_answer v.traits.resp) (λ t. max (max at t) v.response_end) s.leg_is s.time_is;
+        ap (λ (h : HopView T). h.log) s.after ∙ entry_here v p at leg s.lane s.time Phases.BeginResp (response_answer v.traits.resp) (λ t. max (max at t) v.response_end) mark_of s.leg_is s.time_is;
     other = λ never. decide (any_responding v.lanes)
         (λ open_. ap (λ (h : HopView T). h.log) (a.busy open_).same)
         (λ free. let s = a.sent free in not_both (is_admitted v (Calls.BeginResp leg at item)) (both_true (knows v leg) (any_responding v.lanes) (known v leg s.lane s.leg_is) free) never);
@@ -154,26 +149,26 @@ module _ {T : Type 0} where
   leaves v p call reply w h = absurd h
 
   -- the entries, as written, after one more
-  pub one_written : (v w : HopView T) (p : ℕ) (call : HopCall T) → w.log ≡ with_entry v.log (logged (Hop v.number) (wrote p (content_by v call))) → map (noted 0) w.log.entries ≡ map (noted 0) v.log.entries ++ wrote p (content_by v call) ∷ []
+  pub one_written : (v w : HopView T) (p : ℕ) (call : HopCall T) → w.log ≡ with_event v.log (entry_by v p call) → map written_by w.log.events ≡ map written_by v.log.events ++ wrote p (content_by v call) ∷ []
   one_written v w p call is =
-      let e = logged (Hop v.number) (wrote p (content_by v call)) in
-      ap (λ (l : LogView). map (noted 0) l.entries) is ∙ map-append (noted 0) v.log.entries (e ∷ [])
+      let e = entry_by v p call in
+      ap (λ (l : LoggedView). map written_by l.events) is ∙ map-append written_by v.log.events (e ∷ [])
 
-  pub one_less : (v w : HopView T) (p : ℕ) (call : HopCall T) → w.log ≡ with_entry v.log (logged (Hop v.number) (wrote p (content_by v call))) → 0 < v.log.room - length v.log.entries → w.log.room - length w.log.entries + 1 ≡ v.log.room - length v.log.entries
+  pub one_less : (v w : HopView T) (p : ℕ) (call : HopCall T) → w.log ≡ with_event v.log (entry_by v p call) → 0 < v.log.room - length v.log.events → w.log.room - length w.log.events + 1 ≡ v.log.room - length v.log.events
   one_less v w p call is some =
-      let e = logged (Hop v.number) (wrote p (content_by v call)) in
-      let room : w.log.room ≡ v.log.room = ap (λ (l : LogView). l.room) is in
-      let count : length w.log.entries ≡ length (v.log.entries ++ e ∷ []) = ap (λ (l : LogView). length l.entries) is in
-      let more = length-append v.log.entries (e ∷ []) in
+      let e = entry_by v p call in
+      let room : w.log.room ≡ v.log.room = ap (λ (l : LoggedView). l.room) is in
+      let count : length w.log.events ≡ length (v.log.events ++ e ∷ []) = ap (λ (l : LoggedView). length l.events) is in
+      let more = length-append v.log.events (e ∷ []) in
       omega arith
 
   -- what may be written may be called
-  pub may_call : (v : HopView T) (p : ℕ) → MayWrite (map (noted 0) v.log.entries) (v.log.room - length v.log.entries) 0 p 0 → MayCall v p
-  may_call v p m = record { below = m.below; past = all_past v.log.entries p m.past; room = let r = m.room in omega arith }
+  pub may_call : (v : HopView T) (p : ℕ) → MayWrite (map written_by v.log.events) (v.log.room - length v.log.events) 0 p 0 → MayCall v p
+  may_call v p m = record { below = m.below; past = all_past v.log.events p m.past; room = let r = m.room in omega arith }
 
   -- after none
-  pub none_written : (v w : HopView T) → w.log ≡ v.log → map (noted 0) w.log.entries ≡ map (noted 0) v.log.entries
-  none_written v w is = ap (λ (l : LogView). map (noted 0) l.entries) is
+  pub none_written : (v w : HopView T) → w.log ≡ v.log → map written_by w.log.events ≡ map written_by v.log.events
+  none_written v w is = ap (λ (l : LoggedView). map written_by l.events) is
 
-  pub none_less : (v w : HopView T) → w.log ≡ v.log → w.log.room - length w.log.entries ≡ v.log.room - length v.log.entries
-  none_less v w is = ap (λ (l : LogView). l.room - length l.entries) is
+  pub none_less : (v w : HopView T) → w.log ≡ v.log → w.log.room - length w.log.events ≡ v.log.room - length v.log.events
+  none_less v w is = ap (λ (l : LoggedView). l.room - length l.events) is

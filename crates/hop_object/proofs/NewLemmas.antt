@@ -4,14 +4,13 @@ use Rattle.token_book.specs.Account.{Account, out_of}
 use Rattle.hop_object.specs.declared.call.HopTraits.{HopTraits}
 use Rattle.hop_object.specs.Hops.{Kept}
 
-pub kept_new : {T : Type 0} (number room room_bytes : ℕ) (traits : HopTraits) (book : Account) → traits.lanes ≤ 16 → ((n : ℕ) → out_of n book.out ≡ 0)
-    → Kept {T = T} (record { number = number; traits = traits; lanes = []; request_end = 0; response_end = 0; log = record { entries = []; room = room; room_bytes = room_bytes }; book = book })
-kept_new number room room_bytes traits book small none =
+pub kept_new : {T : Type 0} (number room : ℕ) (traits : HopTraits) (book : Account) → traits.lanes ≤ 16 → ((n : ℕ) → out_of n book.out ≡ 0)
+    → Kept {T = T} (record { number = number; traits = traits; lanes = []; request_end = 0; response_end = 0; log = record { events = []; room = room }; book = book })
+kept_new number room traits book small none =
     record {
       few = omega arith;
       small = small;
       placed = λ k d below. absurd (omega (arith, below));
       legs = none;
-      follows = record { reached = refl; ordered = λ i j d first second. absurd (omega (arith, second)) };
-      own = λ k d below. absurd (omega (arith, below));
+      follows = record { reached = refl; ordered = λ i j d first second. absurd (omega (arith, second)); own = λ k d below. absurd (omega (arith, below)); sent = λ k d below. absurd (omega (arith, below)) };
     }

@@ -1,5 +1,5 @@
 -- A place in a list: what stands before it, at it and behind it.
-use Rattle.std.proofs.Common.{◌≡◌, ◌⊎◌, ℕ, zero, suc, ◌+◌, ◌<◌, ◌≤◌, Bool, true, false, cond, not, ◌||◌, List, [], ◌∷◌, ◌++◌, length, get_or, set, take, drop, refl, sym, ap, ◌∙◌, subst, arith, Option, Some, None}
+use Rattle.std.proofs.Common.{◌≡◌, ℕ, zero, suc, ◌+◌, ◌<◌, ◌≤◌, Bool, true, false, cond, not, ◌||◌, List, [], ◌∷◌, ◌++◌, length, get_or, take, drop, refl, sym, ap, ◌∙◌, subst, arith, Option, Some, None}
 use Rattle.std.specs.List.{All, HoldsAt, count_by, position_or_len, position, list_any, find}
 use Rattle.std.specs.Option.{IsSome, option_map}
 use Rattle.std.proofs.lemmas.List.{set-get_or, set_split, get_or_at, length-take-le}
@@ -35,6 +35,12 @@ module _ {X : Type 0} where
   read_twice [] i x y h e f = absurd (omega arith)
   read_twice (z ∷ zs) zero x y h e f = e ∙ sym f
   read_twice (z ∷ zs) (suc i) x y h e f = read_twice zs i x y (omega arith) e f
+
+  -- what stands between the parts of a list is read there
+  pub read_middle : (xs : List X) (i : ℕ) (x : X) → i < length xs → xs ≡ take i xs ++ x ∷ drop (suc i) xs → x ≡ get_or xs i x
+  read_middle xs i x below here =
+      let t = length-take-le i xs (omega arith) in
+      sym (ap (λ (ys : List X). get_or ys i x) here ∙ get_or_at (take i xs) x (drop (suc i) xs) x i (omega arith))
 
   -- what holds at a place holds of what was read there
   pub at_place : (P : X → Type 0) (ws xs : List X) (x : X) (i : ℕ) → HoldsAt P ws i → ws ≡ xs → x ≡ get_or xs i x → P x

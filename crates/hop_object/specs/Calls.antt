@@ -1,15 +1,15 @@
 -- What each call of a hop answers, and what it leaves.
-use Rattle.std.specs.Prelude.{◌≡◌, ℕ, suc, ◌<◌, true, false, max, List, [], ◌∷◌, ◌++◌, length, Option, Some, None, find, take, drop, All}
-use Rattle.std.specs.List.{list_all, list_any}
+use Rattle.std.specs.Prelude.{◌≡◌, ℕ, suc, true, false, max, List, ◌∷◌, ◌++◌, length, Option, Some, None, find, take, drop, All}
 use Rattle.tlm_types.specs.declared.words.TxnId.{TxnId}
 use Rattle.tlm_types.specs.declared.words.Phase.TheVariants.{EndReq, BeginResp, EndResp}
 use Rattle.tlm_types.specs.declared.words.TlmSync.{TlmSync}
 use Rattle.tlm_types.specs.declared.words.TlmSync.TheVariants.{Accepted, Updated, Completed}
-use Rattle.tlm_types.specs.declared.entry.Entry.{Entry}
 use Rattle.base_phases.specs.declared.phases.LaneState.{LaneState}
 use Rattle.base_phases.specs.declared.phases.LaneState.TheVariants.{Free, Requested, Waiting, Responding}
-use Rattle.token_book.specs.Account.{Slip, retired, slip, issued}
+use Rattle.token_book.specs.Account.{Slip, retired}
 use Rattle.hop_model.specs.Answers.{response_answer}
+use Rattle.flow_model.specs.Events.{Event}
+use Rattle.flow_model.specs.Marked.{mark_of}
 use Rattle.hop_object.specs.declared.lane.Lane.{Lane}
 use Rattle.hop_object.specs.declared.lane.Side.TheVariants.{Down, Up}
 use Rattle.hop_object.specs.declared.call.Begun.{Begun}
@@ -18,12 +18,12 @@ use Rattle.hop_object.specs.declared.call.Responded.{Responded}
 use Rattle.hop_object.specs.declared.call.Responded.TheVariants as Answers
 use Rattle.hop_object.specs.States.{state_by}
 use Rattle.hop_object.specs.View.{HopView}
-use Rattle.hop_object.specs.Lanes.{any_responding, has_leg, leg_name, requester, responder, step_lane, waits, IsFirst}
-use Rattle.hop_object.specs.Hops.{begin_answer, begin_entry, begin_time, called, can_begin, entered, entry_of, leg_at, leg_changed, leg_out, passed, with_lanes}
+use Rattle.hop_object.specs.Lanes.{any_responding, has_leg, requester, responder, step_lane, waits, IsFirst}
+use Rattle.hop_object.specs.Hops.{begin_answer, begin_entry, called, can_begin, entered, entry_of, leg_at, leg_changed, leg_out, passed, with_lanes}
 
 module _ {T : Type 0} where
   -- what BEGIN_REQ leaves and answers, by its answer
-  abbrev pub begun_as : HopView T → Entry → T → TlmSync → HopView T × Begun T
+  abbrev pub begun_as : HopView T → Event → T → TlmSync → HopView T × Begun T
   begun_as v e item Accepted = (entered v e Accepted Requested (Some item) v.book, Left Accepted e.time)
   begun_as v e item Completed = (passed v e Completed, Now Completed e.time None item)
   begun_as v e item (Updated BeginResp) = (entered v e (Updated BeginResp) Responding None (leg_out v.book e.position Responding), Now (Updated BeginResp) e.time (Some (leg_at v.book e.position Responding)) item)
@@ -49,7 +49,7 @@ module _ {T : Type 0} where
     pub here : v.lanes ≡ before ++ lane ∷ behind
     pub leg_is : find (has_leg leg.name) v.lanes ≡ Some lane
     pub time_is : time ≡ max at lane.last
-    pub after : w ≡ called v (before ++ step_lane lane Waiting time position None ∷ behind) (entry_of v.number position lane.txn time EndReq Accepted) Requested EndReq Accepted (leg_changed v.book leg lane Waiting)
+    pub after : w ≡ called v (before ++ step_lane lane Waiting time position None ∷ behind) (entry_of v.number position lane.txn time EndReq Accepted 0) Requested EndReq Accepted (leg_changed v.book leg lane Waiting)
     pub next_is : next ≡ leg_at v.book lane.position Waiting
 
   -- BEGIN_RESP by this leg, at this time, where no response is open
@@ -61,7 +61,7 @@ module _ {T : Type 0} where
     pub here : v.lanes ≡ before ++ lane ∷ behind
     pub leg_is : find (has_leg leg.name) v.lanes ≡ Some lane
     pub time_is : time ≡ max (max at lane.last) v.response_end
-    pub after : w ≡ called v (before ++ step_lane lane (state_by (response_answer v.traits.resp)) time position (Some item) ∷ behind) (entry_of v.number position lane.txn time BeginResp (response_answer v.traits.resp)) lane.state BeginResp (response_answer v.traits.resp) (retired v.book leg)
+    pub after : w ≡ called v (before ++ step_lane lane (state_by (response_answer v.traits.resp)) time position (Some item) ∷ behind) (entry_of v.number position lane.txn time BeginResp (response_answer v.traits.resp) (mark_of lane.state)) lane.state BeginResp (response_answer v.traits.resp) (retired v.book leg)
     pub answer_is : answer ≡ Answers.Sent (response_answer v.traits.resp) time
 
   -- BEGIN_RESP where one is open
@@ -84,7 +84,7 @@ module _ {T : Type 0} where
     pub here : v.lanes ≡ before ++ lane ∷ behind
     pub leg_is : find (has_leg leg.name) v.lanes ≡ Some lane
     pub time_is : time ≡ max at lane.last
-    pub after : w ≡ called v (before ++ behind) (entry_of v.number position lane.txn time EndResp Completed) Responding EndResp Completed (retired v.book leg)
+    pub after : w ≡ called v (before ++ behind) (entry_of v.number position lane.txn time EndResp Completed 0) Responding EndResp Completed (retired v.book leg)
 
   -- the item of the lane at a place was fetched, and its leg handed out
   pub record HandsOut (v : HopView T) (i : ℕ) (w : HopView T) (leg : Slip) (state : LaneState) (txn : TxnId) (time : ℕ) (item : T) : Type 0 where

@@ -1,35 +1,33 @@
 -- A hop with its lanes, its log and its book: what holds of it, and what a call makes of it.
-use Rattle.std.specs.Prelude.{◌≡◌, ℕ, ◌+◌, ◌<◌, ◌≤◌, ◌&&◌, ◌%◌, not, nat_lt, max, Bool, false, List, [], ◌∷◌, ◌++◌, length, Option, All, AllPairs}
+use Rattle.std.specs.Prelude.{◌≡◌, ℕ, ◌<◌, ◌≤◌, ◌&&◌, ◌%◌, not, nat_lt, max, Bool, true, false, List, [], ◌∷◌, ◌++◌, length, Option, All, AllPairs}
 use Rattle.tlm_types.specs.declared.words.TxnId.{TxnId}
 use Rattle.tlm_types.specs.declared.words.ObjectNo.TheVariants.{Hop}
 use Rattle.tlm_types.specs.declared.words.Phase.{Phase}
-use Rattle.tlm_types.specs.declared.words.Phase.TheVariants.{BeginReq}
+use Rattle.tlm_types.specs.declared.words.Phase.TheVariants.{BeginReq, BeginResp}
 use Rattle.tlm_types.specs.declared.words.TlmSync.{TlmSync}
 use Rattle.tlm_types.specs.declared.entry.What.TheVariants.{Call}
 use Rattle.tlm_types.specs.declared.entry.Content.{Content}
-use Rattle.tlm_types.specs.declared.entry.Entry.{Entry}
-use Rattle.tlm_types.specs.Log.{with_entry}
 use Rattle.base_phases.specs.declared.phases.LaneState.{LaneState}
 use Rattle.token_book.specs.Account.{Account, Slip, out_of, issued, retired, slip}
 use Rattle.shared_object.specs.Written.{logged, wrote}
 use Rattle.hop_model.specs.Answers.{request_answer, is_requested}
 use Rattle.hop_model.specs.Board.{Board, Rules, start, request_end_after, response_end_after, Reaches}
+use Rattle.flow_model.specs.Events.{Among, Event, Finds, IsPhase, entries}
+use Rattle.flow_model.specs.Marked.{ReachesMarked, unmarked}
+use Rattle.numbered_log.specs.Logged.{event_of, with_event, IsBefore}
 use Rattle.hop_object.specs.declared.lane.Lane.{Lane}
+use Rattle.hop_object.specs.declared.lane.Side.TheVariants.{Up}
 use Rattle.hop_object.specs.States.{number_of_state}
 use Rattle.hop_object.specs.View.{HopView}
-use Rattle.hop_object.specs.Lanes.{any_requested, any_responding, legs_out, name_at, opens, IsPlaced}
+use Rattle.hop_object.specs.Lanes.{any_requested, any_responding, legs_out, name_at, opens, waits, IsPlaced}
 
--- what the entry of a call says
-abbrev pub call_content : TxnId → ℕ → Phase → TlmSync → Content
-call_content txn time phase answer = record { txn = txn; time = time; what = Call phase answer; number = 0 }
+-- what the entry of a call says, with its mark
+abbrev pub call_content : TxnId → ℕ → Phase → TlmSync → ℕ → Content
+call_content txn time phase answer mark = record { txn = txn; time = time; what = Call phase answer; number = mark }
 
--- the entry of a call on the hop of this number
-abbrev pub entry_of : ℕ → ℕ → TxnId → ℕ → Phase → TlmSync → Entry
-entry_of number position txn time phase answer = logged (Hop number) (wrote position (call_content txn time phase answer))
-
--- an entry stands before another in the history
-abbrev pub IsBefore : Entry → Entry → Type 0
-IsBefore d e = d.position < e.position
+-- the entry of a call on the hop of this number, with its mark
+abbrev pub entry_of : ℕ → ℕ → TxnId → ℕ → Phase → TlmSync → ℕ → Event
+entry_of number position txn time phase answer mark = event_of (logged (Hop number) (wrote position (call_content txn time phase answer mark))) mark
 
 -- the leg of a lane, and the book that it is then out of
 abbrev pub leg_at : Account → ℕ → LaneState → Slip
@@ -46,25 +44,41 @@ module _ {T : Type 0} where
   abbrev pub board_of : HopView T → Board
   board_of v = record { lanes = opens v.lanes; request_end = v.request_end; response_end = v.response_end }
 
-  -- the lanes are those of the log: by its entries the model reaches them. Each entry stands past those before it
-  pub record Follows (v : HopView T) : Type 0 where
-    pub reached : Reaches (rules_of v) start v.log.entries (board_of v)
-    pub ordered : AllPairs IsBefore v.log.entries
+  -- the BEGIN_RESP with which a lane's item came, where the lane's last call stands
+  pub record IsSentBy (number : ℕ) (l : Lane T) (e : Event) : Type 0 where
+    pub phase : IsPhase l.txn number BeginResp e
+    pub place : e.position ≡ l.latest
+    pub time : e.time ≡ l.last
 
-  -- what holds of every hop: its lanes are few and those of its log, its legs are out of its book, and its entries are its own
+  -- if the lane's item waits for the component upstream, its BEGIN_RESP is among these entries
+  abbrev pub HasSent : ℕ → List Event → Lane T → Type 0
+  HasSent number es l = waits Up l ≡ true → Finds (Among es) (IsSentBy number l)
+
+  -- the lanes are those of the log: by its entries, with their marks, the model reaches them. Each entry is of the hop, and stands past those
+  -- before it. The log has the BEGIN_RESP of each item that waits upstream, also where its transaction has ended
+  pub record Follows (v : HopView T) : Type 0 where
+    pub reached : ReachesMarked (rules_of v) start v.log.events (board_of v)
+    pub ordered : AllPairs IsBefore v.log.events
+    pub own : All (λ (e : Event). e.object ≡ Hop v.number) v.log.events
+    pub sent : All (HasSent v.number v.log.events) v.lanes
+
+  -- the model reaches them by the entries alone
+  abbrev pub reached_of : (v : HopView T) → Follows v → Reaches (rules_of v) start (entries v.log.events) (board_of v)
+  reached_of v follows = unmarked (rules_of v) start v.log.events (board_of v) follows.reached
+
+  -- what holds of every hop: its lanes are few and those of its log, and its legs are out of its book
   pub record Kept (v : HopView T) : Type 0 where
     pub few : length v.lanes ≤ v.traits.lanes
     pub small : v.traits.lanes ≤ 16
     pub placed : All IsPlaced v.lanes
     pub legs : (n : ℕ) → out_of n v.book.out ≡ legs_out n v.lanes
     pub follows : Follows v
-    pub own : All (λ e. e.object ≡ Hop v.number) v.log.entries
 
   -- an entry may be added at this position: it is past all entries, and there is room for it
   pub record MayCall (v : HopView T) (position : ℕ) : Type 0 where
     pub below : position < 1000000
-    pub past : All (λ e. e.position < position) v.log.entries
-    pub room : length v.log.entries < v.log.room
+    pub past : All (λ (e : Event). e.position < position) v.log.events
+    pub room : length v.log.events < v.log.room
 
   -- a BEGIN_REQ is taken: no request is open, and a lane is free
   abbrev pub can_begin : HopView T → Bool
@@ -76,32 +90,32 @@ module _ {T : Type 0} where
   abbrev pub begin_time : HopView T → ℕ → ℕ
   begin_time v at = max at v.request_end
 
-  abbrev pub begin_entry : HopView T → ℕ → TxnId → ℕ → TlmSync → Entry
-  begin_entry v position txn at answer = entry_of v.number position txn (begin_time v at) BeginReq answer
+  abbrev pub begin_entry : HopView T → ℕ → TxnId → ℕ → TlmSync → Event
+  begin_entry v position txn at answer = entry_of v.number position txn (begin_time v at) BeginReq answer 0
 
   -- a new lane of the transaction of an entry
-  abbrev pub new_lane : Entry → LaneState → Option T → Lane T
+  abbrev pub new_lane : Event → LaneState → Option T → Lane T
   new_lane e state item = record { txn = e.txn; position = e.position; state = state; last = e.time; latest = e.position; item = item }
 
   -- the hop after a BEGIN_REQ that leaves these lanes and this book
-  abbrev pub begun_with : HopView T → Entry → TlmSync → List (Lane T) → Account → HopView T
-  begun_with v e answer lanes book = record v { lanes = lanes; request_end = request_end_after v.request_end false BeginReq answer e.time; log = with_entry v.log e; book = book }
+  abbrev pub begun_with : HopView T → Event → TlmSync → List (Lane T) → Account → HopView T
+  begun_with v e answer lanes book = record v { lanes = lanes; request_end = request_end_after v.request_end false BeginReq answer e.time; log = with_event v.log e; book = book }
 
   -- a BEGIN_REQ that takes a lane
-  abbrev pub entered : HopView T → Entry → TlmSync → LaneState → Option T → Account → HopView T
+  abbrev pub entered : HopView T → Event → TlmSync → LaneState → Option T → Account → HopView T
   entered v e answer state item book = begun_with v e answer (v.lanes ++ new_lane e state item ∷ []) book
 
   -- a BEGIN_REQ that ends the transaction
-  abbrev pub passed : HopView T → Entry → TlmSync → HopView T
+  abbrev pub passed : HopView T → Event → TlmSync → HopView T
   passed v e answer = begun_with v e answer v.lanes v.book
 
   -- the hop after a later call, on a lane of this state, that leaves these lanes and this book
-  abbrev pub called : HopView T → List (Lane T) → Entry → LaneState → Phase → TlmSync → Account → HopView T
+  abbrev pub called : HopView T → List (Lane T) → Event → LaneState → Phase → TlmSync → Account → HopView T
   called v lanes e state phase answer book = record v {
     lanes = lanes;
     request_end = request_end_after v.request_end (is_requested state) phase answer e.time;
     response_end = response_end_after v.response_end phase answer e.time;
-    log = with_entry v.log e;
+    log = with_event v.log e;
     book = book;
   }
 

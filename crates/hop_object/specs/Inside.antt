@@ -1,5 +1,5 @@
 -- A hop's value from its fields, and what holds of them.
-use Rattle.std.specs.Prelude.{ℕ, ◌≤◌}
+use Rattle.std.specs.Prelude.{◌≤◌}
 use Rattle.std.specs.Vec.{vec_capacity}
 use Rattle.hop_object.specs.declared.hop.Hop.TheInside.{Inside}
 use Rattle.hop_object.specs.View.{HopView}

@@ -1,23 +1,85 @@
--- Laws of legs.
-use Rattle.std.specs.Prelude.{◌≡◌, ◌⊎◌, ℕ, ◌<◌, ◌/◌, ◌%◌, true, List, Option, Some, None}
-use Rattle.tlm_types.specs.declared.entry.Entry.{Entry}
+-- Laws of a hop's log and of its legs.
+use Rattle.std.specs.Prelude.{◌≡◌, ◌⊎◌, ℕ, ◌<◌, ◌/◌, ◌%◌, true, map, Option, Some, None}
+use Rattle.tlm_types.specs.declared.words.TxnId.{TxnId}
+use Rattle.tlm_types.specs.declared.words.Phase.TheVariants.{BeginReq, BeginResp}
+use Rattle.tlm_types.specs.declared.words.TlmSync.{TlmSync}
+use Rattle.tlm_types.specs.declared.entry.What.TheVariants.{Call as Called}
 use Rattle.base_phases.specs.declared.phases.LaneState.TheVariants.{Requested, Waiting, Responding}
 use Rattle.token_book.specs.Account.{Account, Slip}
+use Rattle.tlm_model.specs.Each.{AtEach}
+use Rattle.hop_model.specs.Calls.{has_open_request}
+use Rattle.flow_model.specs.Events.{Among, Event, Finds, FindsAt, IsOwn, IsPhase, entries}
+use Rattle.flow_model.specs.Backed.{EndsRequest, EndsResponse}
 use Rattle.view_lists.specs.Lists.{Has}
 use Rattle.hop_object.specs.declared.call.Begun.{Begun}
 use Rattle.hop_object.specs.declared.call.Begun.TheVariants.{Left, Now, Busy}
 use Rattle.hop_object.specs.declared.call.Responded.{Responded}
 use Rattle.hop_object.specs.declared.call.Responded.TheVariants as Answers
+use Rattle.shared_object.specs.Written.{Written}
+use Rattle.numbered_log.specs.Logged.{written_by}
+use Rattle.hop_object.specs.declared.call.HopCall.{HopCall}
+use Rattle.hop_object.specs.declared.call.HopCall.TheVariants as Calls
 use Rattle.hop_object.specs.declared.call.HopReply.{HopReply}
 use Rattle.hop_object.specs.declared.call.HopReply.TheVariants as Replies
+use Rattle.hop_object.specs.States.{number_of_state}
 use Rattle.hop_object.specs.View.{HopView}
-use Rattle.hop_object.specs.Hops.{Follows, IsLegOf}
-use Rattle.hop_object.specs.Objects.{knows, lane_of, txn_of}
+use Rattle.hop_object.specs.Hops.{IsLegOf}
+use Rattle.hop_object.specs.Objects.{brought_by, knows, lane_of, last_of, state_of, txn_of}
 
 module _ {T : Type 0} where
-  -- the lane of a leg has the transaction of each entry at the leg's position: there is just one, its BEGIN_REQ
-  abbrev pub NamesTransaction : HopView T → Slip → Type 0
-  NamesTransaction h leg = (e : Entry) → Has h.log.entries e → e.position ≡ leg.name / 4 → txn_of (lane_of h leg) ≡ e.txn
+  -- the BEGIN_REQ of the lane of a leg, at the position that the leg names
+  pub record IsBegin (h : HopView T) (leg : Slip) (e : Event) : Type 0 where
+    pub phase : IsPhase (txn_of (lane_of h leg)) h.number BeginReq e
+    pub place : e.position ≡ leg.name / 4
+
+  -- The log has the BEGIN_REQ of the lane of a leg, and the lane has the transaction of each entry at the leg's position: there is just one.
+  -- The leg names the lane's state
+  pub record NamesTransaction (h : HopView T) (leg : Slip) : Type 0 where
+    pub begun : Finds (Among h.log.events) (IsBegin h leg)
+    pub one : (e : Event) → Has h.log.events e → e.position ≡ leg.name / 4 → txn_of (lane_of h leg) ≡ e.txn
+    pub state : number_of_state (state_of (lane_of h leg)) ≡ leg.name % 4
+
+  -- the log has the BEGIN_REQ of x at the position that a leg names
+  abbrev pub IsLegOfTxn : HopView T → Slip → TxnId → Type 0
+  IsLegOfTxn w leg x = Finds (Among w.log.events) (λ e. IsPhase x w.number BeginReq e × (e.position ≡ leg.name / 4))
+
+  abbrev pub OwedNames : HopView T → Option Slip → TxnId → Type 0
+  OwedNames w None x = Unit {0}
+  OwedNames w (Some leg) x = IsLegOfTxn w leg x
+
+  abbrev pub BegunNames : HopView T → Begun T → TxnId → Type 0
+  BegunNames w (Now answer at leg item) x = OwedNames w leg x
+  BegunNames w answer x = Unit {0}
+
+  -- a leg that comes with the answer to BEGIN_REQ, or with an item, names the transaction of that
+  abbrev pub ReplyNames : HopView T → HopCall T → HopReply T → Type 0
+  ReplyNames w (Calls.BeginReq x at item) (Replies.Begun answer) = BegunNames w answer x
+  ReplyNames w call (Replies.Down (Some r)) = IsLegOfTxn w r.0 r.2
+  ReplyNames w call (Replies.Up (Some r)) = OwedNames w r.0 r.1
+  ReplyNames w call reply = Unit {0}
+
+  -- the log has the BEGIN_RESP of x, at this time
+  abbrev pub HasResponse : HopView T → TxnId → ℕ → Type 0
+  HasResponse w x time = FindsAt (Among w.log.events) (IsPhase x w.number BeginResp) time
+
+  -- a response that was fetched has its BEGIN_RESP in the log, at the time that the reply tells
+  abbrev pub FetchedWasSent : HopView T → HopReply T → Type 0
+  FetchedWasSent w (Replies.Up (Some r)) = HasResponse w r.1 r.2
+  FetchedWasSent w reply = Unit {0}
+
+  -- An item that comes with a BEGIN_RESP is of the transaction of the entry at the leg's position, at each hop that has that entry
+  abbrev pub BringsOwn : HopView T → Slip → ℕ → T → Type 0
+  BringsOwn h leg at item = (e : Written) → Has (map written_by h.log.events) e → e.position ≡ leg.name / 4 → (x : TxnId × T) → Has (brought_by h (Calls.BeginResp leg at item)) x → x ≡ (e.content.txn, item)
+
+  -- each time by which a hop delays a call is that of a call in its log, which ends a request or a response, or is the last one of the leg's lane
+  pub record HasTimes (h : HopView T) : Type 0 where
+    pub request : (h.request_end ≡ 0) ⊎ FindsAt (Among h.log.events) (EndsRequest h.number) h.request_end
+    pub response : (h.response_end ≡ 0) ⊎ FindsAt (Among h.log.events) (EndsResponse h.number) h.response_end
+    pub last : (leg : Slip) → knows h leg ≡ true → 0 < leg.name % 4 → FindsAt (Among h.log.events) (IsOwn (txn_of (lane_of h leg)) h.number) (last_of (lane_of h leg))
+
+  -- a BEGIN_RESP that is marked comes where the request of its transaction is open by the log
+  abbrev pub MarksTell : HopView T → Type 0
+  MarksTell h = AtEach (λ before e. (answer : TlmSync) → e.what ≡ Called BeginResp answer → e.number ≡ 1 → has_open_request e.txn (entries before) ≡ true) h.log.events
 
   -- a leg of END_RESP, where one came
   abbrev pub IsOwed : HopView T → Option Slip → Type 0

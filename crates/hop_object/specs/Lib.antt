@@ -6,4 +6,3 @@ pub mod Inside
 pub mod Calls
 pub mod Objects
 pub mod Laws
-pub mod Seated

@@ -1,5 +1,5 @@
 -- A hop as an object of the history.
-use Rattle.std.specs.Prelude.{◌≡◌, ◌⊎◌, ℕ, ◌&&◌, not, max, Bool, true, false, List, [], ◌∷◌, ◌++◌, Option, Some, None, find}
+use Rattle.std.specs.Prelude.{◌≡◌, ◌⊎◌, ℕ, ◌&&◌, not, max, Bool, false, List, [], ◌∷◌, ◌++◌, Option, Some, None, find}
 use Rattle.std.specs.List.{list_all, list_any}
 use Rattle.tlm_types.specs.declared.words.TxnId.{TxnId}
 use Rattle.tlm_types.specs.declared.words.ObjectNo.TheVariants.{Hop}
@@ -8,10 +8,12 @@ use Rattle.tlm_types.specs.declared.words.Phase.TheVariants as Phases
 use Rattle.tlm_types.specs.declared.words.TlmSync.{TlmSync}
 use Rattle.tlm_types.specs.declared.words.TlmSync.TheVariants.{Accepted, Completed}
 use Rattle.tlm_types.specs.declared.entry.Content.{Content}
-use Rattle.base_phases.specs.declared.phases.LaneState.TheVariants.{Requested, Waiting, Responding}
+use Rattle.base_phases.specs.declared.phases.LaneState.{LaneState}
+use Rattle.base_phases.specs.declared.phases.LaneState.TheVariants.{Free, Requested, Waiting, Responding}
 use Rattle.token_book.specs.Account.{Slip}
 use Rattle.shared_object.specs.Written.{Built}
 use Rattle.hop_model.specs.Answers.{response_answer}
+use Rattle.flow_model.specs.Marked.{mark_of}
 use Rattle.hop_object.specs.declared.lane.Lane.{Lane}
 use Rattle.hop_object.specs.declared.call.Begun.{Begun}
 use Rattle.hop_object.specs.declared.call.Begun.TheVariants.{Left, Now, Busy}
@@ -56,6 +58,10 @@ module _ {T : Type 0} where
   last_of None = 0
   last_of (Some lane) = lane.last
 
+  abbrev pub state_of : Option (Lane T) → LaneState
+  state_of None = Free
+  state_of (Some lane) = lane.state
+
   -- the parts of the entry of a call that is taken
   abbrev pub txn_by : HopView T → HopCall T → TxnId
   txn_by v (Calls.BeginReq txn at item) = txn
@@ -85,9 +91,14 @@ module _ {T : Type 0} where
   answer_by v (Calls.EndResp leg at) = Completed
   answer_by v _ = Accepted
 
+  -- a BEGIN_RESP tells whether it ends the request of its lane
+  abbrev pub mark_by : HopView T → HopCall T → ℕ
+  mark_by v (Calls.BeginResp leg at item) = mark_of (state_of (lane_of v leg))
+  mark_by v _ = 0
+
   -- what the entry of a call says
   abbrev pub content_by : HopView T → HopCall T → Content
-  content_by v call = call_content (txn_by v call) (time_by v call) (phase_by call) (answer_by v call)
+  content_by v call = call_content (txn_by v call) (time_by v call) (phase_by call) (answer_by v call) (mark_by v call)
 
   -- a leg of a call is of the hop's book, and its lane is in the state that the call needs
   abbrev pub IsFit : HopView T → HopCall T → Type 0
@@ -115,10 +126,15 @@ module _ {T : Type 0} where
   carried_by [] = []
   carried_by (l ∷ ls) = of_item l.txn l.item ++ carried_by ls
 
+  -- an item that comes with a leg, with the transaction of its lane. Where no lane has the leg there is none: the call can't be made
+  abbrev pub of_lane : Option (Lane T) → T → List (TxnId × T)
+  of_lane None item = []
+  of_lane (Some lane) item = (lane.txn, item) ∷ []
+
   -- the items that a call brings
   abbrev pub brought_by : HopView T → HopCall T → List (TxnId × T)
   brought_by v (Calls.BeginReq txn at item) = (txn, item) ∷ []
-  brought_by v (Calls.BeginResp leg at item) = (txn_of (lane_of v leg), item) ∷ []
+  brought_by v (Calls.BeginResp leg at item) = of_lane (lane_of v leg) item
   brought_by v _ = []
 
   abbrev pub given_begun : TxnId → Begun T → List (TxnId × T)
@@ -126,14 +142,14 @@ module _ {T : Type 0} where
   given_begun txn (Now answer time leg item) = (txn, item) ∷ []
   given_begun txn (Busy holder live item) = (txn, item) ∷ []
 
-  abbrev pub given_responded : TxnId → Responded T → List (TxnId × T)
-  given_responded txn (Answers.Sent answer time) = []
-  given_responded txn (Answers.Busy holder leg item) = (txn, item) ∷ []
+  abbrev pub given_responded : HopView T → Responded T → List (TxnId × T)
+  given_responded v (Answers.Sent answer time) = []
+  given_responded v (Answers.Busy holder leg item) = of_lane (lane_of v leg) item
 
   -- the items that a reply gives, of the transaction that the call names or that comes with them
   abbrev pub given_by : HopView T → HopCall T → HopReply T → List (TxnId × T)
   given_by v call (Replies.Begun b) = given_begun (txn_by v call) b
-  given_by v call (Replies.Responded r) = given_responded (txn_by v call) r
+  given_by v call (Replies.Responded r) = given_responded v r
   given_by v call (Replies.Down (Some r)) = (r.2, r.4) ∷ []
   given_by v call (Replies.Up (Some r)) = (r.1, r.3) ∷ []
   given_by v call _ = []

@@ -3,6 +3,7 @@ ghost use Rattle.std.specs.Prelude.{◌≡◌, false};
 ghost use Rattle.tlm_types.specs.declared.words.Phase.TheVariants.{BeginReq, BeginResp};
 ghost use Rattle.hop_model.specs.Answers.{is_requested, is_responding, request_answer, response_answer};
 ghost use Rattle.hop_model.specs.Board.{request_end_after, response_end_after};
+ghost use Rattle.flow_model.specs.Marked.{mark_of};
 ghost use Rattle.hop_object.specs.States.{number_of_state, state_by, is_down};
 
 use base_phases::LaneState;
@@ -23,6 +24,13 @@ pub(crate) fn requested(state: LaneState) -> bool
     ensures { result ≡ is_requested state }
 {
     matches!(state, LaneState::Requested)
+}
+
+// The mark of a BEGIN_RESP on a lane of this state.
+pub(crate) fn mark_of(state: LaneState) -> u32
+    ensures { result ≡ mark_of state }
+{
+    if requested(state) { 1 } else { 0 }
 }
 
 pub(crate) fn responding(state: LaneState) -> bool

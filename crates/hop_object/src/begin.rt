@@ -4,6 +4,7 @@ ghost use Rattle.tlm_types.specs.declared.words.Phase.TheVariants.{BeginReq, Beg
 ghost use Rattle.tlm_types.specs.declared.words.TlmSync.TheVariants.{Updated, Completed};
 ghost use Rattle.base_phases.specs.declared.phases.LaneState.TheVariants.{Free, Responding};
 ghost use Rattle.base_phases.specs.Phases.{next_state};
+ghost use Rattle.hop_object.specs.States.{is_down};
 
 use crate::answer::{request_answer, request_end_begun};
 use crate::call::{Begun, Leg};
@@ -76,6 +77,7 @@ impl<T> Hop<T> {
         requires can { can_begin self.old ≡ true }
         requires may { MayCall self.old position }
         requires next { next_state Free BeginReq (begin_answer self.old) ≡ Some state }
+        requires down { is_down state ≡ true }
         ensures { self.new ≡ entered self.old (begin_entry self.old position txn at (begin_answer self.old)) (begin_answer self.old) state (Some item) self.old.book }
     {
         let answer = request_answer(self.traits.req, any_responding(&self.lanes));
@@ -86,7 +88,7 @@ impl<T> Hop<T> {
             txn,
             time,
         };
-        push_call(&mut self.log, head, Phase::BeginReq, answer);
+        push_call(&mut self.log, head, Phase::BeginReq, answer, 0);
         self.request_end = request_end_begun(self.request_end, answer, time);
         let lane = Lane {
             txn,
@@ -116,7 +118,7 @@ impl<T> Hop<T> {
             txn,
             time,
         };
-        push_call(&mut self.log, head, Phase::BeginReq, answer);
+        push_call(&mut self.log, head, Phase::BeginReq, answer, 0);
         self.request_end = time;
         let lane = Lane {
             txn,
@@ -144,7 +146,7 @@ impl<T> Hop<T> {
             txn,
             time,
         };
-        push_call(&mut self.log, head, Phase::BeginReq, TlmSync::Completed);
+        push_call(&mut self.log, head, Phase::BeginReq, TlmSync::Completed, 0);
         self.request_end = time;
     }
 }

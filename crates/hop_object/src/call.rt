@@ -33,6 +33,23 @@ impl Model for Leg {
     ghost invariant = { λ l. l.token.amount ≡ 1 };
 }
 
+impl Leg {
+    ghost use Rattle.std.specs.Prelude.{◌≡◌, ◌%◌};
+    ghost use Rattle.hop_object.specs.States.{number_of_state};
+
+    /// The state of its lane.
+    pub fn state(&self) -> LaneState
+        ensures { self.now.name % 4 ≡ number_of_state result }
+    {
+        match self.token.name() % 4 {
+            0 => LaneState::Free,
+            1 => LaneState::Requested,
+            2 => LaneState::Waiting,
+            _ => LaneState::Responding,
+        }
+    }
+}
+
 /// The answer of BEGIN_REQ.
 #[derive(Drop)]
 pub enum Begun<T> {

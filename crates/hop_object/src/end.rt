@@ -35,7 +35,7 @@ impl<T> Hop<T> {
             txn,
             time,
         };
-        push_call(&mut self.log, head, Phase::EndReq, TlmSync::Accepted);
+        push_call(&mut self.log, head, Phase::EndReq, TlmSync::Accepted, 0);
         self.request_end = time;
         let next = LaneState::Waiting;
         let was = change(&mut self.lanes, index, next, time, position, None);
@@ -62,7 +62,7 @@ impl<T> Hop<T> {
             txn,
             time,
         };
-        push_call(&mut self.log, head, Phase::EndResp, TlmSync::Completed);
+        push_call(&mut self.log, head, Phase::EndResp, TlmSync::Completed, 0);
         self.response_end = self.response_end.max(time);
         let was = take_out(&mut self.lanes, index);
         let_go(was);

@@ -2,19 +2,22 @@
 ghost use Rattle.std.specs.Prelude.{◌≡◌, ℕ, ◌<◌, ◌≤◌, [], not, length, All, IfOk};
 ghost use Rattle.std.specs.List.{list_all, list_any};
 ghost use Rattle.tlm_types.specs.declared.entry.What.TheVariants.{Call};
-ghost use Rattle.tlm_types.specs.Log.{entry_at, with_entry};
+ghost use Rattle.tlm_types.specs.Log.{entry_at};
 ghost use Rattle.token_book.specs.Account.{out_of};
+ghost use Rattle.flow_model.specs.Events.{Event, entries};
+ghost use Rattle.numbered_log.specs.Logged.{event_of, with_event};
 ghost use Rattle.hop_object.specs.Lanes.{any_responding, has_leg, is_ended};
 
 use crate::call::{HopTraits, Leg};
 use crate::lane::{Lane, all_ended, any_leg, any_requested, any_responding};
+use numbered_log::NumberedLog;
 use std::alloc::Global;
 use std::marker::Model;
 use tlm_types::{Head, Log, Memory, ObjectNo, Phase, Ps, ReqMode, RespMode, TlmSync, TxnId, What};
 use token_book::Book;
 
 /// A hop with its lanes in use, the time of the last call that ended a request, the greatest time of a
-/// call that ended a response, its log, and the book of its legs.
+/// call that ended a response, its log with the marks of its calls, and the book of its legs.
 #[derive(Drop)]
 pub struct Hop<T> {
     pub(crate) number: u32,
@@ -22,7 +25,7 @@ pub struct Hop<T> {
     pub(crate) lanes: Vec<Lane<T>>,
     pub(crate) request_end: Ps,
     pub(crate) response_end: Ps,
-    pub(crate) log: Log,
+    pub(crate) log: NumberedLog,
     pub(crate) book: Book,
 }
 
@@ -61,11 +64,11 @@ impl<T> Hop<T> {
           lanes = [];
           request_end = 0;
           response_end = 0;
-          log = record { entries = []; room = entries; room_bytes = 0 };
+          log = record { events = []; room = entries };
           book = book;
         }) }
     {
-        let log = Log::with_room(alloc, entries, 0)?;
+        let log = NumberedLog::with_room(alloc, entries)?;
         let places = Vec::with_capacity(alloc, lanes as usize)?;
         Ok(Hop {
             number,
@@ -93,13 +96,15 @@ impl<T> Hop<T> {
     }
 
     /// The log: an entry for each call that was taken, in the order in which they were made. By these
-    /// entries the model of a hop reaches the lanes.
+    /// entries, with their marks, the model of a hop reaches the lanes.
     pub fn log(&self) -> &Log
-        ensures log { result.now ≡ self.now.log }
+        ensures entries { result.now.entries ≡ entries self.now.log.events }
+        ensures room { result.now.room ≡ self.now.log.room }
+        ensures len { length result.now.entries ≡ length self.now.log.events }
         ensures follows { Follows self.now }
-        ensures own { All (λ e. e.object ≡ ObjectNo.Hop self.now.number) self.now.log.entries }
+        ensures own { All (λ (e : Event). e.object ≡ ObjectNo.Hop self.now.number) self.now.log.events }
     {
-        &self.log
+        self.log.log()
     }
 
     /// Whether a BEGIN_REQ is taken now.
@@ -131,12 +136,10 @@ impl<T> Hop<T> {
     }
 }
 
-// Adds the entry of a call, for which there is room.
-pub(crate) fn push_call(log: &mut Log, head: Head, phase: Phase, answer: TlmSync)
-    requires { length log.old.entries < log.old.room }
-    ensures { log.new ≡ with_entry log.old (entry_at head (Call phase answer)) }
+// Adds the entry of a call with its mark, for which there is room.
+pub(crate) fn push_call(log: &mut NumberedLog, head: Head, phase: Phase, answer: TlmSync, mark: u32)
+    requires { length log.old.events < log.old.room }
+    ensures { log.new ≡ with_event log.old (event_of (entry_at head (Call phase answer)) mark) }
 {
-    let Ok(()) = log.push(head, What::Call { phase, answer }) else {
-        unreachable!()
-    };
+    log.push(head, What::Call { phase, answer }, mark);
 }

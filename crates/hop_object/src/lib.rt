@@ -7,10 +7,11 @@
 //!   names the position of the lane's BEGIN_REQ and the state of the lane.
 //! - `HopCall` is what can be asked of a hop as an object of the history, and `HopReply` what it answers.
 //!
-//! Promises: the log is one that the model of a hop reaches, and the lanes are those of its board. Each
-//! call's answer, entry and time are the definitions'. For each leg that is out there is one lane, of
-//! its position and its state, so that no call is out of phase. `Busy` and `None` come exactly where the
-//! contracts say, and change nothing. No call but `Hop::new` takes memory.
+//! Promises: the log is one that the model of a hop reaches, and the lanes are those of its board. A
+//! BEGIN_RESP is marked exactly where it ends the request of its lane. Each call's answer, entry and time
+//! are the definitions'. For each leg that is out there is one lane, of its position and its state, so
+//! that no call is out of phase. `Busy` and `None` come exactly where the contracts say, and change
+//! nothing. No call but `Hop::new` can fail for want of memory.
 #![tactic(auto)]
 
 mod answer;
@@ -24,10 +25,6 @@ pub mod laws;
 mod legs;
 mod object;
 mod respond;
-#[cfg(test)]
-mod shared_tests;
-#[cfg(test)]
-mod tests;
 
 pub use call::{Begun, HopCall, HopReply, HopTraits, Leg, Responded};
 pub use hop::Hop;

@@ -42,7 +42,7 @@ impl<T> Hop<T> {
 
 impl<T> Object for Hop<T> {
     ghost use Rattle.std.specs.Prelude.{◌≡◌, ◌-◌, false, length, map};
-    ghost use Rattle.shared_object.specs.Written.{noted};
+    ghost use Rattle.numbered_log.specs.Logged.{written_by};
     ghost use Rattle.hop_object.specs.Hops.{Follows};
     ghost use Rattle.hop_object.specs.Objects.{brought_by, built_of, carried_by, content_by, given_by, is_admitted, look_of, Applied, IsFit};
 
@@ -56,11 +56,11 @@ impl<T> Object for Hop<T> {
 
     ghost built = { built_of };
 
-    ghost entries = { λ h. map (noted 0) h.log.entries };
+    ghost entries = { λ h. map written_by h.log.events };
 
     ghost follows = { Follows };
 
-    ghost room = { λ h. h.log.room - length h.log.entries };
+    ghost room = { λ h. h.log.room - length h.log.events };
 
     ghost bytes_left = { λ _. 0 };
 

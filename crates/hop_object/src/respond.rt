@@ -4,7 +4,9 @@ ghost use Rattle.std.specs.List.{list_any};
 ghost use Rattle.base_phases.specs.declared.phases.LaneState.TheVariants.{Requested, Waiting};
 ghost use Rattle.hop_object.specs.Lanes.{any_responding, has_leg};
 
-use crate::answer::{request_end_responded, response_answer, response_end_responded, state_by};
+use crate::answer::{
+    mark_of, request_end_responded, response_answer, response_end_responded, state_by,
+};
 use crate::call::{Leg, Responded};
 use crate::hop::{Hop, push_call};
 use crate::lane::{any_responding, change, let_go, responder};
@@ -63,7 +65,13 @@ impl<T> Hop<T> {
             txn,
             time,
         };
-        push_call(&mut self.log, head, Phase::BeginResp, answer);
+        push_call(
+            &mut self.log,
+            head,
+            Phase::BeginResp,
+            answer,
+            mark_of(state),
+        );
         self.request_end = request_end_responded(self.request_end, state, answer, time);
         self.response_end = response_end_responded(self.response_end, answer, time);
         let next = state_by(answer);

@@ -8,8 +8,7 @@ use Rattle.tlm_model.specs.declared.operation.Operation.{Operation}
 use Rattle.tlm_model.specs.declared.operation.Operation.TheVariants.{Write, Read, Ignore, Debug, Copy, Add, Wait, Sync, Fence, Invalidate}
 use Rattle.tlm_model.specs.declared.platform.Platform.{Platform}
 use Rattle.tlm_model.specs.Plan.{Initiator}
-use Rattle.tlm_model.specs.Report.{has_no_route}
-use Rattle.tlm_model.specs.Requests.{Request, answered, buffer_by, buffer_of, first_of_two, got_in, is_txn, requests_from, requests_of, using}
+use Rattle.tlm_model.specs.Requests.{Request, answered, buffer_by, buffer_of, first_of_two, got_in, is_txn, requests_from, requests_of, using, has_no_route}
 use Rattle.tlm_model.specs.Route.{Route, later, latency_of, route_of}
 use Rattle.tlm_model.specs.Scripts.{has_answer, is_answer, is_settled}
 use Rattle.joined_runs.specs.Own.{own}

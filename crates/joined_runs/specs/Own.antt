@@ -5,8 +5,7 @@ use Rattle.tlm_types.specs.declared.entry.Entry.{Entry}
 use Rattle.tlm_model.specs.declared.operation.Operation.{Operation}
 use Rattle.tlm_model.specs.declared.platform.Platform.{Platform}
 use Rattle.tlm_model.specs.Plan.{Initiator}
-use Rattle.tlm_model.specs.Report.{refused_of}
-use Rattle.tlm_model.specs.Requests.{Request, answered, buffer_of, requests_from, requests_of}
+use Rattle.tlm_model.specs.Requests.{Request, answered, buffer_of, requests_from, requests_of, refused_of}
 use Rattle.tlm_model.specs.Scripts.{has_answer, is_settled}
 
 -- the entries of initiator number n, in order

@@ -28,7 +28,7 @@ pub fn joined_histories_keep_requests()
     ensures { JoinedKeepsRequests }
 {}
 
-/// And those of the end, where each initiator has ended its script.
+/// A joined history has the points of requests at the end, where each initiator has ended its script.
 pub fn joined_histories_end_requests()
     ensures { JoinedEndsRequests }
 {}
@@ -38,7 +38,7 @@ pub fn joined_histories_are_sound()
     ensures { JoinedIsSound }
 {}
 
-/// And good, where each initiator has ended its script.
+/// A joined history is good, where each initiator has ended its script.
 pub fn joined_histories_are_good()
     ensures { JoinedIsGood }
 {}

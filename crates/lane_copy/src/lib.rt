@@ -7,7 +7,7 @@
 //! elements, element `k mod m` governs byte k, which is enabled where that is 0xff. Without any
 //! element every byte is enabled.
 //!
-//! Promises: each call equals its plain definition, for every length, and takes no memory.
+//! Promises: each call equals its plain definition, for every length, and can't fail.
 #![tactic(auto)]
 
 mod lanes;

@@ -3,30 +3,36 @@ use Rattle.std.proofs.Common.{◌≡◌, ◌≢◌, ℕ, zero, suc, ◌+◌, ◌
 use Rattle.std.specs.Prelude.{slice_index, slice_index_or, slice_set}
 use Rattle.std.proofs.lemmas.List.Sums.{sum_by-cons}
 use Rattle.std.proofs.lemmas.List.{take-append-le}
+use Rattle.std.proofs.lemmas.List.{get_or-set_other}
 use Rattle.std.proofs.Math.Seq.{take-append_seam}
 use Rattle.std.proofs.lemmas.Bool.{cases_eq, cond-true, cond-false, eq-eqb, ne_eqb}
 use mathlib.Core.Option.{some, none, some-ne-none, some-injective}
 use lib.ListN.{get_elem?}
-use Rattle.atomic_table.specs.Table.{State, Me, step, keeps, Allows, Splits, Joins, opening}
+use Rattle.atomic_table.specs.Table.{State, Me, step, Splits, Joins, opening}
 use Rattle.atomic_table.proofs.Lists.{at_set, at_longer, at_last, set_here, set_else}
 use Rattle.one_history.specs.declared.entry.Entry.{Entry}
-use Rattle.one_history.specs.declared.entry.Sign.{Sign}
+use Rattle.one_history.specs.declared.entry.Sign.TheVariants.{Granted}
 use Rattle.one_history.specs.declared.view.Frame.{Frame}
 use Rattle.one_history.specs.declared.view.Owned.{Owned}
 use Rattle.one_history.specs.declared.view.View.{View}
 use Rattle.view_lists.specs.Lists.{Has, Within}
 use Rattle.one_history.specs.Lists.{object_of, entries_at}
 use Rattle.one_history.specs.Rule.{spent_view, first_view, Fits, Seated, HasLog}
+use Rattle.one_history.specs.Gates.{NoneAfterClosed, NamesOwn, IsGateOf, IsRevoked}
 use Rattle.one_history.specs.Closing.{Learned, AreBacked, ArePlanned}
-use Rattle.one_history.specs.Moves.{made_of, entry, first_number, first_own, with_own, number_of, own_of, KnowsOwn, Recalled, drawn, Drew, one_less, one_gone, copied, parted, one_more, blank_seat, joined}
+use Rattle.one_history.specs.Moves.{made_of, first_number, first_own, with_own, number_of, own_of, KnowsOwn, drawn, learnt, one_less, one_gone, copied, parted, one_more, blank_seat, joined}
+use Rattle.one_history.proofs.Owners.{gate_owner}
 use Rattle.view_lists.proofs.Places.{at_short, at_end}
 use Rattle.view_lists.proofs.Members.{has_left, has_right, has_either, has_one, has_none, has_map, has_mapped}
 use Rattle.view_lists.proofs.Totals.{total_put, total_end}
 use Rattle.view_lists.proofs.Keys.{of_key-same, of_key-other, of_key-within, of_key-has, of_key-key, within_planned}
 
-set_word : (ws : List ℕ) (n : ℕ) → length ws ≡ 1 → slice_index (slice_set ws 0 n) 0 ≡ n
+set_word : (ws : List ℕ) (n : ℕ) → 0 < length ws → slice_index (slice_set ws 0 n) 0 ≡ n
 set_word [] n h = absurd (omega arith)
 set_word (x ∷ xs) n h = refl
+
+set_longer : (ws : List ℕ) (k n : ℕ) → 0 < length ws → 0 < length (slice_set ws k n)
+set_longer ws k n h = let q = length-set ws k n in omega arith
 
 module _ {E : Type 0} where
   -- a list of one
@@ -109,10 +115,39 @@ module _ {E G : Type 0} (backs : G → List (Entry E) → Entry E → Type 0) (k
     known_within : (log : List (Entry E)) (place : ℕ → ℕ) (counter made i : ℕ) (v : View E G) → Fits key log place counter made i v → Within v.known log
     known_within log place counter made i v f x h = let k = f.known x h in (x.position, k.1)
 
-    -- what a seat knows of its object is among its own entries
-    knows_own : (log : List (Entry E)) (place : ℕ → ℕ) (counter made i : ℕ) (v : View E G) → length v.objects ≡ 1 → Fits key log place counter made i v → KnowsOwn v
-    knows_own log place counter made i v one f = record { among = among }
+    -- what a seat knows of its object is among its own entries, and where a gate of its object is void to it, they show why
+    pub knows_own : (log : List (Entry E)) (place : ℕ → ℕ) (counter made i : ℕ) (v : View E G) → length v.objects ≡ 1
+        → ((p : ℕ) (e : Entry E) → get_elem? log p ≡ some e → NamesOwn key e.object e.sign) → ((g : ℕ) → Has v.void g → IsRevoked log g)
+        → Fits key log place counter made i v → KnowsOwn v
+    knows_own log place counter made i v one names void f = record { among = among; void = shows }
       where
+        own : own_of v ≡ entries_at (number_of v) log
+        own =
+            let here : Has v.objects (record { number = first_number v.objects; own = first_own v.objects }) = (0, subst (λ (l : List (Owned E)). get_elem? l 0 ≡ some (record { number = first_number v.objects; own = first_own v.objects })) (sym (alone v.objects one)) refl) in
+            (f.owns _ here).2
+
+        shows : (frame : Frame G) (g : ℕ) → v.frame ≡ Some frame → Has v.void g → IsGateOf frame (number_of v) g → IsRevoked (own_of v) g
+        shows frame g is has of =
+            let r = void g has in
+            let granted : NamesOwn key r.grant.object (Granted g r.first r.last) = subst (NamesOwn key r.grant.object) r.is_grant (names r.has_grant.0 r.grant r.has_grant.1) in
+            let same : r.grant.object ≡ number_of v = gate_owner key r.grant.object (number_of v) g granted (subst (λ (k : Frame G). IsGateOf k (number_of v) g) (f.framed frame is) of) in
+            let to : (e : Entry E) → Has log e → e.object ≡ number_of v → Has (own_of v) e = λ e in_log at. subst (λ (l : List (Entry E)). Has l e) (sym own) (subst (λ (n : ℕ). Has (entries_at n log) e) at (of_key-has object_of log e in_log)) in
+            record {
+              grant = r.grant;
+              cut = r.cut;
+              first = r.first;
+              last = r.last;
+              from = r.from;
+              to = r.to;
+              has_grant = to r.grant r.has_grant same;
+              has_cut = to r.cut r.has_cut (sym r.object ∙ same);
+              is_grant = r.is_grant;
+              is_cut = r.is_cut;
+              later = r.later;
+              object = r.object;
+              meet = r.meet;
+            }
+
         among : Within (entries_at (number_of v) v.known) (own_of v)
         among x h =
             let o = number_of v in
@@ -122,93 +157,57 @@ module _ {E G : Type 0} (backs : G → List (Entry E) → Entry E → Type 0) (k
             let k = f.known x (of_key-within object_of o v.known x h) in
             subst (λ (l : List (Entry E)). Has l x) (sym own) (subst (λ (n : ℕ). Has (entries_at n log) x) is (of_key-has object_of log x (x.position, k.1)))
 
-    -- a seat looks at what it knows of its object
-    pub recalls : (slots id : ℕ) (me : Me ℕ (View E G)) → length me.0.objects ≡ 1 → Allows (HasLog backs key) slots id me 0 (λ n. n) (Recalled (step slots 0 0 0 none) me)
-    recalls slots id me one st h homes mine wide =
-        let v = me.0 in
-        let n = slice_index st.words 0 in (
-          v,
-          keeps,
-          tt,
-          record {
-            log = h.log;
-            place = h.place;
-            counter = h.counter;
-            made = h.made;
-            words = length-set st.words 0 n ∙ h.words;
-            count = set_word st.words n h.words ∙ h.count;
-            numbered = h.numbered;
-            backed = h.backed;
-            planned = h.planned;
-            unmade = h.unmade;
-            homes = λ o less. seated_put st.views id v v h.place o mine (λ x has. (x, has, refl)) (h.homes o less);
-            fits = λ j u is. ⊎_elim
-                (λ (same : (j ≡ id) × (v ≡ u)). subst (λ (y : ℕ × View E G). Fits key h.log h.place h.counter h.made y.0 y.1) (λ i. (sym same.0 i, same.1 i)) (h.fits id v mine))
-                (λ (else : (j ≢ id) × (get_elem? st.views j ≡ some u)). h.fits j u else.1)
-                (at_set st.views id j v u is);
-            notes = let q = total_put (λ (u : View E G). u.notes) st.views id v v mine in let r = h.notes in omega arith;
-          },
-          (refl, knows_own h.log h.place h.counter h.made id v one (h.fits id v mine)),
-        )
-
-    pub draws : (slots id : ℕ) (me : Me ℕ (View E G)) (c : E) (s : Sign) → length me.0.objects ≡ 1 → length (own_of me.0) < slice_index_or key.planned (number_of me.0) 0 → sum key.planned ≤ 1000000
-        → ((p : ℕ) → me.0.seen ≤ p → KnowsOwn me.0 → backs key.world me.0.known (entry p (number_of me.0) s c))
-        → Allows (HasLog backs key) slots id me 0 (λ n. (n + 1) % 2 ^ 64) (Drew c s (step slots 0 1 0 none) me)
-    draws slots id me c s one room few backed st h homes mine wide =
-        let v = me.0 in
-        let log = h.log in
+    -- a seat draws an entry
+    pub kept_draws : (log : List (Entry E)) (st : State ℕ (View E G)) (h : HasLog backs key log st) (id : ℕ) (v : View E G) → get_elem? st.views id ≡ some v → (e : Entry E) → e.position ≡ slice_index st.words 0 → e.object ≡ number_of v
+        → length v.objects ≡ 1 → length (own_of v) < slice_index_or key.planned (number_of v) 0 → sum key.planned ≤ 1000000 → backs key.world v.known e
+        → HasLog backs key (log ++ e ∷ []) (record { words = slice_set st.words 0 ((slice_index st.words 0 + 1) % 2 ^ 64); homes = st.homes; views = slice_set st.views id (drawn v e) }) × (slice_index st.words 0 < 1000000)
+    kept_draws log st h id v mine e at of one room few backed =
         let n = slice_index st.words 0 in
-        let e = entry n (number_of v) s c in
         let fits = h.fits id v mine in
         let here : Has v.objects (record { number = first_number v.objects; own = first_own v.objects }) = (0, subst (λ (l : List (Owned E)). get_elem? l 0 ≡ some (record { number = first_number v.objects; own = first_own v.objects })) (sym (alone v.objects one)) refl) in
         let owns = fits.owns _ here in
         let less : length (entries_at (number_of v) log) < slice_index_or key.planned (number_of v) 0 = subst (λ (l : List (Entry E)). length l < slice_index_or key.planned (number_of v) 0) owns.2 room in
-        let planned : (o : ℕ) → length (entries_at o (log ++ e ∷ [])) ≤ slice_index_or key.planned o 0 = λ o. longer_at o log e (slice_index_or key.planned o 0) (h.planned o) (λ is. subst (λ k. length (entries_at k log) < slice_index_or key.planned k 0) is less) in
+        let planned : (o : ℕ) → length (entries_at o (log ++ e ∷ [])) ≤ slice_index_or key.planned o 0 = λ o. longer_at o log e (slice_index_or key.planned o 0) (h.planned o) (λ is. subst (λ k. length (entries_at k log) < slice_index_or key.planned k 0) (sym of ∙ is) less) in
         let all : length (log ++ e ∷ []) ≤ sum key.planned = within_planned object_of key.planned (log ++ e ∷ []) planned in
         let len = length-append log (e ∷ []) in
         let count = h.count in
         let below : n < 1000000 = omega arith in
-        let seen : v.seen ≤ n = let q = fits.seen in omega arith in
+        let last : e.position ≡ length log = at ∙ count in
+        let home : h.place e.object ≡ id = ap h.place of ∙ owns.0 in
         let dead : v.frame ≡ None → ⊥ = λ none. let q : length v.objects ≡ 0 = ap (λ (u : View E G). length u.objects) (fits.spent none) in omega arith in
-        let own_known = knows_own log h.place h.counter h.made id v one fits in
         let w = drawn v e in (
-          w,
-          keeps,
-          tt,
           record {
-            log = log ++ e ∷ [];
             place = h.place;
             counter = h.counter;
             made = h.made;
-            words = length-set st.words 0 ((n + 1) % 2 ^ 64) ∙ h.words;
+            words = set_longer st.words 0 ((n + 1) % 2 ^ 64) h.words;
             count = set_word st.words ((n + 1) % 2 ^ 64) h.words ∙ omega (arith);
-            numbered = λ p x is. ⊎_elim (λ (old : get_elem? log p ≡ some x). h.numbered p x old) (λ (new : (p ≡ length log) × (e ≡ x)). ap (λ (y : Entry E). y.position) (sym new.1) ∙ count ∙ sym new.0) (at_end log e x p is);
+            numbered = λ p x is. ⊎_elim (λ (old : get_elem? log p ≡ some x). h.numbered p x old) (λ (new : (p ≡ length log) × (e ≡ x)). ap (λ (y : Entry E). y.position) (sym new.1) ∙ last ∙ sym new.0) (at_end log e x p is);
             backed = λ p x is. ⊎_elim
                 (λ (old : get_elem? log p ≡ some x). let q = at_short log p x old in subst (λ (l : List (Entry E)). backs key.world l x) (sym (take-append-le p log (e ∷ []) (omega arith))) (h.backed p x old))
                 (λ (new : (p ≡ length log) × (e ≡ x)). subst (λ (l : List (Entry E)). backs key.world l x) (sym (take-append_seam log (e ∷ [])) ∙ ap (λ k. take k (log ++ e ∷ [])) (sym new.0))
-                (subst (λ (y : Entry E). backs key.world log y) new.1 (grows key.world v.known log e (known_within log h.place h.counter h.made id v fits) (backed n seen own_known))))
+                (subst (λ (y : Entry E). backs key.world log y) new.1 (grows key.world v.known log e (known_within log h.place h.counter h.made id v fits) backed)))
                 (at_end log e x p is);
             planned = planned;
             unmade = λ o not. of_key-other object_of o log e (λ is. let q = owns.1 in omega arith) ∙ h.unmade o not;
             homes = λ o less. seated_put st.views id v w h.place o mine (λ x has. (with_own e x, has_mapped (with_own e) v.objects x has, number_kept e x)) (h.homes o less);
             fits = λ j u is. ⊎_elim
-                (λ (same : (j ≡ id) × (w ≡ u)). subst (λ (y : ℕ × View E G). Fits key (log ++ e ∷ []) h.place h.counter h.made y.0 y.1) (λ i. (sym same.0 i, same.1 i)) (fits_drawn log h.place h.counter h.made e id v owns.0 count fits dead))
-                (λ (else : (j ≢ id) × (get_elem? st.views j ≡ some u)). fits_longer log h.place h.counter h.made e j u (λ q. else.0 (sym q ∙ owns.0)) (h.fits j u else.1))
+                (λ (same : (j ≡ id) × (w ≡ u)). subst (λ (y : ℕ × View E G). Fits key (log ++ e ∷ []) h.place h.counter h.made y.0 y.1) (λ i. (sym same.0 i, same.1 i)) (fits_drawn log h.place h.counter h.made e id v home last fits dead))
+                (λ (else : (j ≢ id) × (get_elem? st.views j ≡ some u)). fits_longer log h.place h.counter h.made e j u (λ q. else.0 (sym q ∙ home)) (h.fits j u else.1))
                 (at_set st.views id j w u is);
             notes = let q = total_put (λ (u : View E G). u.notes) st.views id v w mine in let r = h.notes in omega arith;
           },
-          (refl, below, seen, refl, own_known),
+          below,
         )
 
 -- one view's part of the rule does not change
 module _ {E G : Type 0} (backs : G → List (Entry E) → Entry E → Type 0) (key : Frame G) where
   -- the log stays, and two views take the place of one
-  module _ (st : State ℕ (View E G)) (h : HasLog backs key st) (id : ℕ) (v left right : View E G) (mine : get_elem? st.views id ≡ some v) (place : ℕ → ℕ) (counter made : ℕ) where
-    kept_split : ((j : ℕ) (u : View E G) → j ≢ id → get_elem? st.views j ≡ some u → Fits key h.log place counter made j u) → Fits key h.log place counter made id left → Fits key h.log place counter made (length st.views) right
-        → ((o : ℕ) → made ≤ o → entries_at o h.log ≡ []) → ((o : ℕ) → o < made → Seated (slice_set st.views id left ++ right ∷ []) place o)
-        → left.notes + right.notes ≡ v.notes → HasLog backs key (record { words = st.words; homes = st.homes; views = slice_set st.views id left ++ right ∷ [] })
+  module _ (log : List (Entry E)) (st : State ℕ (View E G)) (h : HasLog backs key log st) (id : ℕ) (v left right : View E G) (mine : get_elem? st.views id ≡ some v) (place : ℕ → ℕ) (counter made : ℕ) where
+    kept_split : ((j : ℕ) (u : View E G) → j ≢ id → get_elem? st.views j ≡ some u → Fits key log place counter made j u) → Fits key log place counter made id left → Fits key log place counter made (length st.views) right
+        → ((o : ℕ) → made ≤ o → entries_at o log ≡ []) → ((o : ℕ) → o < made → Seated (slice_set st.views id left ++ right ∷ []) place o)
+        → left.notes + right.notes ≡ v.notes → HasLog backs key log (record { words = st.words; homes = st.homes; views = slice_set st.views id left ++ right ∷ [] })
     kept_split others l r unmade homes notes = record {
-      log = h.log;
       place = place;
       counter = counter;
       made = made;
@@ -221,10 +220,10 @@ module _ {E G : Type 0} (backs : G → List (Entry E) → Entry E → Type 0) (k
       homes = homes;
       fits = λ j u is. ⊎_elim
           (λ (old : get_elem? (slice_set st.views id left) j ≡ some u). ⊎_elim
-          (λ (same : (j ≡ id) × (left ≡ u)). subst (λ (y : ℕ × View E G). Fits key h.log place counter made y.0 y.1) (λ i. (sym same.0 i, same.1 i)) l)
+          (λ (same : (j ≡ id) × (left ≡ u)). subst (λ (y : ℕ × View E G). Fits key log place counter made y.0 y.1) (λ i. (sym same.0 i, same.1 i)) l)
           (λ (else : (j ≢ id) × (get_elem? st.views j ≡ some u)). others j u else.0 else.1)
           (at_set st.views id j left u old))
-          (λ (new : (j ≡ length (slice_set st.views id left)) × (right ≡ u)). subst (λ (y : ℕ × View E G). Fits key h.log place counter made y.0 y.1) (λ i. (sym (new.0 ∙ length-set st.views id left) i, new.1 i)) r)
+          (λ (new : (j ≡ length (slice_set st.views id left)) × (right ≡ u)). subst (λ (y : ℕ × View E G). Fits key log place counter made y.0 y.1) (λ i. (sym (new.0 ∙ length-set st.views id left) i, new.1 i)) r)
           (at_end (slice_set st.views id left) right u j is);
       notes =
           let q = total_put (λ (u : View E G). u.notes) st.views id v left mine in
@@ -262,43 +261,43 @@ module _ {E G : Type 0} (backs : G → List (Entry E) → Entry E → Type 0) (k
     counts = λ n is. f.counts n (sym counts ∙ is);
   }
 
-  pub copies : (id n : ℕ) (v : View E G) → 1 ≤ v.notes → Splits (HasLog backs key) id v (one_gone v) (copied n v)
-  copies id n v stands st h mine =
+  pub kept_copies : (log : List (Entry E)) (id n : ℕ) (v : View E G) → 1 ≤ v.notes → Splits (HasLog backs key log) id v (one_gone v) (copied n v)
+  kept_copies log id n v stands st h mine =
       let f = h.fits id v mine in
-      let lives = alive h.log h.place h.counter h.made id v f (omega arith) in
-      kept_split st h id v (one_gone v) (copied n v) mine h.place h.counter h.made (λ j u ne is. h.fits j u is)
-      (fits_again h.log h.place h.counter h.made id v (one_gone v) f lives refl refl refl refl refl)
-      (fits_note h.log h.place h.counter h.made id (length st.views) v (copied n v) f lives refl refl refl refl refl)
+      let lives = alive log h.place h.counter h.made id v f (omega arith) in
+      kept_split log st h id v (one_gone v) (copied n v) mine h.place h.counter h.made (λ j u ne is. h.fits j u is)
+      (fits_again log h.place h.counter h.made id v (one_gone v) f lives refl refl refl refl refl)
+      (fits_note log h.place h.counter h.made id (length st.views) v (copied n v) f lives refl refl refl refl refl)
       h.unmade
       (λ o less. seated_more (set st.views id (one_gone v)) (copied n v) h.place o (seated_put st.views id v (one_gone v) h.place o mine (λ x has. (x, has, refl)) (h.homes o less)))
       (omega arith)
 
-  pub parts : (id : ℕ) (v : View E G) → 1 ≤ v.notes → Splits (HasLog backs key) id v (one_less v) (parted v)
-  parts id v stands st h mine =
+  pub kept_parts : (log : List (Entry E)) (id : ℕ) (v : View E G) → 1 ≤ v.notes → Splits (HasLog backs key log) id v (one_less v) (parted v)
+  kept_parts log id v stands st h mine =
       let f = h.fits id v mine in
-      let lives = alive h.log h.place h.counter h.made id v f (omega arith) in
-      kept_split st h id v (one_less v) (parted v) mine h.place h.counter h.made (λ j u ne is. h.fits j u is)
-      (fits_again h.log h.place h.counter h.made id v (one_less v) f lives refl refl refl refl refl)
-      (fits_note h.log h.place h.counter h.made id (length st.views) v (parted v) f lives refl refl refl refl refl)
+      let lives = alive log h.place h.counter h.made id v f (omega arith) in
+      kept_split log st h id v (one_less v) (parted v) mine h.place h.counter h.made (λ j u ne is. h.fits j u is)
+      (fits_again log h.place h.counter h.made id v (one_less v) f lives refl refl refl refl refl)
+      (fits_note log h.place h.counter h.made id (length st.views) v (parted v) f lives refl refl refl refl refl)
       h.unmade
       (λ o less. seated_more (set st.views id (one_less v)) (parted v) h.place o (seated_put st.views id v (one_less v) h.place o mine (λ x has. (x, has, refl)) (h.homes o less)))
       (omega arith)
 
   -- the seat of the next object
-  pub makes : (id n : ℕ) (v : View E G) → v.counts ≡ Some n → 1 ≤ v.notes → Splits (HasLog backs key) id v (one_more v) (blank_seat v)
-  makes id n v counts stands st h mine =
+  pub kept_makes : (log : List (Entry E)) (id n : ℕ) (v : View E G) → v.counts ≡ Some n → 1 ≤ v.notes → Splits (HasLog backs key log) id v (one_more v) (blank_seat v)
+  kept_makes log id n v counts stands st h mine =
       let f = h.fits id v mine in
-      let lives = alive h.log h.place h.counter h.made id v f (omega arith) in
+      let lives = alive log h.place h.counter h.made id v f (omega arith) in
       let m : made_of v.counts ≡ h.made = ap made_of counts ∙ (f.counts n counts).1 in
       let place : ℕ → ℕ = λ o. cond (o == h.made) (length st.views) (h.place o) in
       let kept_place : (o : ℕ) → o < h.made → place o ≡ h.place o = λ o less. cond-false (o == h.made) (length st.views) (h.place o) (ne_eqb o h.made (λ is. omega arith)) in
-      let owns : (j : ℕ) (u : View E G) → Fits key h.log h.place h.counter h.made j u → (x : Owned E) → Has u.objects x → (place x.number ≡ j) × (x.number < h.made + 1) × (x.own ≡ entries_at x.number h.log) × Within x.own u.known =
+      let owns : (j : ℕ) (u : View E G) → Fits key log h.place h.counter h.made j u → (x : Owned E) → Has u.objects x → (place x.number ≡ j) × (x.number < h.made + 1) × (x.own ≡ entries_at x.number log) × Within x.own u.known =
       λ j u q x has. let o = q.owns x has in (kept_place x.number o.1 ∙ o.0, omega arith, o.2, o.3) in
       let blank : Owned E = record { number = h.made; own = [] } in
       let new : Owned E = record { number = made_of v.counts; own = [] } in
       let is_new : new ≡ blank = ap (λ (k : ℕ). record { number = k; own = [] }) m in
       let here : place h.made ≡ length st.views = cond-true (h.made == h.made) (length st.views) (h.place h.made) (eq-eqb h.made h.made refl) in
-      kept_split st h id v (one_more v) (blank_seat v) mine place h.counter (h.made + 1)
+      kept_split log st h id v (one_more v) (blank_seat v) mine place h.counter (h.made + 1)
       (λ j u ne is. let q = h.fits j u is in record { framed = q.framed; spent = q.spent; seen = q.seen; known = q.known; owns = owns j u q; counts = λ k c. absurd (ne ((q.counts k c).0 ∙ sym (f.counts n counts).0)) })
       (record { framed = f.framed; spent = λ none. absurd (lives none); seen = f.seen; known = f.known; owns = owns id v f; counts = λ k c. ((f.counts n counts).0, (let t : made_of v.counts + 1 ≡ k = (cc) in omega arith)) })
       (record {
@@ -306,7 +305,7 @@ module _ {E G : Type 0} (backs : G → List (Entry E) → Entry E → Type 0) (k
         spent = λ none. absurd (lives none);
         seen = omega arith;
         known = λ e has. absurd (has_none e has);
-        owns = λ x has. subst (λ (y : Owned E). (place y.number ≡ length st.views) × (y.number < h.made + 1) × (y.own ≡ entries_at y.number h.log) × Within y.own []) (sym is_new ∙ has_one new x has) (here, omega arith, sym (h.unmade h.made (omega arith)), λ e q. q);
+        owns = λ x has. subst (λ (y : Owned E). (place y.number ≡ length st.views) × (y.number < h.made + 1) × (y.own ≡ entries_at y.number log) × Within y.own []) (sym is_new ∙ has_one new x has) (here, omega arith, sym (h.unmade h.made (omega arith)), λ e q. q);
         counts = λ k c. absurd (cc (c));
       })
       (λ o not. h.unmade o (omega arith))
@@ -370,16 +369,15 @@ module _ {E G : Type 0} (backs : G → List (Entry E) → Entry E → Type 0) (k
         at_id is = ap (λ (i : ℕ). get_elem? (set (set views id (joined v w)) other spent_view) i) is ∙ set_else (set views id (joined v w)) other id spent_view (λ q. apart (sym q)) ∙ set_here views id (joined v w) (at_short views id v mine)
 
   -- a seat takes in a note, or another seat
-  pub joins : (id other : ℕ) (v w : View E G) → 1 ≤ v.notes + length v.objects → Joins (HasLog backs key) id v other w (joined v w) spent_view
-  joins id other v w stands st h mine apart at_other =
+  pub kept_joins : (log : List (Entry E)) (id other : ℕ) (v w : View E G) → 1 ≤ v.notes + length v.objects → Joins (HasLog backs key log) id v other w (joined v w) spent_view
+  kept_joins log id other v w stands st h mine apart at_other =
       let both = joined v w in
       let theirs : get_elem? st.views other ≡ some w = sym (set_else st.views id other both apart) ∙ at_other in
       let f = h.fits id v mine in
       let g = h.fits other w theirs in
-      let lives = alive h.log h.place h.counter h.made id v f stands in
-      let place = moved h.log h.place h.counter h.made id other apart in
+      let lives = alive log h.place h.counter h.made id v f stands in
+      let place = moved log h.place h.counter h.made id other apart in
       record {
-        log = h.log;
         place = place;
         counter = h.counter;
         made = h.made;
@@ -389,12 +387,12 @@ module _ {E G : Type 0} (backs : G → List (Entry E) → Entry E → Type 0) (k
         backed = h.backed;
         planned = h.planned;
         unmade = h.unmade;
-        homes = λ o less. seated_moved h.log h.place h.counter h.made id other apart st.views v w o mine theirs (h.homes o less);
+        homes = λ o less. seated_moved log h.place h.counter h.made id other apart st.views v w o mine theirs (h.homes o less);
         fits = λ j u is. ⊎_elim
-            (λ (same : (j ≡ other) × (spent_view ≡ u)). subst (λ (y : ℕ × View E G). Fits key h.log place h.counter h.made y.0 y.1) (λ i. (sym same.0 i, same.1 i)) (fits_spent h.log place h.counter h.made other))
+            (λ (same : (j ≡ other) × (spent_view ≡ u)). subst (λ (y : ℕ × View E G). Fits key log place h.counter h.made y.0 y.1) (λ i. (sym same.0 i, same.1 i)) (fits_spent log place h.counter h.made other))
             (λ (else : (j ≢ other) × (get_elem? (set st.views id both) j ≡ some u)). ⊎_elim
-            (λ (same : (j ≡ id) × (both ≡ u)). subst (λ (y : ℕ × View E G). Fits key h.log place h.counter h.made y.0 y.1) (λ i. (sym same.0 i, same.1 i)) (fits_joined h.log h.place h.counter h.made id other apart v w f g lives))
-            (λ (more : (j ≢ id) × (get_elem? st.views j ≡ some u)). fits_moved h.log h.place h.counter h.made id other apart j u else.0 (h.fits j u more.1))
+            (λ (same : (j ≡ id) × (both ≡ u)). subst (λ (y : ℕ × View E G). Fits key log place h.counter h.made y.0 y.1) (λ i. (sym same.0 i, same.1 i)) (fits_joined log h.place h.counter h.made id other apart v w f g lives))
+            (λ (more : (j ≢ id) × (get_elem? st.views j ≡ some u)). fits_moved log h.place h.counter h.made id other apart j u else.0 (h.fits j u more.1))
             (at_set st.views id j both u else.1))
             (at_set (set st.views id both) other j spent_view u is);
         notes =
@@ -404,13 +402,12 @@ module _ {E G : Type 0} (backs : G → List (Entry E) → Entry E → Type 0) (k
             omega arith;
       }
 
-  pub opens : HasLog backs key (opening (0 ∷ []) [] (first_view key))
-  opens = record {
-    log = [];
+  pub kept_opens : (gates : List ℕ) → HasLog backs key [] (opening (0 ∷ gates) [] (first_view key))
+  kept_opens gates = record {
     place = λ o. 0;
     counter = 0;
     made = 0;
-    words = refl;
+    words = omega arith;
     count = refl;
     numbered = λ p e is. absurd (some-ne-none e (sym is));
     backed = λ p e is. absurd (some-ne-none e (sym is));
@@ -426,23 +423,20 @@ module _ {E G : Type 0} (backs : G → List (Entry E) → Entry E → Type 0) (k
       first (suc i) v is = absurd (some-ne-none v (sym is))
 
   -- a seat looks at the whole history
-  pub learns : (slots id : ℕ) (me : Me ℕ (View E G)) → 1 ≤ me.0.notes + length me.0.objects → Allows (HasLog backs key) slots id me 0 (λ n. n) (Learned backs (step slots 0 0 0 none) me)
-  learns slots id me stands st h homes mine wide =
+  pub kept_learns : (log : List (Entry E)) (slots id : ℕ) (me : Me ℕ (View E G)) → 1 ≤ me.0.notes + length me.0.objects → NoneAfterClosed log → (st : State ℕ (View E G)) → HasLog backs key log st → get_elem? st.views id ≡ some me.0
+      → HasLog backs key log (record { words = slice_set st.words 0 (slice_index st.words 0); homes = st.homes; views = slice_set st.views id (learnt me.0 log) }) × Learned backs (step slots 0 0 0 none) me (slice_index st.words 0) (learnt me.0 log, me.1)
+  kept_learns log slots id me stands last st h mine =
       let v = me.0 in
       let n = slice_index st.words 0 in
       let f = h.fits id v mine in
-      let lives = alive h.log h.place h.counter h.made id v f stands in
-      let w : View E G = record { frame = v.frame; notes = v.notes; seen = length h.log; known = h.log; looks = v.looks; objects = v.objects; counts = v.counts } in
+      let lives = alive log h.place h.counter h.made id v f stands in
+      let w = learnt v log in
       let framed : (k : Frame G) → v.frame ≡ Some k → key ≡ k = λ k is. sym (f.framed k is) in (
-        w,
-        keeps,
-        tt,
         record {
-          log = h.log;
           place = h.place;
           counter = h.counter;
           made = h.made;
-          words = length-set st.words 0 n ∙ h.words;
+          words = set_longer st.words 0 n h.words;
           count = set_word st.words n h.words ∙ h.count;
           numbered = h.numbered;
           backed = h.backed;
@@ -450,12 +444,12 @@ module _ {E G : Type 0} (backs : G → List (Entry E) → Entry E → Type 0) (k
           unmade = h.unmade;
           homes = λ o less. seated_put st.views id v w h.place o mine (λ x has. (x, has, refl)) (h.homes o less);
           fits = λ j u is. ⊎_elim
-              (λ (same : (j ≡ id) × (w ≡ u)). subst (λ (y : ℕ × View E G). Fits key h.log h.place h.counter h.made y.0 y.1) (λ i. (sym same.0 i, same.1 i)) (record {
+              (λ (same : (j ≡ id) × (w ≡ u)). subst (λ (y : ℕ × View E G). Fits key log h.place h.counter h.made y.0 y.1) (λ i. (sym same.0 i, same.1 i)) (record {
                 framed = f.framed;
                 spent = λ gone. absurd (lives gone);
                 seen = omega arith;
-                known = λ e has. let p = h.numbered has.0 e has.1 in (let q = at_short h.log has.0 e has.1 in omega arith, ap (λ (k : ℕ). get_elem? h.log k) p ∙ has.1);
-                owns = λ x has. let q = f.owns x has in (q.0, q.1, q.2, λ e own. of_key-within object_of x.number h.log e (subst (λ (l : List (Entry E)). Has l e) q.2 own));
+                known = λ e has. let p = h.numbered has.0 e has.1 in (let q = at_short log has.0 e has.1 in omega arith, ap (λ (k : ℕ). get_elem? log k) p ∙ has.1);
+                owns = λ x has. let q = f.owns x has in (q.0, q.1, q.2, λ e own. of_key-within object_of x.number log e (subst (λ (l : List (Entry E)). Has l e) q.2 own));
                 counts = f.counts;
               }))
               (λ (else : (j ≢ id) × (get_elem? st.views j ≡ some u)). h.fits j u else.1)
@@ -470,7 +464,33 @@ module _ {E G : Type 0} (backs : G → List (Entry E) → Entry E → Type 0) (k
           keeps = λ e has. (e.position, (f.known e has).1);
           numbered = h.numbered;
           owns = λ x has. (f.owns x has).2;
-          backed = λ k is. subst (λ (q : Frame G). AreBacked backs q.world h.log) (framed k is) h.backed;
-          planned = λ k is. subst (λ (q : Frame G). ArePlanned q h.log) (framed k is) h.planned;
+          backed = λ k is. subst (λ (q : Frame G). AreBacked backs q.world log) (framed k is) h.backed;
+          planned = λ k is. subst (λ (q : Frame G). ArePlanned q log) (framed k is) h.planned;
+          last = last;
         },
       )
+
+  -- a step on a gate's word
+  module _ (log : List (Entry E)) (st : State ℕ (View E G)) (h : HasLog backs key log st) (id : ℕ) (v : View E G) (mine : get_elem? st.views id ≡ some v) where
+    pub kept_gate : (g n : ℕ) (w : View E G) → 1 ≤ v.notes + length v.objects → w.frame ≡ v.frame → w.seen ≡ v.seen → w.known ≡ v.known → w.objects ≡ v.objects → w.counts ≡ v.counts → w.notes ≡ v.notes
+        → HasLog backs key log (record { words = slice_set st.words (1 + g) n; homes = st.homes; views = slice_set st.views id w })
+    kept_gate g n w stands frame seen known objects counts notes =
+        let f = h.fits id v mine in
+        let lives = alive log h.place h.counter h.made id v f stands in
+        record {
+          place = h.place;
+          counter = h.counter;
+          made = h.made;
+          words = set_longer st.words (1 + g) n h.words;
+          count = get_or-set_other st.words (1 + g) 0 n 0 (λ q. omega arith) ∙ h.count;
+          numbered = h.numbered;
+          backed = h.backed;
+          planned = h.planned;
+          unmade = h.unmade;
+          homes = λ o less. seated_put st.views id v w h.place o mine (λ x has. (x, subst (λ l. Has l x) (sym objects) has, refl)) (h.homes o less);
+          fits = λ j u is. ⊎_elim
+              (λ (same : (j ≡ id) × (w ≡ u)). subst (λ (y : ℕ × View E G). Fits key log h.place h.counter h.made y.0 y.1) (λ i. (sym same.0 i, same.1 i)) (fits_again log h.place h.counter h.made id v w f lives frame seen known objects counts))
+              (λ (else : (j ≢ id) × (get_elem? st.views j ≡ some u)). h.fits j u else.1)
+              (at_set st.views id j w u is);
+          notes = let q = total_put (λ (u : View E G). u.notes) st.views id v w mine in let r = h.notes in omega arith;
+        }

@@ -9,6 +9,7 @@ use Rattle.one_history.specs.declared.view.Owned.{Owned}
 use Rattle.one_history.specs.declared.view.View.{View}
 use Rattle.view_lists.specs.Lists.{Has, Within}
 use Rattle.one_history.specs.Lists.{entries_at}
+use Rattle.one_history.specs.Gates.{NoneAfterClosed}
 
 module _ {E : Type 0} where
   -- the entry at each place has that position
@@ -35,3 +36,4 @@ module _ {E G : Type 0} where
     pub owns : (x : Owned E) → Has m'.0.objects x → x.own ≡ entries_at x.number m'.0.known
     pub backed : (key : Frame G) → m.0.frame ≡ Some key → AreBacked backs key.world m'.0.known
     pub planned : (key : Frame G) → m.0.frame ≡ Some key → ArePlanned key m'.0.known
+    pub last : NoneAfterClosed m'.0.known

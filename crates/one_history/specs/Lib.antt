@@ -1,4 +1,5 @@
 pub mod Lists
+pub mod Gates
 pub mod Rule
 pub mod Moves
 pub mod Held

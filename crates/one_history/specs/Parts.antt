@@ -1,5 +1,5 @@
 -- The parts of the rule, in words of the views alone.
-use Rattle.std.specs.Prelude.{◌≡◌, ℕ, ◌<◌, ◌≤◌, List, length, Some, None, slice_index, slice_index_or}
+use Rattle.std.specs.Prelude.{◌≡◌, ℕ, ◌<◌, ◌≤◌, List, length, Some, None, slice_index, slice_index_or, AllPairs}
 use Rattle.std.specs.List.{sum_by}
 use mathlib.Core.Option.{some}
 use lib.ListN.{get_elem?}
@@ -10,8 +10,14 @@ use Rattle.one_history.specs.declared.view.Frame.{Frame}
 use Rattle.one_history.specs.declared.view.Owned.{Owned}
 use Rattle.one_history.specs.declared.view.View.{View}
 use Rattle.one_history.specs.Lists.{entries_at}
+use Rattle.one_history.specs.Gates.{NamesOwn, KeepsGates}
 use Rattle.one_history.specs.Rule.{spent_view}
 use Rattle.one_history.specs.Closing.{Numbered, AreBacked}
+
+module _ {E : Type 0} where
+  -- the one stands at an earlier position than the other
+  abbrev pub IsBefore : Entry E → Entry E → Type 0
+  IsBefore a b = a.position < b.position
 
 module _ {E G : Type 0} where
   -- view i is a seat of this object
@@ -33,11 +39,14 @@ module _ {E G : Type 0} where
     pub seen : (i : ℕ) (v : View E G) → get_elem? views i ≡ some v → v.seen ≤ count
     pub known : (i : ℕ) (v : View E G) (e : Entry E) → get_elem? views i ≡ some v → Has v.known e → (e.position < v.seen) × (j : ℕ) × Owns views j e.object e
 
-  -- no object has two seats, and a seat knows its own entries, which are its object's and no more than planned
+  -- no object has two seats, and a seat knows its own entries, which are its object's, rise by position, and are no more than planned;
+  -- a gate that they give or close is one of the object's
   pub record HasOneSeat (key : Frame G) (views : List (View E G)) : Type 0 where
     pub one : (i j : ℕ) (x y : Owned E) → Sits views i x → Sits views j y → x.number ≡ y.number → (i ≡ j) × (x.own ≡ y.own)
     pub own : (i o : ℕ) (e : Entry E) → Owns views i o e → e.object ≡ o
+    pub rising : (i : ℕ) (x : Owned E) → Sits views i x → AllPairs IsBefore x.own
     pub known : (i : ℕ) (v : View E G) (x : Owned E) → get_elem? views i ≡ some v → Has v.objects x → Within x.own v.known
+    pub gates : (i o : ℕ) (e : Entry E) → Owns views i o e → NamesOwn key o e.sign
     pub planned : (i : ℕ) (x : Owned E) → Sits views i x → length x.own ≤ slice_index_or key.planned x.number 0
     pub counter : (i j m n : ℕ) (v w : View E G) → get_elem? views i ≡ some v → get_elem? views j ≡ some w → v.counts ≡ Some m → w.counts ≡ Some n → i ≡ j
     pub below : (i j n : ℕ) (v : View E G) (x : Owned E) → get_elem? views i ≡ some v → v.counts ≡ Some n → Sits views j x → x.number < n
@@ -57,10 +66,17 @@ module _ {E G : Type 0} where
     pub whole : (e : Entry E) → Has log e → (i : ℕ) × Owns views i e.object e
     pub backed : AreBacked backs key.world log
 
+  -- of this list: a gate's word is its mark and the stays at it, which are no more than the notes; a gate that is marked or void to a view
+  -- is revoked; one that is drained to a view or closed is marked and empty; and no direct access through a gate stands after its closing
+  pub record MindsGates (backs : G → List (Entry E) → Entry E → Type 0) (key : Frame G) (s : State ℕ (View E G)) : Type 0 where
+    pub merged : MergesBacked backs key (slice_index s.words 0) s.views
+    pub gated : KeepsGates key merged.log s
+
   -- all parts of the rule
   pub record IsKept (backs : G → List (Entry E) → Entry E → Type 0) (key : Frame G) (s : State ℕ (View E G)) : Type 0 where
     pub drawn : StandsOnce (slice_index s.words 0) s.views
     pub seen : KnowsHistory (slice_index s.words 0) s.views
     pub seated : HasOneSeat key s.views
+    pub gated : MindsGates backs key s
     pub spent : SharesNotes key s.views
     pub backed : MergesBacked backs key (slice_index s.words 0) s.views

@@ -11,6 +11,7 @@ use Rattle.one_history.specs.declared.view.Owned.{Owned}
 use Rattle.one_history.specs.declared.view.View.{View}
 use Rattle.view_lists.specs.Lists.{Has, Within}
 use Rattle.one_history.specs.Lists.{entries_at}
+use Rattle.one_history.specs.Gates.{KeepsGates}
 
 -- the fixed facts of a history, as plain data
 abbrev pub plain : {G : Type 0} → Key G → Frame G
@@ -19,11 +20,11 @@ plain k = record { world = k.world.value; planned = k.planned.items; gates = k.g
 module _ {E G : Type 0} where
   -- what the seat of a joined note knows
   abbrev pub spent_view : View E G
-  spent_view = record { frame = None; notes = 0; seen = 0; known = []; looks = []; objects = []; counts = None }
+  spent_view = record { frame = None; notes = 0; seen = 0; known = []; looks = []; objects = []; counts = None; stays = []; void = []; drained = [] }
 
   -- what the first note of a history knows
   abbrev pub first_view : Frame G → View E G
-  first_view key = record { frame = Some key; notes = key.notes; seen = 0; known = []; looks = []; objects = []; counts = Some 0 }
+  first_view key = record { frame = Some key; notes = key.notes; seen = 0; known = []; looks = []; objects = []; counts = Some 0; stays = []; void = []; drained = [] }
 
   -- what the rule says of view i
   pub record Fits (key : Frame G) (log : List (Entry E)) (place : ℕ → ℕ) (counter made : ℕ) (i : ℕ) (v : View E G) : Type 0 where
@@ -38,13 +39,12 @@ module _ {E G : Type 0} where
   abbrev pub Seated : List (View E G) → (ℕ → ℕ) → ℕ → Type 0
   Seated views place o = (u : View E G) × (x : Owned E) × (get_elem? views (place o) ≡ some u) × Has u.objects x × (x.number ≡ o)
 
-  -- the rule: there is one log of which all views speak, and the word counts it
-  pub record HasLog (backs : G → List (Entry E) → Entry E → Type 0) (key : Frame G) (s : State ℕ (View E G)) : Type 0 where
-    pub log : List (Entry E)
+  -- the first part of the rule: all views speak of this log, and the first word counts it
+  pub record HasLog (backs : G → List (Entry E) → Entry E → Type 0) (key : Frame G) (log : List (Entry E)) (s : State ℕ (View E G)) : Type 0 where
     pub place : ℕ → ℕ
     pub counter : ℕ
     pub made : ℕ
-    pub words : length s.words ≡ 1
+    pub words : 0 < length s.words
     pub count : slice_index s.words 0 ≡ length log
     pub numbered : (p : ℕ) (e : Entry E) → get_elem? log p ≡ some e → e.position ≡ p
     pub backed : (p : ℕ) (e : Entry E) → get_elem? log p ≡ some e → backs key.world (take p log) e
@@ -53,3 +53,9 @@ module _ {E G : Type 0} where
     pub homes : (o : ℕ) → o < made → Seated s.views place o
     pub fits : (i : ℕ) (v : View E G) → get_elem? s.views i ≡ some v → Fits key log place counter made i v
     pub notes : sum_by (λ v. v.notes) s.views ≡ key.notes
+
+  -- the rule: there is one log of which all views speak, and the gates' words go with it
+  pub record IsWhole (backs : G → List (Entry E) → Entry E → Type 0) (key : Frame G) (s : State ℕ (View E G)) : Type 0 where
+    pub log : List (Entry E)
+    pub counted : HasLog backs key log s
+    pub gated : KeepsGates key log s

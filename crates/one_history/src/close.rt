@@ -37,7 +37,7 @@ impl<E, G, W: Law<E, G>> Sealed<E, G, W> {
     }
 }
 
-/// What `History::close` answers. It takes no memory, so that it never answers `Refused`.
+/// What `History::close` answers. Nothing in it can fail, so that it never answers `Refused`.
 #[derive(Drop)]
 pub enum Closed<E, G, W: Law<E, G>> {
     Done(Sealed<E, G, W>),
@@ -48,6 +48,7 @@ pub enum Closed<E, G, W: Law<E, G>> {
 impl<E, G, W: Law<E, G>> History<E, G, W> {
     ghost use Rattle.view_lists.specs.Lists.{Has, Within};
     ghost use Rattle.one_history.specs.declared.view.Owned.{Owned};
+    ghost use Rattle.one_history.specs.Gates.{NoneAfterClosed};
     ghost use Rattle.one_history.specs.Lists.{entries_at};
     ghost use Rattle.one_history.specs.Moves.{joined};
     ghost use Rattle.one_history.specs.Seats.{AreSeats, AreNotes, Gathers, Tell, IsMerge};
@@ -116,6 +117,7 @@ impl<E, G, W: Law<E, G>> History<E, G, W> {
         ensures keeps { Within master.me.0.known result.entries }
         ensures planned { ArePlanned self.frame result.entries }
         ensures backed { AreBacked W.backs self.frame.world result.entries }
+        ensures ended { NoneAfterClosed result.entries }
     {
         let count = self.table.shared.load::<Learns<W>>(&mut master, 0);
         Sealed {
@@ -128,7 +130,7 @@ impl<E, G, W: Law<E, G>> History<E, G, W> {
     /// Ends the history. The seats are those of all objects, in order, and the notes are of this
     /// history. Its entries are the merge of the seats' own entries by position, each object's are no
     /// more than were planned, all that the notes know is among them, and each is backed by those
-    /// before it. The answer is always `Done`.
+    /// before it. No direct access through a gate stands after its closing. The answer is always `Done`.
     pub fn close(
         self,
         seats: Vec<ObjectSeat<E, G, W>>,
@@ -142,6 +144,7 @@ impl<E, G, W: Law<E, G>> History<E, G, W> {
         ensures planned { IfDone result (λ s. ArePlanned self.frame s.entries) }
         ensures tell { IfDone result (λ s. Tell notes.items 0 s.entries) }
         ensures backed { IfDone result (λ s. AreBacked W.backs self.frame.world s.entries) }
+        ensures ended { IfDone result (λ s. NoneAfterClosed s.entries) }
     {
         // `new` was given an object, so there is a seat.
         let _ = &self.table;

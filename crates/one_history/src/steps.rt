@@ -94,3 +94,39 @@ impl<E, G, W: Law<E, G>> Play<u8, View<E, G>> for Learns<W> {
 
     ghost then = { Learned W.backs };
 }
+
+/// A note comes to a gate.
+pub struct Comes;
+
+impl<E, G> Play<u8, View<E, G>> for Comes {
+    ghost use Rattle.one_history.specs.Moves.{Came};
+
+    ghost then = { Came };
+}
+
+/// A stay ends.
+pub struct Leaves;
+
+impl<E, G> Play<u8, View<E, G>> for Leaves {
+    ghost use Rattle.one_history.specs.Moves.{Left};
+
+    ghost then = { Left };
+}
+
+/// A note marks a gate.
+pub struct Marks;
+
+impl<E, G> Play<u8, View<E, G>> for Marks {
+    ghost use Rattle.one_history.specs.Moves.{Marked};
+
+    ghost then = { Marked };
+}
+
+/// A note looks at a gate.
+pub struct Watches;
+
+impl<E, G> Play<u8, View<E, G>> for Watches {
+    ghost use Rattle.one_history.specs.Moves.{Watched};
+
+    ghost then = { Watched };
+}

@@ -46,6 +46,18 @@ pub struct View<E, G> {
     pub objects: LinkedList<Owned<E>>,
     /// How many seats were made. The first note alone counts them.
     pub counts: Option<u64>,
+    /// Its stays at gates. A note has at most one.
+    pub stays: LinkedList<Stay>,
+    /// Gates whose grant was revoked: an overlapping invalidation stands after it.
+    pub void: LinkedList<u32>,
+    /// Marked gates inside which nobody is any more.
+    pub drained: LinkedList<u32>,
+}
+
+/// A stay at a gate, inside or turned away, as contracts see it. No value of it is made.
+pub struct Stay {
+    pub gate: u32,
+    pub inside: bool,
 }
 
 /// The rule of the table.
@@ -54,9 +66,9 @@ pub struct Rule<E, G, W> {
 }
 
 impl<E, G, W: Law<E, G>> TableRule<u8, View<E, G>, Key<G>> for Rule<E, G, W> {
-    ghost use Rattle.one_history.specs.Rule.{HasLog, first_view, plain};
+    ghost use Rattle.one_history.specs.Rule.{IsWhole, first_view, plain};
 
-    ghost holds = { λ key s. HasLog W.backs (plain key) s };
+    ghost holds = { λ key s. IsWhole W.backs (plain key) s };
 
     ghost first = { λ key. first_view (plain key) };
 }

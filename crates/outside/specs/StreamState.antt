@@ -1,5 +1,5 @@
 -- What is seen of a sink over a stream.
-use Rattle.std.specs.Prelude.{ℕ, ◌≡◌, ◌≤◌, Bool, List, length, take, Option}
+use Rattle.std.specs.Prelude.{ℕ, ◌≡◌, ◌≤◌, Bool, true, false, List, length, take, Option, Some, None}
 use Rattle.std.specs.Io.KnownBytes.{append_known, Appends}
 
 -- what the stream holds, where that is known; the bytes that wait to be written to it; whether it has
@@ -21,3 +21,14 @@ AppendsPrefix old new bytes = (n : ℕ) × (n ≤ length bytes) × Appends old n
 -- the calls to come hand it nothing more: it holds what it held, and the same bytes wait
 abbrev pub HasStopped : StreamState → StreamState → Type 0
 HasStopped old new = (new.held ≡ old.held) × (new.waiting ≡ old.waiting)
+
+-- known bytes where they are told, and nothing where they aren't
+abbrev pub told_by : Bool → Option (List ℕ) → Option (List ℕ)
+told_by true known = known
+told_by false known = None
+
+-- where bytes are told they are known
+abbrev pub IsToldBy : Bool → Option (List ℕ) → Type 0
+IsToldBy true None = ⊥
+IsToldBy true (Some bytes) = Unit {0}
+IsToldBy false known = Unit {0}

@@ -8,15 +8,16 @@
 //!
 //! Promises: a load changes nothing that is held and gives just the bytes held; a sink has taken the
 //! whole piece, or a prefix of it where it fails; each failure is counted. No contract says what a file
-//! or a stream of the system holds, so over these the two adapters tell no content. Over a folder that
-//! tells its files a load gives just these, and over a stream that tells what it holds nothing is lost
-//! or reordered on the way to it.
+//! or a stream of the system holds, so over these the two adapters tell no content (`Untold` is such a
+//! stream). Over a folder that tells its files a load gives just these, and over a stream that tells what
+//! it holds nothing is lost or reordered on the way to it.
 #![tactic(auto)]
 
 mod folders;
 mod libraries;
 mod sinks;
 mod stream;
+mod streams;
 #[cfg(test)]
 mod tests;
 mod traits;
@@ -25,4 +26,5 @@ pub use folders::{Folder, FolderLibrary};
 pub use libraries::{MapLibrary, NamedFile, WillingLibrary};
 pub use sinks::{FailingWrite, VecSink, WillingSink};
 pub use stream::{STREAM_ROOM, StreamSink};
+pub use streams::{Stream, Untold};
 pub use traits::{Failed, Library, LoadFault, NoPace, Pace, Sink};

@@ -3,8 +3,10 @@ ghost use Rattle.std.specs.Prelude.{◌≡◌, ◌+◌, ◌-◌, ◌≤◌, ◌�
 ghost use Rattle.std.specs.Bool.{OnTrue};
 ghost use Rattle.std.specs.Io.KnownBytes.{Appends, Keeps};
 ghost use Rattle.outside.specs.Causes.{next_count, Rose};
-ghost use Rattle.outside.specs.StreamState.{StreamState, collected, AppendsPrefix, HasStopped};
+ghost use Rattle.outside.specs.Pieces.{TakesAll, TakesPrefix};
+ghost use Rattle.outside.specs.StreamState.{StreamState, collected, told_by, AppendsPrefix, HasStopped};
 
+use crate::streams::Stream;
 use crate::traits::{Failed, Sink};
 use std::alloc::Global;
 use std::io::{ErrorKind, Write};
@@ -15,8 +17,8 @@ use tlm_types::Memory;
 pub const STREAM_ROOM: usize = 65_536;
 
 /// A sink over a stream. It collects what it is given and writes it to the stream when its buffer is
-/// full and at `finish`, so that a small piece costs no call of the system. It takes no memory after
-/// `new`. Once the stream has failed nothing more is handed to it, so that it holds a prefix of what
+/// full and at `finish`, so that a small piece costs no call of the system. After `new` none of
+/// its calls can fail for want of memory. Once the stream has failed nothing more is handed to it, so that it holds a prefix of what
 /// was given. What waits when the sink is dropped is lost: call `finish` first.
 #[derive(Drop)]
 pub struct StreamSink<W: Write + Drop> {
@@ -105,23 +107,6 @@ impl<W: Write + Drop> StreamSink<W> {
         self.faults
     }
 
-    /// Writes what waits to the stream and flushes it. After a failure, of this call or an earlier one,
-    /// it fails each time.
-    pub fn finish(&mut self) -> Result<(), Failed>
-        ensures all { OnOk result (Keeps (collected self.old) self.new.held) }
-        ensures empty { OnOk result (self.new.waiting ≡ []) }
-        ensures kept { OnErr result (Keeps (collected self.old) (collected self.new)) }
-        ensures stopped { IsTrue self.old.failed → IsErr result × HasStopped self.old self.new }
-        ensures counted { self.new.faults
-            ≡ (if is_ok result then self.old.faults else next_count self.old.faults) }
-        ensures marked { self.new.failed ≡ is_err result }
-    {
-        if self.failed || !self.pour() || !self.flush() {
-            return self.fail();
-        }
-        Ok(())
-    }
-
     /// The stream, without what waits.
     pub fn into_inner(self) -> W
         ensures { W.contents result ≡ self.held }
@@ -195,8 +180,30 @@ impl<W: Write + Drop> StreamSink<W> {
     }
 }
 
-impl<W: Write + Drop> Sink for StreamSink<W> {
-    ghost taken = { λ s. None };
+impl<W: Stream + Drop> StreamSink<W> {
+    /// Writes what waits to the stream and flushes it. After a failure, of this call or an earlier one,
+    /// it fails each time.
+    pub fn finish(&mut self) -> Result<(), Failed>
+        ensures all { OnOk result (Keeps (collected self.old) self.new.held) }
+        ensures empty { OnOk result (self.new.waiting ≡ []) }
+        ensures kept { OnErr result (Keeps (collected self.old) (collected self.new)) }
+        ensures same { told_by W.tells (collected self.new) ≡ told_by W.tells (collected self.old) }
+        ensures stopped { IsTrue self.old.failed → IsErr result × HasStopped self.old self.new }
+        ensures counted { self.new.faults
+            ≡ (if is_ok result then self.old.faults else next_count self.old.faults) }
+        ensures marked { self.new.failed ≡ is_err result }
+        ensures later { self.old.faults ≤ self.new.faults }
+        ensures failed { OnErr result (Rose self.old.faults self.new.faults) }
+    {
+        if self.failed || !self.pour() || !self.flush() {
+            return self.fail();
+        }
+        Ok(())
+    }
+}
+
+impl<W: Stream + Drop> Sink for StreamSink<W> {
+    ghost taken = { λ s. told_by W.tells (collected s) };
 
     ghost faults = { λ s. s.faults };
 
@@ -218,6 +225,10 @@ impl<W: Write + Drop> Sink for StreamSink<W> {
         ensures marked { self.new.failed ≡ (self.old.failed || is_err result) }
 
         // What every sink promises.
+        ensures all { OnOk result (TakesAll (told_by W.tells (collected self.old))
+            (told_by W.tells (collected self.new)) bytes.now) }
+        ensures part { OnErr result (TakesPrefix (told_by W.tells (collected self.old))
+            (told_by W.tells (collected self.new)) bytes.now) }
         ensures later { self.old.faults ≤ self.new.faults }
         ensures failed { OnErr result (Rose self.old.faults self.new.faults) }
     {

@@ -1,29 +1,16 @@
 -- What the log says of a reference with which a call is admitted.
-use Rattle.std.proofs.Common.{◌≡◌, ◌⊎◌, ℕ, ◌+◌, ◌<◌, ◌≤◌, true, length, Option, Some, sym, ap, ◌∙◌, subst, ⊎_elim, arith}
-use Rattle.std.specs.Prelude.{◌/◌, ◌%◌}
-use Rattle.std.proofs.lemmas.Bool.{ltb-true}
-use Rattle.tlm_types.specs.declared.words.TxnId.{TxnId}
-use Rattle.flow_model.specs.Events.{Among}
-use Rattle.flow_model.specs.Pools.{Life, slots_after}
+use Rattle.std.proofs.Common.{◌≡◌, ℕ, ◌+◌, true, sym, ap, ◌∙◌, arith}
+use Rattle.flow_model.specs.Pools.{slots_after}
 use Rattle.flow_model.specs.Slots.{no_slots}
-use Rattle.payload_pool.specs.Slots.{SlotView, blank_slot, slot_at, tally, has_name, number_of, place_of}
+use Rattle.payload_pool.specs.Slots.{blank_slot, slot_at, has_name, number_of, place_of}
 use Rattle.payload_pool.specs.Lives.{FitsLog, no_takes, takes_after}
 use Rattle.payload_pool.specs.Pool.{PoolView}
+use Rattle.payload_pool.specs.Laws.{IsHeld}
 use Rattle.payload_pool.specs.Calls.{is_out}
-use Rattle.payload_pool.proofs.Found.{Found, any_found, passes_found}
-use Rattle.payload_pool.proofs.Tallies.{tally_few, among_tally}
+use Rattle.payload_pool.proofs.Found.{any_found, passes_found}
+use Rattle.payload_pool.proofs.Tallies.{tally_few}
 use Rattle.payload_pool.proofs.Names.{is_named}
 use Rattle.payload_pool.proofs.Lives.{live_life, number_life, not_released}
-
--- a live slot has a life that began at the position that the name tells, and there the number is acquired and not released
-pub record IsHeld (v : PoolView) (name : ℕ) : Type 0 where
-  pub life : Life
-  pub is : slots_after no_slots v.log.events (place_of name v.slots) ≡ Some life
-  pub position : takes_after no_takes v.log.events (place_of name v.slots) ≡ name / 32
-  pub txn : (slot_at v.slots (place_of name v.slots)).txn ≡ life.txn
-  pub number : (number_of name < life.acquired) ⊎ (number_of name ≡ 15)
-  pub unreleased : Among life.released (number_of name) → ⊥
-  pub own : 15 ≤ name % 32 → name % 32 ≡ 16 + life.acquired
 
 pub held : (v : PoolView) (name : ℕ) → FitsLog v.slots v.log.events → is_out v name ≡ true → IsHeld v name
 held v name f out =

@@ -1,7 +1,7 @@
 -- What holds of each pool holds after each of its calls.
-use Rattle.std.proofs.Common.{◌≡◌, ℕ, ◌+◌, ◌-◌, ◌<◌, ◌≤◌, ◌==◌, Bool, true, false, cond, List, [], ◌∷◌, ◌++◌, length, Option, Some, None, refl, sym, ap, ◌∙◌, subst, ⊎_elim, arith, set, get_or, length-set}
+use Rattle.std.proofs.Common.{◌≡◌, ℕ, ◌+◌, ◌-◌, ◌<◌, ◌≤◌, ◌==◌, Bool, true, false, cond, List, [], ◌∷◌, ◌++◌, length, Option, Some, None, refl, sym, ap, ◌∙◌, subst, arith, set, get_or, length-set}
 use Rattle.std.specs.Prelude.{◌%◌, IsSome, IfSome, MatchOption}
-use Rattle.std.specs.List.{All, list_any, position, position_or_len}
+use Rattle.std.specs.List.{All, list_any, position}
 use Rattle.std.specs.Option.{option_map, option_or}
 use Rattle.std.proofs.lemmas.Bool.{both_ways, eqb-true, eqb-false, lt-ltb, cond-false, ne_eqb}
 use Rattle.std.proofs.lemmas.List.{get_or_read}
@@ -45,7 +45,7 @@ module _ (v : PoolView) (i : IsPool v) where
   pub few_slots : All (λ (s : SlotView). length s.out ≤ 16) v.slots
   few_slots =
       All-from_get_or (λ (s : SlotView). length s.out ≤ 16) v.slots blank_slot
-      (λ k below. few_of_log (slot_at v.slots k) (takes_after no_takes v.log.events k) (slots_after no_slots v.log.events k) (i.log.lives k))
+      (λ k below. few_of_log (slot_at v.slots k) (takes_after no_takes v.log.events k) (slots_after no_slots v.log.events k) (i.follows.log.lives k))
 
   pub few_tokens : (name : ℕ) → out_of name v.book.out ≤ 256
   few_tokens name = let a = few_out v.slots name i.few few_slots in let b = i.tokens name in omega arith
@@ -73,8 +73,7 @@ module _ (v : PoolView) (i : IsPool v) where
         let b = c.tokens m in
         let t = i.tokens m in
         omega arith;
-    log = c.log;
-    own = All-push (λ (x : Event). x.object ≡ pool_number v.initiator) v.log.events e i.own c.own;
+    follows = record { log = c.log; own = All-push (λ (x : Event). x.object ≡ pool_number v.initiator) v.log.events e i.follows.own c.own };
   }
 
   old_slot : (k : ℕ) → k < length v.slots → IsSlot v.room (slot_at v.slots k)
@@ -104,9 +103,9 @@ module _ (v : PoolView) (i : IsPool v) where
       let none = eqb-false (length (slot_at v.slots j).out) 0 (fails_before_first is_free v.slots j blank_slot (omega arith)) in
       omega arith
 
-  pub kept_take : (k position : ℕ) (x : TxnId) (time : ℕ) → Found is_free v.slots k → position < 1000000
+  pub kept_take : (k position : ℕ) (x : TxnId) (time : ℕ) → Found is_free v.slots k → position < 1000000 → All (λ (y : Event). y.position < position) v.log.events
       → IsPool (changed v k (begun x position) (event_by v position x time (Take k) 0) (issued v.book (name_of position 16) 1))
-  kept_take k position x time f low =
+  kept_take k position x time f low past =
       let free = eqb-true (length (slot_at v.slots k).out) 0 (passes_found is_free v.slots k blank_slot f) in
       kept_changed k (begun x position) (event_by v position x time (Take k) 0) (issued v.book (name_of position 16) 1) (record {
         below = f.within;
@@ -116,7 +115,7 @@ module _ (v : PoolView) (i : IsPool v) where
             let b = names_free (slot_at v.slots k) m free in
             let c = names_begun x position m in
             omega arith;
-        log = fits_take v.slots v.log.events i.log k f.within position (pool_number v.initiator) x time free (λ j h. live_before k j f h);
+        log = fits_take v.slots v.log.events i.follows.log k f.within position (pool_number v.initiator) x time past free (λ j h. live_before k j f h);
         own = refl;
       })
 
@@ -160,7 +159,7 @@ module _ (v : PoolView) (i : IsPool v) where
       let number : number_of t.name ≡ 15 = omega arith in
       let some : 1 ≤ tally 15 s.out = subst (λ (x : ℕ). 1 ≤ tally x s.out) number n.some in
       let many = tally_few 15 s.out in
-      let l = live_life s (takes_after no_takes v.log.events k) (slots_after no_slots v.log.events k) (omega arith) (i.log.lives k) in
+      let l = live_life s (takes_after no_takes v.log.events k) (slots_after no_slots v.log.events k) (omega arith) (i.follows.log.lives k) in
       let sum = l.of.total in
       record {
         acquired = omega arith;
@@ -171,9 +170,9 @@ module _ (v : PoolView) (i : IsPool v) where
         single = single s l.life 15 l.of some;
       }
 
-  pub kept_acquire : (t : Slip) (k position time : ℕ) → Holds t k → 16 ≤ t.name % 32 → acquired_of t.name < 15
+  pub kept_acquire : (t : Slip) (k position time : ℕ) → Holds t k → 16 ≤ t.name % 32 → acquired_of t.name < 15 → All (λ (y : Event). y.position < position) v.log.events
       → IsPool (changed v k (acquired_more (slot_at v.slots k)) (event_by v position (slot_at v.slots k).txn time (Acquire k) (acquired_of t.name)) (issued (issued (retired v.book t) (t.name + 1) 1) (t.name - 16) 1))
-  kept_acquire t k position time h own less =
+  kept_acquire t k position time h own less past =
       let s = slot_at v.slots k in
       let may = may_acquire t k h own less in
       let old = old_slot k h.place.within in
@@ -192,7 +191,7 @@ module _ (v : PoolView) (i : IsPool v) where
             let c = out_retired v.book t m h.one h.was in
             let d = names_more s t.name m (named t k h).position may.part may.few may.single in
             omega arith;
-        log = fits_acquire v.slots v.log.events i.log k h.place.within position (pool_number v.initiator) time (acquired_of t.name) may.live may.few may.acquired;
+        log = fits_acquire v.slots v.log.events i.follows.log k h.place.within position (pool_number v.initiator) time (acquired_of t.name) past may.live may.few may.acquired;
         own = refl;
       })
 
@@ -212,9 +211,9 @@ module _ (v : PoolView) (i : IsPool v) where
   kept_after s name (Some b) old brings = brings.1
   kept_after s name None old brings = old.kept
 
-  pub kept_release : (t : Slip) (k position time : ℕ) (kept : Option ℕ) → Holds t k → Brings t.name kept
+  pub kept_release : (t : Slip) (k position time : ℕ) (kept : Option ℕ) → Holds t k → Brings t.name kept → All (λ (y : Event). y.position < position) v.log.events
       → IsPool (changed v k (given_back (number_of t.name) kept (slot_at v.slots k)) (event_by v position (slot_at v.slots k).txn time (Release k (length (slot_at v.slots k).out == 1)) (number_of t.name)) (retired v.book t))
-  kept_release t k position time kept h brings =
+  kept_release t k position time kept h brings past =
       let s = slot_at v.slots k in
       let n = number_of t.name in
       let old = old_slot k h.place.within in
@@ -230,7 +229,7 @@ module _ (v : PoolView) (i : IsPool v) where
             let a = out_retired v.book t m h.one h.was in
             let b = names_less s kept t.name m is in
             omega arith;
-        log = fits_release v.slots v.log.events i.log k h.place.within position (pool_number v.initiator) time n kept is.some;
+        log = fits_release v.slots v.log.events i.follows.log k h.place.within position (pool_number v.initiator) time n kept past is.some;
         own = refl;
       })
 

@@ -4,7 +4,5 @@ pub mod Names
 pub mod Lives
 pub mod Steps
 pub mod Keeps
-pub mod Written
 pub mod Held
-pub mod Bench
-pub mod SeatedPools
+pub mod Takes

@@ -1,9 +1,10 @@
 -- The slots and the log after one more entry.
-use Rattle.std.proofs.Common.{◌≡◌, ℕ, suc, ◌+◌, ◌<◌, ◌≤◌, ◌==◌, Bool, true, false, cond, List, [], ◌∷◌, ◌++◌, length, Option, Some, None, refl, sym, ap, ◌∙◌, subst, ⊎_elim, arith, set, get_or, length-set}
-use Rattle.std.specs.Prelude.{◌%◌, IsSome}
+use Rattle.std.proofs.Common.{◌≡◌, ℕ, ◌+◌, ◌<◌, ◌≤◌, ◌==◌, Bool, true, false, cond, List, [], ◌∷◌, ◌++◌, length, Option, Some, refl, sym, ap, ◌∙◌, subst, ⊎_elim, arith, set, length-set}
+use Rattle.std.specs.Prelude.{IsSome}
+use Rattle.std.specs.List.{All}
 use Rattle.std.proofs.lemmas.Bool.{cases_eq, cond-true, cond-false, eq-eqb, ne_eqb, eqb-true, eqb-false}
 use Rattle.std.proofs.lemmas.List.{get_or-set_same, get_or-set_other, nil_from_length}
-use Rattle.std.proofs.lemmas.Bool.Decides.{nat_tests}
+use Rattle.std.proofs.lemmas.List.Quantifiers.{all_pairs_push}
 use Rattle.tlm_types.specs.declared.words.ObjectNo.{ObjectNo}
 use Rattle.tlm_types.specs.declared.words.TxnId.{TxnId}
 use Rattle.tlm_types.specs.declared.entry.What.{What}
@@ -12,9 +13,9 @@ use Rattle.tlm_model.proofs.EachLemmas.{AtEach-push}
 use Rattle.flow_model.specs.Events.{Event}
 use Rattle.flow_model.specs.Pools.{Life, Slots, PoolStepBy, IsPoolLog, slots_after, slots_by, fewer, more}
 use Rattle.flow_model.specs.Slots.{no_slots}
-use Rattle.payload_pool.specs.Logged.{event_of}
+use Rattle.numbered_log.specs.Logged.{event_of, IsBefore}
 use Rattle.payload_pool.specs.Slots.{SlotView, slot_at, tally, without, begun, acquired_more, given_back}
-use Rattle.payload_pool.specs.Lives.{IsOfLife, IsOfLog, FitsLog, no_takes, takes_after, takes_by}
+use Rattle.payload_pool.specs.Lives.{IsOfLog, FitsLog, no_takes, takes_after, takes_by}
 use Rattle.payload_pool.proofs.Tallies.{length_without, tally_few}
 use Rattle.payload_pool.proofs.Lives.{HasLife, free_life, live_life, first_life, more_life, less_life, acquire_step, release_step}
 
@@ -35,6 +36,7 @@ like s t m n o u p q r h =
 -- the log after an entry that changes one slot
 record Changes (slots : List SlotView) (events : List Event) (k : ℕ) (next : SlotView) (e : Event) : Type 0 where
   pub below : k < length slots
+  pub past : All (λ (y : Event). y.position < e.position) events
   pub step : PoolStepBy (length slots) (slots_after no_slots events) e.txn e.number e.what
   pub others : (j : ℕ) → (j ≡ k → ⊥) → slots_by (slots_after no_slots events) e.txn e.number e.what j ≡ slots_after no_slots events j
   pub other_takes : (j : ℕ) → (j ≡ k → ⊥) → takes_by (takes_after no_takes events) e.position e.what j ≡ takes_after no_takes events j
@@ -60,6 +62,7 @@ fits_changed slots events k next e f c =
           like (slot_at put j) (slot_at slots j) (takes_after no_takes more j) (takes_after no_takes events j) (slots_after no_slots more j) (slots_after no_slots events j)
           (get_or-set_other slots k j next _ other) (ap (λ (t : ℕ → ℕ). t j) taken ∙ c.other_takes j other) (ap (λ (t : Slots). t j) lived ∙ c.others j other) (f.lives j))
           (cases_eq j k);
+      ordered = all_pairs_push IsBefore events e f.ordered (λ i d b. c.past i d b);
     }
 
 module _ {X : Type 0} where
@@ -80,11 +83,12 @@ module _ (slots : List SlotView) (events : List Event) (f : FitsLog slots events
   abbrev takes : ℕ → ℕ
   takes = takes_after no_takes events
 
-  pub fits_take : (position : ℕ) (o : ObjectNo) (x : TxnId) (time : ℕ) → length (slot_at slots k).out ≡ 0 → ((j : ℕ) → j < k → 0 < length (slot_at slots j).out)
+  pub fits_take : (position : ℕ) (o : ObjectNo) (x : TxnId) (time : ℕ) → All (λ (y : Event). y.position < position) events → length (slot_at slots k).out ≡ 0 → ((j : ℕ) → j < k → 0 < length (slot_at slots j).out)
       → FitsLog (set slots k (begun x position)) (events ++ entry_by position o x time (Take k) 0 ∷ [])
-  fits_take position o x time free least =
+  fits_take position o x time past free least =
       fits_changed slots events k (begun x position) (entry_by position o x time (Take k) 0) f (record {
         below = below;
+        past = past;
         step = record {
           below = below;
           free = free_life (slot_at slots k) (takes k) (lives k) free (f.lives k);
@@ -97,14 +101,15 @@ module _ (slots : List SlotView) (events : List Event) (f : FitsLog slots events
             refl (put_same k position (takes k)) (put_same k _ _) (first_life x position, refl);
       })
 
-  pub fits_acquire : (position : ℕ) (o : ObjectNo) (time n : ℕ) → 0 < length (slot_at slots k).out → (slot_at slots k).acquired < 15 → n ≡ (slot_at slots k).acquired
+  pub fits_acquire : (position : ℕ) (o : ObjectNo) (time n : ℕ) → All (λ (y : Event). y.position < position) events → 0 < length (slot_at slots k).out → (slot_at slots k).acquired < 15 → n ≡ (slot_at slots k).acquired
       → FitsLog (set slots k (acquired_more (slot_at slots k))) (events ++ entry_by position o (slot_at slots k).txn time (Acquire k) n ∷ [])
-  fits_acquire position o time n live few number =
+  fits_acquire position o time n past live few number =
       let s = slot_at slots k in
       let h = live_life s (takes k) (lives k) live (f.lives k) in
       let l = h.life in
       fits_changed slots events k (acquired_more s) (entry_by position o s.txn time (Acquire k) n) f (record {
         below = below;
+        past = past;
         step = acquire_step lives k s (takes k) n h few number;
         others = λ j other. put_other k j _ _ other;
         other_takes = λ j other. refl;
@@ -125,15 +130,16 @@ module _ (slots : List SlotView) (events : List Event) (f : FitsLog slots events
       let live = h.of.live in
       (less_life s h.life n kept h.of some (grind arith), h.at)
 
-  pub fits_release : (position : ℕ) (o : ObjectNo) (time n : ℕ) (kept : Option ℕ) → 1 ≤ tally n (slot_at slots k).out
+  pub fits_release : (position : ℕ) (o : ObjectNo) (time n : ℕ) (kept : Option ℕ) → All (λ (y : Event). y.position < position) events → 1 ≤ tally n (slot_at slots k).out
       → FitsLog (set slots k (given_back n kept (slot_at slots k))) (events ++ entry_by position o (slot_at slots k).txn time (Release k (length (slot_at slots k).out == 1)) n ∷ [])
-  fits_release position o time n kept some =
+  fits_release position o time n kept past some =
       let s = slot_at slots k in
       let many = tally_few n s.out in
       let h = live_life s (takes k) (lives k) (omega arith) (f.lives k) in
       let b = length s.out == 1 in
       fits_changed slots events k (given_back n kept s) (entry_by position o s.txn time (Release k b) n) f (record {
         below = below;
+        past = past;
         step = release_step lives k s (takes k) n h some;
         others = λ j other. put_other k j _ _ other;
         other_takes = λ j other. refl;

@@ -1,8 +1,6 @@
-pub mod Logged
 pub mod Slots
 pub mod Lives
 pub mod Pool
 pub mod Inside
 pub mod Calls
-pub mod Bench
-pub mod Seated
+pub mod Laws

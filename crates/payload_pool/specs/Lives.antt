@@ -1,10 +1,12 @@
 -- What the slots are by the log of their pool: the lives of flow_model, each with the position of its Take.
 use Rattle.std.specs.Prelude.{ℕ, ◌≡◌, ◌+◌, ◌<◌, ◌≤◌, ◌==◌, nat_lt, List, [], ◌∷◌, length, Option, Some, None, if◌then◌else◌}
+use Rattle.std.specs.List.{AllPairs}
 use Rattle.tlm_types.specs.declared.entry.What.{What}
 use Rattle.tlm_types.specs.declared.entry.What.TheVariants.{Take}
 use Rattle.flow_model.specs.Events.{Event}
 use Rattle.flow_model.specs.Pools.{Life, IsPoolLog, slots_after}
 use Rattle.flow_model.specs.Slots.{no_slots}
+use Rattle.numbered_log.specs.Logged.{IsBefore}
 use Rattle.payload_pool.specs.Slots.{SlotView, slot_at, tally}
 
 -- the position of each slot's latest Take
@@ -38,7 +40,8 @@ abbrev pub IsOfLog : SlotView → ℕ → Option Life → Type 0
 IsOfLog s position None = s.out ≡ []
 IsOfLog s position (Some l) = IsOfLife s l × (s.position ≡ position)
 
--- the slots are those that the log gives, and each entry is as the slots before it allow
+-- the slots are those that the log gives, and each entry is as the slots before it allow, and stands past those before it
 pub record FitsLog (slots : List SlotView) (events : List Event) : Type 0 where
   pub steps : IsPoolLog (length slots) events
   pub lives : (k : ℕ) → IsOfLog (slot_at slots k) (takes_after no_takes events k) (slots_after no_slots events k)
+  pub ordered : AllPairs IsBefore events

@@ -1,10 +1,9 @@
 -- What contracts see of a pool, and what its calls make of it.
-use Rattle.std.specs.Prelude.{ℕ, ◌≡◌, ◌+◌, ◌-◌, ◌<◌, ◌≤◌, ◌==◌, Bool, List, ◌∷◌, length, Option, Some, None, slice_set, IfSome}
+use Rattle.std.specs.Prelude.{ℕ, ◌≡◌, ◌+◌, ◌-◌, ◌<◌, ◌≤◌, ◌==◌, Bool, List, length, Option, slice_set, IfSome}
 use Rattle.std.specs.Option.{IsSome}
 use Rattle.std.specs.List.{All, list_any, count_by}
 use Rattle.tlm_types.specs.declared.words.ObjectNo.TheVariants.{Pool as pool_number}
 use Rattle.tlm_types.specs.declared.words.TxnId.{TxnId}
-use Rattle.tlm_types.specs.declared.entry.Entry.{Entry}
 use Rattle.tlm_types.specs.declared.entry.What.{What}
 use Rattle.tlm_types.specs.declared.entry.What.TheVariants.{Take, Acquire, Release}
 use Rattle.generic_payload.specs.Payload.{new_payload}
@@ -12,7 +11,7 @@ use Rattle.token_book.specs.Account.{Account, Slip, out_of, issued, retired, sli
 use Rattle.token_book.specs.Purse.{empty_purse}
 use Rattle.flow_model.specs.Events.{Event}
 use Rattle.payload_pool.specs.declared.baton.Baton.{Baton}
-use Rattle.payload_pool.specs.Logged.{LoggedView, event_of, with_event}
+use Rattle.numbered_log.specs.Logged.{LoggedView, event_of, with_event}
 use Rattle.payload_pool.specs.Slots.{SlotView, slot_at, is_free, is_live, tally, name_of, number_of, acquired_of, all_out, free_place, place_of, begun, acquired_more, given_back}
 use Rattle.payload_pool.specs.Lives.{FitsLog}
 
@@ -30,14 +29,18 @@ pub record IsSlot (room : ℕ) (s : SlotView) : Type 0 where
   pub stocked : tally 15 s.out ≡ 0 → IsSome s.kept
   pub kept : IfSome s.kept (λ bytes. bytes ≡ room)
 
+-- the slots are those of the log, and each entry is the pool's
+pub record Follows (v : PoolView) : Type 0 where
+  pub log : FitsLog v.slots v.log.events
+  pub own : All (λ (e : Event). e.object ≡ pool_number v.initiator) v.log.events
+
 -- what holds of each pool
 pub record IsPool (v : PoolView) : Type 0 where
   pub few : length v.slots ≤ 16
   pub slots : All (IsSlot v.room) v.slots
   -- the tokens that are out are those of the references
   pub tokens : (name : ℕ) → out_of name v.book.out ≡ all_out name v.slots
-  pub log : FitsLog v.slots v.log.events
-  pub own : All (λ (e : Event). e.object ≡ pool_number v.initiator) v.log.events
+  pub follows : Follows v
 
 -- the token is one of the pool's book
 pub record IsOut (v : PoolView) (t : Slip) : Type 0 where

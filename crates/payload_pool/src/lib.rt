@@ -7,22 +7,19 @@
 //!
 //! Promises: a take gives the least free slot with a payload as new, and none exactly where all slots
 //! are live. A slot is free again exactly where its last reference was given back, which the answer
-//! tells. Each call but `Live` adds one entry, and the slots are what the log gives. No call but `new`
-//! takes memory.
+//! tells. Each call but `Live` adds one entry, past those before it, and the slots are what the log
+//! gives. The name of a reference that is out gives its Take and its transaction. No call but `new` can
+//! fail for want of memory.
 #![tactic(auto)]
 
 mod baton;
 mod call;
-mod log;
+pub mod laws;
 mod object;
 mod pool;
 mod release;
-#[cfg(test)]
-mod shared_tests;
 mod slot;
 mod take;
-#[cfg(test)]
-mod tests;
 
 pub use baton::{Baton, Hold};
 pub use call::{PoolCall, PoolReply};

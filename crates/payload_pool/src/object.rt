@@ -8,8 +8,8 @@ use token_book::Tokens;
 
 impl Object for Pool {
     ghost use Rattle.std.specs.Prelude.{◌≡◌, ◌-◌, [], length, map, false};
-    ghost use Rattle.payload_pool.specs.Logged.{written_by};
-    ghost use Rattle.payload_pool.specs.Lives.{FitsLog};
+    ghost use Rattle.numbered_log.specs.Logged.{written_by};
+    ghost use Rattle.payload_pool.specs.Pool.{Follows};
     ghost use Rattle.payload_pool.specs.Calls.{built_of, admitted, content_of, Fits, look_of, Applied};
 
     type Call = PoolCall;
@@ -24,7 +24,7 @@ impl Object for Pool {
 
     ghost entries = { λ v. map written_by v.log.events };
 
-    ghost follows = { λ v. FitsLog v.slots v.log.events };
+    ghost follows = { Follows };
 
     ghost room = { λ v. v.log.room - length v.log.events };
 

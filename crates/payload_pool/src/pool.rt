@@ -4,12 +4,11 @@ ghost use Rattle.std.specs.List.{All};
 ghost use Rattle.tlm_types.specs.declared.words.ObjectNo.TheVariants.{Pool as pool_number};
 ghost use Rattle.flow_model.specs.Events.{Event, entries};
 ghost use Rattle.payload_pool.specs.Slots.{fresh_slot};
-ghost use Rattle.payload_pool.specs.Lives.{FitsLog};
-ghost use Rattle.payload_pool.specs.Pool.{live_of, has_free};
+ghost use Rattle.payload_pool.specs.Pool.{live_of, has_free, Follows};
 ghost use Rattle.payload_pool.specs.Calls.{is_out};
 
-use crate::log::NumberedLog;
 use crate::slot::{self, Slot};
+use numbered_log::NumberedLog;
 use std::alloc::Global;
 use std::marker::Model;
 use tlm_types::{Log, Memory};
@@ -109,7 +108,7 @@ impl Pool {
         ensures entries { result.now.entries ≡ entries self.now.log.events }
         ensures room { result.now.room ≡ self.now.log.room }
         ensures len { length result.now.entries ≡ length self.now.log.events }
-        ensures fits { FitsLog self.now.slots self.now.log.events }
+        ensures follows { Follows self.now }
         ensures own { All (λ (e : Event). e.object ≡ pool_number self.now.initiator) self.now.log.events }
     {
         self.log.log()

@@ -1,6 +1,7 @@
 // References that are given back.
-ghost use Rattle.std.specs.Prelude.{◌≡◌, ◌%◌, ◌≤◌, ◌<◌, length, true, Some, None, IfSome, MatchOption, option_map};
+ghost use Rattle.std.specs.Prelude.{◌≡◌, ◌%◌, ◌≤◌, ◌<◌, length, true, All, Some, None, IfSome, MatchOption, option_map};
 ghost use Rattle.token_book.specs.Purse.{empty_purse};
+ghost use Rattle.flow_model.specs.Events.{Event};
 ghost use Rattle.payload_pool.specs.Pool.{IsOut};
 ghost use Rattle.payload_pool.specs.Calls.{is_out, IsWhole, Releases};
 
@@ -25,6 +26,7 @@ impl Pool {
         requires token { IsOut self.old token × (token.amount ≡ 1) }
         requires part { MatchOption kept (token.name % 32 < 15) (λ k. (16 ≤ token.name % 32) × (k.payload.room ≡ self.old.room)) }
         requires wallet { IfSome kept (λ k. k.wallet ≡ empty_purse 12) }
+        requires past { is_out self.old token.name ≡ true → All (λ (e : Event). e.position < position) self.old.log.events }
         requires room { is_out self.old token.name ≡ true → length self.old.log.events < self.old.log.room }
         ensures { Releases self.old position token at (option_map (λ k. k.payload.room) kept) result self.new }
     {
@@ -49,6 +51,7 @@ impl Pool {
     pub fn release(&mut self, tokens: &Tokens, position: u64, hold: Hold, at: Ps) -> bool
         requires tokens { self.old.book.table ≡ tokens.now }
         requires hold { IsOut self.old hold }
+        requires past { is_out self.old hold.name ≡ true → All (λ (e : Event). e.position < position) self.old.log.events }
         requires room { is_out self.old hold.name ≡ true → length self.old.log.events < self.old.log.room }
         ensures { Releases self.old position hold at None result self.new }
     {
@@ -62,6 +65,7 @@ impl Pool {
         requires tokens { self.old.book.table ≡ tokens.now }
         requires baton { IsOut self.old baton.own }
         requires whole { IsWhole self.old.room baton }
+        requires past { is_out self.old baton.own.name ≡ true → All (λ (e : Event). e.position < position) self.old.log.events }
         requires room { is_out self.old baton.own.name ≡ true → length self.old.log.events < self.old.log.room }
         ensures { Releases self.old position baton.own at (Some baton.payload.room) result self.new }
     {

@@ -1,7 +1,8 @@
 // Payloads that are taken, and references to them.
-ghost use Rattle.std.specs.Prelude.{◌≡◌, ◌+◌, ◌*◌, ◌%◌, ◌≤◌, ◌<◌, length, true};
+ghost use Rattle.std.specs.Prelude.{◌≡◌, ◌+◌, ◌*◌, ◌%◌, ◌≤◌, ◌<◌, length, true, All};
 ghost use Rattle.tlm_types.specs.declared.words.ObjectNo.TheVariants.{Pool as pool_number};
 ghost use Rattle.token_book.specs.Account.{issued, out_of, slip};
+ghost use Rattle.flow_model.specs.Events.{Event};
 ghost use Rattle.payload_pool.specs.Slots.{acquired_of};
 ghost use Rattle.payload_pool.specs.Pool.{IsOut, has_free};
 ghost use Rattle.payload_pool.specs.Calls.{is_out, Takes, Acquires};
@@ -52,10 +53,11 @@ fn issue_own(tokens: &Tokens, book: &mut Book, name: u32) -> Own
 
 impl Pool {
     /// Takes the payload of the least free slot, which is then as new. None exactly where all slots are
-    /// live.
+    /// live. The position is past all entries, so that no two batons have one name.
     pub fn take(&mut self, tokens: &Tokens, position: u64, txn: TxnId, at: Ps) -> Option<Baton>
         requires tokens { self.old.book.table ≡ tokens.now }
         requires position { has_free self.old ≡ true → position < 1000000 }
+        requires past { has_free self.old ≡ true → All (λ (e : Event). e.position < position) self.old.log.events }
         requires room { has_free self.old ≡ true → length self.old.log.events < self.old.log.room }
         ensures { Takes self.old position txn at result self.new }
     {
@@ -80,6 +82,7 @@ impl Pool {
         requires tokens { self.old.book.table ≡ tokens.now }
         requires baton { IsOut self.old baton.own }
         requires few { acquired_of baton.own.name < 15 }
+        requires past { is_out self.old baton.own.name ≡ true → All (λ (e : Event). e.position < position) self.old.log.events }
         requires room { is_out self.old baton.own.name ≡ true → length self.old.log.events < self.old.log.room }
         ensures { Acquires self.old position baton at result.0 result.1 self.new }
     {

@@ -30,6 +30,7 @@ pub record MayBuild (table tokens : TableId) (frame : Frame Plan) (p : Plan) (se
   pub unseen : note.knows.seen ≡ 0
   pub unknown : note.knows.known ≡ []
   pub unlooked : note.knows.looks ≡ []
+  pub outside : note.knows.stays ≡ []
 
 pub may_build : (table tokens : TableId) (frame : Frame Plan) (p : Plan) (table_there tokens_there : TableId) (frame_there : Frame Plan) (seats : List (Held Content Plan)) (note : Held Content Plan) (books : List Account)
     → IsOpened table_there tokens_there frame_there seats note books → table_there ≡ table → frame_there ≡ frame → tokens_there ≡ tokens → p ≡ frame.world → MayBuild table tokens frame p seats note books
@@ -54,6 +55,7 @@ may_build table tokens frame p table_there tokens_there frame_there seats note b
       unseen = ap (λ (v : View Content Plan). v.seen) knows;
       unknown = ap (λ (v : View Content Plan). v.known) knows;
       unlooked = ap (λ (v : View Content Plan). v.looks) knows;
+      outside = ap (λ (v : View Content Plan). v.stays) knows;
     }
 
 -- a list whose items were all written anew

@@ -2,6 +2,7 @@
 use Rattle.std.proofs.Common.{◌≡◌, ℕ, ◌<◌, true, false, List, Option, Some, None, get_or, length, map, ap, subst, arith}
 use Rattle.std.specs.Option.{unwrap_or}
 use Rattle.view_lists.specs.Lists.{Within}
+use Rattle.one_history.specs.declared.view.Frame.{Frame}
 use Rattle.one_history.specs.declared.view.View.{View}
 use Rattle.shared_object.specs.Standing.{Numbers}
 use Rattle.shared_object.specs.Steps.{Enters}
@@ -25,11 +26,11 @@ memory_read p q memories m s are same below read =
     are.each m s (at_read memories m s (omega (arith, are.count, count, below)) read)
 
 -- a step of a memory is a call
-pub called : (p : Plan) (m : ℕ) (call : RegionCall) (note back : View Content Plan) (position : Option ℕ) (reply : RegionReply) (before after : LoggedMemory) → IsMemoryBuilt p m (built_of before) → IsLog before.traits before.log.entries
-    → Within (written_at m note.known) (written_from 0 before.log.entries) → Enters m (written_from 0 before.log.entries) (written_from 0 after.log.entries) true (content_of before call) note back position
+pub called : (frame : Frame Plan) (p : Plan) (m : ℕ) (call : RegionCall) (note back : View Content Plan) (position : Option ℕ) (reply : RegionReply) (before after : LoggedMemory) → IsMemoryBuilt p m (built_of before) → IsLog before.traits before.log.entries
+    → Within (written_at m note.known) (written_from 0 before.log.entries) → Enters frame m (written_from 0 before.log.entries) (written_from 0 after.log.entries) true (content_of before call) note back position
     → (after ≡ after_call before (unwrap_or position 0) call) × (reply ≡ reply_of before call) → IsCalled p m call note back (returned reply)
-called p m call note back None reply before after built lawful known enters applied = let no : true ≡ false = enters.when in cc (no)
-called p m call note back (Some position) reply before after built lawful known enters applied = record {
+called frame p m call note back None reply before after built lawful known enters applied = let no : true ≡ false = enters.when in cc (no)
+called frame p m call note back (Some position) reply before after built lawful known enters applied = record {
   memory = before;
   position = position;
   number = ap own_number built.object;

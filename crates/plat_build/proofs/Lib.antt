@@ -9,3 +9,4 @@ pub mod WalkLemmas
 pub mod BuildLemmas
 pub mod WaitLemmas
 pub mod UnusedLemmas
+mod GateLemmas

@@ -12,6 +12,7 @@ use Rattle.platform_file.specs.Bounded.{IsBounded}
 use Rattle.route_plan.specs.Planned.{planned_at}
 use Rattle.route_plan.specs.Valid.{checked_plan, hop_count}
 use Rattle.plat_build.specs.Objects.{frame_of, gates_at, gates_of, notes_of, objects_of, planned_of, pools_of}
+use Rattle.plat_build.proofs.GateLemmas.{few_gates}
 use Rattle.plat_build.proofs.ObjectLemmas.{count_gates, count_planned, few_planned, more_objects}
 
 -- the objects, pushed one kind after the other
@@ -36,12 +37,14 @@ pub record MayOpen (planned gates : List ℕ) : Type 0 where
   pub long : length gates ≡ length planned
   pub some_objects : 0 < length planned
   pub few : sum planned ≤ 1000000
+  pub few_gates : sum gates ≤ 1024
 
 pub may_open : (p : Plan) (objects : List ObjectNo) (planned gates : List ℕ) → IsBounded p.platform → checked_plan p ≡ Ok tt → planned ≡ planned_of p → gates ≡ gates_of p.platform → MayOpen planned gates
 may_open p objects planned gates bounded limits is are = record {
   long = ap length are ∙ (count_gates p.platform ∙ (sym (count_planned p) ∙ sym (ap length is)));
   some_objects = omega (arith, ap length is, count_planned p, more_objects p.platform, bounded.some_memory);
   few = subst (λ (l : List ℕ). sum l ≤ 1000000) (sym is) (few_planned p limits);
+  few_gates = subst (λ (l : List ℕ). sum l ≤ 1024) (sym are) (few_gates p.platform bounded.gates);
 }
 
 pub frame_is : (p : Plan) (f : Frame Plan) (planned gates : List ℕ) (notes : ℕ) → IsFrame f p planned gates notes → planned ≡ planned_of p → gates ≡ gates_of p.platform → notes ≡ notes_of p.platform → f ≡ frame_of p

@@ -34,7 +34,7 @@ fn make_notes(
 ) -> Result<Vec<PlatNote>, AllocError>
     requires some { 0 < count }
     requires table { note.table ≡ history.now.table }
-    requires fresh { (note.knows.notes ≡ count) × (note.knows.seen ≡ 0) × (note.knows.known ≡ []) × (note.knows.looks ≡ []) }
+    requires fresh { (note.knows.notes ≡ count) × (note.knows.seen ≡ 0) × (note.knows.known ≡ []) × (note.knows.looks ≡ []) × (note.knows.stays ≡ []) }
     ensures blank { IfOk result (λ notes. All (IsBlank history.now.table) notes.items) }
     ensures count { IfOk result (λ notes. length notes.items ≡ count) }
 {

@@ -33,9 +33,9 @@ impl World<Plan, Region> for TlmLaw {
 
     ghost builds = { IsMemoryBuilt };
 
-    ghost vouches = { λ _ _ _ _ _. Unit {0} };
+    ghost vouches = { λ _ _ _ _ _ _. Unit {0} };
 
-    ghost more_vouch = { λ _ _ _ _ _ _ _ _. tt };
+    ghost more_vouch = { λ _ _ _ _ _ _ _ _ _. tt };
 }
 
 impl Naming<Plan, TlmLaw> for Brand {

@@ -25,8 +25,6 @@ mod net;
 mod objects;
 mod opened;
 mod reach;
-#[cfg(test)]
-mod tests;
 mod unused;
 mod wallets;
 

@@ -7,8 +7,7 @@ use Rattle.tlm_types.specs.declared.ends.RefusedItem.{RefusedItem}
 use Rattle.tlm_types.specs.declared.entry.Entry.{Entry}
 use Rattle.tlm_model.specs.declared.platform.Platform.{Platform}
 use Rattle.tlm_model.specs.Plan.{Initiator}
-use Rattle.tlm_model.specs.Report.{has_no_route}
-use Rattle.tlm_model.specs.Requests.{Request}
+use Rattle.tlm_model.specs.Requests.{Request, has_no_route}
 use Rattle.tlm_model.specs.Route.{Route, later, latency_of, route_of}
 use Rattle.tlm_model.specs.Scripts.{has_answer, is_answer}
 use Rattle.tlm_model.proofs.EachLemmas.{append_nil}

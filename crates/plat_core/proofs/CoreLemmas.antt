@@ -1,5 +1,5 @@
 -- A core after a turn of an initiator.
-use Rattle.std.proofs.Common.{◌≡◌, ℕ, zero, suc, ◌+◌, ◌-◌, ◌*◌, ◌<◌, ◌≤◌, inl, inr, List, [], ◌∷◌, ◌++◌, length, take, drop, get_or, Option, Some, None, Bool, true, false, cond, nat_eq, nat_lt, is_none, refl, ap, sym, subst, ◌∙◌, arith, length-append}
+use Rattle.std.proofs.Common.{◌≡◌, ◌≢◌, ℕ, zero, suc, ◌+◌, ◌-◌, ◌*◌, ◌<◌, ◌≤◌, inl, inr, List, [], ◌∷◌, ◌++◌, length, take, drop, get_or, Option, Some, None, Bool, true, false, cond, nat_eq, nat_lt, is_none, refl, ap, sym, subst, ◌∙◌, arith, length-append}
 use Rattle.std.proofs.Math.Seq.{take-append_seam}
 use Rattle.std.specs.List.{AllByRecursion}
 use Rattle.std.specs.Prelude.{slice_get, MatchOption, IsSomeAnd}
@@ -15,7 +15,8 @@ use Rattle.tlm_types.specs.declared.words.ObjectNo.TheVariants.{Memory as memory
 use Rattle.tlm_model.specs.declared.operation.Operation.{Operation}
 use Rattle.tlm_model.specs.declared.platform.InitiatorRow.{InitiatorRow}
 use Rattle.tlm_model.specs.declared.platform.MemoryRow.{MemoryRow}
-use Rattle.tlm_model.specs.declared.platform.Style.TheVariants.{Blocking as blocking_style}
+use Rattle.tlm_model.specs.declared.platform.Style.{Style}
+use Rattle.tlm_model.specs.declared.platform.Style.TheVariants.{Blocking as blocking_style, FourPhase as fourphase_style}
 use Rattle.tlm_model.specs.History.{IsNumbered, entries_at, is_object}
 use Rattle.tlm_model.specs.Plan.{Plan, Initiator, initiators_from, initiators_of}
 use Rattle.tlm_model.specs.Route.{Route as RouteOfModel, Walk, Found, into_memory, into_router, into_window, later, route_of, walk, window_of}
@@ -58,6 +59,9 @@ blocking_from k zero (row ∷ rows) (script ∷ scripts) i all is =
     let same : record { number = k; row = row; script = script } ≡ i = cc in
     subst (λ (x : Initiator). x.row.style ≡ blocking_style) same all.0
 blocking_from k (suc n) (row ∷ rows) (script ∷ scripts) i all is = blocking_from (k + 1) n rows scripts i all.1 is
+
+pub blocking_apart : (style : Style) → style ≡ blocking_style → style ≢ fourphase_style
+blocking_apart style is four = let wrong : blocking_style ≡ fourphase_style = sym is ∙ four in cc
 
 pub initiators_count : (k : ℕ) (rows : List InitiatorRow) (scripts : List (List Operation)) → length scripts ≡ length rows → length (initiators_from k rows scripts) ≡ length rows
 initiators_count k [] scripts same = refl

@@ -8,8 +8,7 @@ use Rattle.tlm_model.specs.declared.platform.Platform.{Platform}
 use Rattle.tlm_model.specs.declared.platform.Style.{Style}
 use Rattle.tlm_model.specs.declared.platform.Style.TheVariants.{Blocking as blocking_style}
 use Rattle.tlm_model.specs.Plan.{Initiator}
-use Rattle.tlm_model.specs.Report.{has_no_route, refused_of}
-use Rattle.tlm_model.specs.Requests.{Request, requests_of, numbers_in, end_of}
+use Rattle.tlm_model.specs.Requests.{Request, requests_of, numbers_in, end_of, has_no_route, refused_of}
 use Rattle.tlm_model.specs.Rounds.{round_of, syncs_by, syncs_from}
 use Rattle.tlm_model.specs.Route.{Route, route_of}
 use Rattle.tlm_model.specs.Scripts.{has_answer, is_settled}

@@ -13,6 +13,7 @@ pub mod SendLemmas
 pub mod MergeLemmas
 pub mod LeftLemmas
 pub mod RunLemmas
+pub mod OnceLemmas
 pub mod AdvanceLemmas
 pub mod RouteLemmas
 pub mod ListLemmas

@@ -5,8 +5,7 @@ use Rattle.tlm_types.specs.declared.entry.Entry.{Entry}
 use Rattle.tlm_model.specs.declared.operation.Operation.{Operation}
 use Rattle.tlm_model.specs.declared.platform.Platform.{Platform}
 use Rattle.tlm_model.specs.Plan.{Initiator}
-use Rattle.tlm_model.specs.Report.{has_no_route}
-use Rattle.tlm_model.specs.Requests.{Request}
+use Rattle.tlm_model.specs.Requests.{Request, has_no_route}
 use Rattle.generic_payload.specs.Payload.{PayloadView}
 use Rattle.quantum_keeper.specs.Keeper.{Keeper, current_time}
 use Rattle.script_engine.specs.declared.op.Op.{Op}

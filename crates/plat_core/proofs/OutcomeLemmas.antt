@@ -11,8 +11,9 @@ use Rattle.tlm_model.specs.History.{last_store}
 use Rattle.tlm_model.specs.Log.{log_bytes}
 use Rattle.tlm_model.specs.Plan.{Plan, Initiator, initiators_of}
 use Rattle.tlm_model.specs.Requests.{requests_of}
-use Rattle.tlm_model.specs.Rounds.{syncs_from}
 use Rattle.tlm_model.specs.Scripts.{is_settled}
+use Rattle.report_model.specs.Ends.{IsEndOf}
+use Rattle.report_model.proofs.Ending.{ends_by_latencies}
 use Rattle.good_history.specs.Good.{IsGood}
 use Rattle.good_history.proofs.Decoupled.{sound_ends}
 use Rattle.region_object.specs.Region.{LoggedMemory}
@@ -21,14 +22,13 @@ use Rattle.time_board.specs.declared.rounds.Member.{Member}
 use Rattle.script_engine.proofs.Steps.{ends}
 use Rattle.plat_core.specs.declared.outcome.Outcome.{Outcome}
 use Rattle.plat_core.specs.Board.{AreInRounds}
-use Rattle.plat_core.specs.Come.{IsEndOf}
 use Rattle.plat_core.specs.Core.{CoreView, IsCore, IsMemoryAt, all_true, are_finished, begun_core, history_of}
 use Rattle.plat_core.specs.Fresh.{AreFresh, IsFresh}
 use Rattle.plat_core.specs.Outcome.{HasFollowed, IsOutcome, IsScheduled, IsTurnOf}
 use Rattle.plat_core.specs.Run.{Run, end_at}
 use Rattle.plat_core.proofs.AnswerLemmas.{and_left, and_right}
-use Rattle.plat_core.proofs.CoreLemmas.{some_row, blocking_from, initiators_count}
-use Rattle.plat_core.proofs.EndLemmas.{HasCome-ended, blocking_syncs}
+use Rattle.plat_core.proofs.CoreLemmas.{some_row, blocking_apart, blocking_from, initiators_count}
+use Rattle.plat_core.proofs.EndLemmas.{HasCome-ended}
 use Rattle.plat_core.proofs.EntryLemmas.{bytes_are}
 use Rattle.plat_core.proofs.ListLemmas.{has_element, take_all, take_next, within}
 use Rattle.plat_core.proofs.SoundLemmas.{no_fourphase}
@@ -57,16 +57,16 @@ all_of P [] each = tt
 all_of P (i ∷ is) each = (each 0 i refl, all_of P is (λ k x at. each (suc k) x at))
 
 -- how an initiator ended that has finished
-end_of_run : (p : Plan) (runs : List Run) (regions : List LoggedMemory) (made k : ℕ) (i : Initiator) (r : Run) → IsCore p runs regions made → slice_get (initiators_of p) k ≡ Some i → slice_get runs k ≡ Some r → r.finished ≡ true → IsEndOf p.platform i (history_of regions) (end_at r)
+end_of_run : (p : Plan) (runs : List Run) (regions : List LoggedMemory) (made k : ℕ) (i : Initiator) (r : Run) → IsCore p runs regions made → slice_get (initiators_of p) k ≡ Some i → slice_get runs k ≡ Some r → r.finished ≡ true → IsEndOf p i (history_of regions) (end_at r)
 end_of_run p runs regions made k i r core mine run finished =
     let own = core.each_run k i r mine run in
     let reached = HasCome-ended ends p.platform i (history_of regions) r own.come (own.finished finished) in
-    record {
+    (ends_by_latencies p i (history_of regions) (end_at r) (blocking_apart i.row.style (blocking_from 0 k p.platform.initiators p.scripts i core.servable.blocking mine))).1 (record {
       transactions = reached.transactions;
-      syncs = reached.syncs ∙ sym (blocking_syncs i.row.style (syncs_from p.platform i 0 0 i.script) (blocking_from 0 k p.platform.initiators p.scripts i core.servable.blocking mine));
+      syncs = reached.syncs;
       time = reached.end;
       refused = reached.refused;
-    }
+    })
 
 good_core : (p : Plan) (runs : List Run) (regions : List LoggedMemory) (made : ℕ) → IsCore p runs regions made → all_true (are_finished runs) ≡ true → IsGood p (history_of regions)
 good_core p runs regions made core all = sound_ends p (history_of regions) (no_fourphase p core.servable) core.sound (record {
@@ -95,7 +95,7 @@ outcome_seen p runs regions members made o core are history stores ended complet
       let from = is_made end_at runs n end (subst (λ (l : List EndOf). slice_get l n ≡ Some end) ended is) in
       let flag = is_made (λ (r : Run). r.finished) runs n true finished in
       let same : flag.from ≡ from.from = same_run flag.from from.from (sym flag.at ∙ from.at) in
-      subst (IsEndOf p.platform i (history_of regions)) from.makes (end_of_run p runs regions made n i from.from core mine from.at (ap (λ (r : Run). r.finished) (sym same) ∙ flag.makes));
+      subst (IsEndOf p i (history_of regions)) from.makes (end_of_run p runs regions made n i from.from core mine from.at (ap (λ (r : Run). r.finished) (sym same) ∙ flag.makes));
 }
   where
     same_run : (a b : Run) → Some a ≡ Some b → a ≡ b

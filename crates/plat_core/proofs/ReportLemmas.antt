@@ -4,9 +4,9 @@ use Rattle.std.specs.Prelude.{slice_get}
 use Rattle.tlm_types.specs.declared.entry.Entry.{Entry}
 use Rattle.tlm_model.specs.History.{last_store}
 use Rattle.tlm_model.specs.Plan.{Plan}
+use Rattle.report_model.specs.Ends.{IsEndOf}
 use Rattle.good_history.specs.Good.{IsGood}
 use Rattle.plat_core.specs.declared.outcome.Outcome.{Outcome}
-use Rattle.plat_core.specs.Come.{IsEndOf}
 use Rattle.plat_core.specs.Core.{CoreView, all_true}
 use Rattle.plat_core.specs.Outcome.{IsOutcome, IsReportable, IsWhole}
 use Rattle.plat_core.proofs.AnswerLemmas.{and_left, and_right}
@@ -28,7 +28,7 @@ reported_of core o is complete =
       initiators = is.initiators;
       ends = λ n i end mine at.
           let there = initiator_within core.plan n i mine in
-          subst (λ (h : List Entry). IsEndOf core.plan.platform i h end) (sym is.history) (is.ends n i end (flag_of_all core.finished n all (omega (arith, there, is.flags))) mine at);
+          subst (λ (h : List Entry). IsEndOf core.plan i h end) (sym is.history) (is.ends n i end (flag_of_all core.finished n all (omega (arith, there, is.flags))) mine at);
     }
 
 -- the history of such an outcome is good

@@ -8,8 +8,7 @@ use Rattle.tlm_model.specs.declared.operation.Operation.{Operation}
 use Rattle.tlm_model.specs.declared.operation.Operation.TheVariants.{Write, Read, Ignore, Debug, Copy, Add, Wait, Sync, Fence, Invalidate}
 use Rattle.tlm_model.specs.declared.platform.InitiatorRow.{InitiatorRow}
 use Rattle.tlm_model.specs.Plan.{Plan, Initiator, initiators_from, initiators_of}
-use Rattle.tlm_model.specs.Requests.{Request, numbers_in}
-use Rattle.tlm_model.specs.Report.{has_no_route}
+use Rattle.tlm_model.specs.Requests.{Request, numbers_in, has_no_route}
 use Rattle.tlm_model.specs.Route.{route_of, latency_of}
 use Rattle.script_engine.specs.declared.op.Op.{Op}
 use Rattle.script_engine.specs.State.{Due, State, op_at, op_of, is_fenced, payload_of, passed_over, passed_by, told_by, told_at, told_first, due_after}

@@ -1,16 +1,14 @@
 -- How far an initiator has come in a history.
 use Rattle.std.specs.Prelude.{ℕ, ◌≡◌, ◌+◌, ◌-◌, ◌≤◌, ◌^◌, ◌<◌, Bool, true, false, List, Option, Some, None, ◌++◌, length, map, if◌then◌else◌, ◌==◌, ◌||◌, nat_le, nat_lt}
 use Rattle.std.specs.List.{AllByRecursion, filter, list_all}
-use Rattle.tlm_types.specs.declared.ends.EndOf.{EndOf}
 use Rattle.tlm_types.specs.declared.entry.Entry.{Entry}
 use Rattle.tlm_model.specs.declared.operation.Operation.{Operation}
 use Rattle.tlm_model.specs.declared.operation.Operation.TheVariants.{Write, Read, Ignore, Debug, Copy, Add, Wait, Sync, Fence, Invalidate}
 use Rattle.tlm_model.specs.declared.platform.Platform.{Platform}
 use Rattle.tlm_model.specs.Plan.{Initiator}
-use Rattle.tlm_model.specs.Report.{has_no_route, refused_of}
-use Rattle.tlm_model.specs.Requests.{Request, requests_of, numbers_in, end_of}
+use Rattle.tlm_model.specs.Requests.{Request, requests_of, numbers_in, end_of, has_no_route}
 use Rattle.tlm_model.specs.Route.{later, latency_of}
-use Rattle.tlm_model.specs.Rounds.{next_point, round_of, rounds_from, syncs_from, syncs_of}
+use Rattle.tlm_model.specs.Rounds.{next_point, round_of, rounds_from, syncs_from}
 use Rattle.tlm_model.specs.Scripts.{has_answer, is_settled}
 use Rattle.quantum_keeper.specs.Keeper.{current_time}
 use Rattle.script_engine.specs.State.{Due, State}
@@ -73,10 +71,3 @@ pub record HasCome (p : Platform) (i : Initiator) (h : List Entry) (r : Run) : T
 -- all that an initiator asks for is settled: its script has ended, but for what needs no answer
 abbrev pub has_ended : Platform → Initiator → List Entry → Bool
 has_ended p i h = list_all (is_settled p i h) (requests_of p i h)
-
--- how an initiator ended is what the definitions say of its script and history
-pub record IsEndOf (p : Platform) (i : Initiator) (h : List Entry) (end : EndOf) : Type 0 where
-  pub transactions : end.transactions ≡ numbers_in i.script
-  pub syncs : end.syncs ≡ syncs_of p i
-  pub time : end.end ≡ end_of p i
-  pub refused : end.refused.items ≡ map refused_item (refused_of p i h)

@@ -6,6 +6,7 @@ pub mod Come
 pub mod Access
 pub mod Left
 pub mod Moves
+pub mod Steps
 pub mod Merge
 pub mod Turns
 pub mod Core

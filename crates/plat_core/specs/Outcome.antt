@@ -3,10 +3,10 @@ use Rattle.std.specs.Prelude.{ℕ, ◌≡◌, ◌<◌, ◌≤◌, true, List, []
 use Rattle.tlm_types.specs.declared.ends.EndOf.{EndOf}
 use Rattle.tlm_model.specs.History.{last_store}
 use Rattle.tlm_model.specs.Plan.{Plan, Initiator, initiators_of}
+use Rattle.report_model.specs.Ends.{IsEndOf}
 use Rattle.good_history.specs.Good.{IsGood, IsSound}
 use Rattle.plat_core.specs.declared.outcome.Outcome.{Outcome}
 use Rattle.plat_core.specs.declared.steps.CoreStep.{CoreStep}
-use Rattle.plat_core.specs.Come.{IsEndOf}
 use Rattle.plat_core.specs.Rounds.{KeepsRounds}
 use Rattle.plat_core.specs.Core.{CoreView, IsStep, actors_of, all_true, begun_core}
 
@@ -23,7 +23,7 @@ pub record IsOutcome (core : CoreView) (outcome : Outcome) : Type 0 where
   pub memories : length outcome.stores ≡ length core.plan.platform.memories
   pub stores : (m : ℕ) (bytes : List ℕ) → slice_get outcome.stores m ≡ Some bytes → bytes ≡ last_store core.plan.platform core.history m
   pub initiators : length outcome.ends ≡ length core.plan.platform.initiators
-  pub ends : (n : ℕ) (i : Initiator) (end : EndOf) → slice_get core.finished n ≡ Some true → slice_get (initiators_of core.plan) n ≡ Some i → slice_get outcome.ends n ≡ Some end → IsEndOf core.plan.platform i core.history end
+  pub ends : (n : ℕ) (i : Initiator) (end : EndOf) → slice_get core.finished n ≡ Some true → slice_get (initiators_of core.plan) n ≡ Some i → slice_get outcome.ends n ≡ Some end → IsEndOf core.plan i core.history end
 
 -- What a report takes of an outcome is that of its history: for each memory and each initiator of the plan there is
 -- one, and it is what the definitions say.
@@ -32,7 +32,7 @@ pub record IsReportable (p : Plan) (outcome : Outcome) : Type 0 where
   pub memories : length outcome.stores ≡ length p.platform.memories
   pub stores : (m : ℕ) (bytes : List ℕ) → slice_get outcome.stores m ≡ Some bytes → bytes ≡ last_store p.platform outcome.history.entries m
   pub initiators : length outcome.ends ≡ length p.platform.initiators
-  pub ends : (n : ℕ) (i : Initiator) (end : EndOf) → slice_get (initiators_of p) n ≡ Some i → slice_get outcome.ends n ≡ Some end → IsEndOf p.platform i outcome.history.entries end
+  pub ends : (n : ℕ) (i : Initiator) (end : EndOf) → slice_get (initiators_of p) n ≡ Some i → slice_get outcome.ends n ≡ Some end → IsEndOf p i outcome.history.entries end
 
 -- one number of a schedule: a step of the actor that it names, or nothing
 pub data IsTurnOf (old : CoreView) (n : ℕ) (new : CoreView) : Type 0 where

@@ -2,11 +2,11 @@
 use Rattle.std.specs.Prelude.{ℕ, ◌+◌, ◌-◌, ◌^◌, min, Bool, true, false, ◌&&◌, ◌||◌, List, [], ◌∷◌, ◌++◌, if◌then◌else◌}
 use Rattle.tlm_types.specs.declared.ends.EndOf.{EndOf}
 use Rattle.tlm_types.specs.declared.ends.RefusedItem.{RefusedItem}
-use Rattle.tlm_types.specs.declared.words.Command.{Command}
-use Rattle.tlm_types.specs.declared.words.Command.TheVariants.{Read, Ignore}
+use Rattle.tlm_types.specs.declared.words.Command.TheVariants.{Read}
 use Rattle.tlm_types.specs.Refused.{Refusals}
 use Rattle.tlm_model.specs.declared.operation.Operation.{Operation}
-use Rattle.tlm_model.specs.Requests.{Asked, Transport, DebugRead, Invalidation, Request, debug_of}
+use Rattle.tlm_model.specs.Requests.{Transport, DebugRead, Invalidation, Request, debug_of}
+use Rattle.report_model.specs.Ends.{refused_at}
 use Rattle.generic_payload.specs.Payload.{PayloadView}
 use Rattle.quantum_keeper.specs.Keeper.{Keeper, begun as begun_keeper, current_time, needs_sync, stepped, synced}
 use Rattle.script_engine.specs.declared.op.Op.{Op}
@@ -78,19 +78,9 @@ arrived next.Done by k = k
 abbrev pub accessed : Op → ℕ → List ℕ → Run → Run
 accessed op by got r = with_sync op (record r { engine = engine_after r.engine got; keeper = arrived op by r.keeper })
 
-abbrev is_debug : Asked → Bool
-is_debug (Transport a) = false
-is_debug (DebugRead a) = true
-is_debug (Invalidation n) = false
-
-abbrev command_of : Asked → Command
-command_of (Transport a) = a.command
-command_of (DebugRead a) = Read
-command_of (Invalidation n) = Ignore
-
 -- how a request without a route is told, with its time of issue
 abbrev pub refused_item : Request → RefusedItem
-refused_item r = record { seq = r.seq; time = r.time; debug = is_debug r.asked; command = command_of r.asked; address = r.address }
+refused_item r = refused_at r r.time
 
 -- what an access or a debug read without a route is told as, at this time
 abbrev pub refused_op : Op → ℕ → List RefusedItem

@@ -24,8 +24,6 @@ mod run;
 mod schedule;
 mod served;
 mod steps;
-#[cfg(test)]
-mod tests;
 mod turn;
 
 pub use merge::{LogReader, MergedLog};

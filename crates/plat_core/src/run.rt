@@ -10,6 +10,7 @@ ghost use Rattle.time_board.specs.Rounds.{AreClose};
 ghost use Rattle.plat_core.specs.Access.{HasLog, bytes_back, call_at, entry_made, payload_back};
 ghost use Rattle.plat_core.specs.Board.{HasGoneOn, IsInRound, IsLet, SyncsOnce};
 ghost use Rattle.plat_core.specs.Moves.{Advances, IsMove, IsUnderWay, Keeps, steps_left};
+ghost use Rattle.plat_core.specs.Steps.{StepsOnce};
 ghost use Rattle.plat_core.specs.Run.{IsAccessOp, IsQuiet, accessed, address_of, begun, end_at, engine_after, passed, refused_op, with_refusal, with_sync};
 
 use generic_payload::Payload;
@@ -234,6 +235,7 @@ impl InitiatorRun {
         requires roomy { payload.old.room ≡ 4096 }
         ensures keeps { Keeps plan.now self.old self.new }
         ensures syncs { SyncsOnce self.old self.new }
+        ensures once { StepsOnce self.old.engine self.new.engine }
         ensures cases { IsMove plan.now self.old self.new result }
         ensures roomy { payload.new.room ≡ payload.old.room }
     {
@@ -265,6 +267,7 @@ impl InitiatorRun {
         requires roomy { payload.old.room ≡ 4096 }
         ensures keeps { Keeps plan.now self.old self.new }
         ensures syncs { SyncsOnce self.old self.new }
+        ensures once { StepsOnce self.old.engine self.new.engine }
         ensures cases { IsMove plan.now self.old self.new result }
         ensures roomy { payload.new.room ≡ payload.old.room }
     {
@@ -299,6 +302,7 @@ impl InitiatorRun {
         ensures run { self.new ≡ passed op.now self.old }
         ensures keeps { (p : PlanView) → Keeps p self.old self.new }
         ensures syncs { self.old.syncs < 2 ^ 64 → SyncsOnce self.old self.new }
+        ensures once { StepsOnce self.old.engine self.new.engine }
         ensures fewer { steps_left self.new.engine < steps_left self.old.engine }
     {
         if let Op::Wait(time) = op {

@@ -12,6 +12,8 @@ use Rattle.tlm_types.specs.declared.words.ObjectNo.TheVariants.{Memory}
 use Rattle.tlm_model.specs.declared.platform.MemoryRow.{MemoryRow}
 use Rattle.tlm_model.specs.History.{IsNumberedFrom, entries_at, is_object}
 use Rattle.tlm_model.specs.Plan.{Plan, Initiator, initiators_of}
+use Rattle.tlm_model.specs.Requests.{refused_of}
+use Rattle.report_model.specs.Laws.{IsEndByLatencies}
 use Rattle.flow_plan.specs.Plans.{HasNoFourPhase}
 use Rattle.good_history.specs.Good.{IsGood}
 use Rattle.good_history.specs.Laws.{AllDecoupled}
@@ -23,7 +25,6 @@ use Rattle.joined_runs.proofs.OwnLemmas.{own_is_enough}
 use Rattle.joined_runs.proofs.WholeLemmas.{joined_is_good}
 use Rattle.route_plan.specs.Counted.{share_by}
 use Rattle.route_plan.specs.Planned.{planned_at, share_of}
-use Rattle.plat_core.specs.Come.{IsEndOf}
 use Rattle.plat_core.specs.Run.{refused_item}
 use Rattle.plat_core.proofs.ListLemmas.{has_element, take_all, take_next, within}
 use Rattle.plat_core.proofs.RunLemmas.{initiator_number}
@@ -148,18 +149,18 @@ module _ (p : Plan) (h : List Entry) (mine : ℕ → List Entry) (ends : ℕ →
   history_is_good none = joined_is_good p h none (own_has (λ i l. AllDecoupled l) (λ k less. (have.initiators k less).decoupled)) joined (own_has (λ i l. EndsOwn p.platform i l) (λ k less. (have.initiators k less).ended))
 
   -- how an initiator ended, by the whole history
-  pub ended_as : (k : ℕ) (i : Initiator) → slice_get (initiators_of p) k ≡ Some i → IsEndOf p.platform i h (ends k)
+  pub ended_as : (k : ℕ) (i : Initiator) → slice_get (initiators_of p) k ≡ Some i → IsEndByLatencies p.platform i h (ends k)
   ended_as k i at =
       let below = within (initiators_of p) k i at in
       let ended = have.initiators k below in
       let same : ended.initiator ≡ i = same_some ended.initiator i (sym ended.at ∙ at) in
-      let is : IsEndOf p.platform i (mine k) (ends k) = subst (λ (x : Initiator). IsEndOf p.platform x (mine k) (ends k)) same ended.end_is in
+      let is : IsEndByLatencies p.platform i (mine k) (ends k) = subst (λ (x : Initiator). IsEndByLatencies p.platform x (mine k) (ends k)) same ended.end_is in
       let mine_is : mine k ≡ own i.number h = own_is k below ∙ ap (λ (n : ℕ). own n h) (sym (initiator_number p k i at)) in
       record {
         transactions = is.transactions;
         syncs = is.syncs;
         time = is.time;
-        refused = is.refused ∙ ap (map refused_item) (ap (Rattle.tlm_model.specs.Report.refused_of p.platform i) mine_is ∙ sym (own_is_enough p.platform i h).refused);
+        refused = is.refused ∙ ap (map refused_item) (ap (refused_of p.platform i) mine_is ∙ sym (own_is_enough p.platform i h).refused);
       }
     where
       same_some : (x y : Initiator) → Some x ≡ Some y → x ≡ y

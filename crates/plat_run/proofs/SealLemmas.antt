@@ -17,7 +17,6 @@ use Rattle.tlm_model.specs.declared.operation.Operation.{Operation}
 use Rattle.tlm_model.specs.declared.operation.Operation.TheVariants.{Write, Read, Ignore, Debug, Copy, Add, Wait, Sync, Fence, Invalidate}
 use Rattle.tlm_model.specs.History.{IsNumberedFrom, entries_at}
 use Rattle.tlm_model.specs.Plan.{Plan, Initiator, initiators_of}
-use Rattle.tlm_model.specs.Rounds.{syncs_from}
 use Rattle.region_object.specs.Written.{written_from}
 use Rattle.route_plan.specs.Counted.{share_at}
 use Rattle.script_engine.specs.declared.op.Op.TheVariants as next
@@ -25,8 +24,7 @@ use Rattle.script_engine.specs.State.{Due, State, op_at, op_of}
 use Rattle.script_engine.proofs.Steps.{ends}
 use Rattle.plat_core.specs.Left.{asked_due, asked_in, asks_left}
 use Rattle.plat_core.specs.Run.{Run, end_at}
-use Rattle.plat_core.proofs.CoreLemmas.{blocking_from}
-use Rattle.plat_core.proofs.EndLemmas.{HasCome-ended, blocking_syncs}
+use Rattle.plat_core.proofs.EndLemmas.{HasCome-ended}
 use Rattle.plat_run.specs.End.{HasEnded}
 use Rattle.plat_run.specs.Entries.{entries_read, entry_read}
 use Rattle.plat_run.specs.Job.{IsInitiator}
@@ -91,7 +89,7 @@ has_ended p all k r v w job number finished tells =
       ended = reached.ended;
       end_is = record {
         transactions = reached.transactions;
-        syncs = reached.syncs ∙ sym (blocking_syncs i.row.style (syncs_from p.platform i 0 0 i.script) (blocking_from 0 r.engine.initiator p.platform.initiators p.scripts i job.servable.blocking job.is));
+        syncs = reached.syncs;
         time = reached.end;
         refused = reached.refused;
       };

@@ -27,6 +27,8 @@ use Rattle.tlm_model.specs.declared.platform.MemoryRow.{MemoryRow}
 use Rattle.tlm_model.specs.History.{IsNumbered, IsNumberedFrom, entries_at, is_object, last_store}
 use Rattle.tlm_model.specs.Log.{IsLog}
 use Rattle.tlm_model.specs.Plan.{Plan, initiators_of}
+use Rattle.report_model.specs.Ends.{IsEndOf}
+use Rattle.report_model.proofs.Ending.{ends_by_latencies}
 use Rattle.good_history.specs.Good.{IsGood}
 use Rattle.joined_runs.proofs.CountLemmas.{IsRising-filter, has_kept, kept_has}
 use Rattle.route_plan.specs.Planned.{planned_at}
@@ -35,7 +37,7 @@ use Rattle.plat_core.specs.Core.{IsServable}
 use Rattle.plat_core.specs.Merge.{merged}
 use Rattle.plat_core.specs.Outcome.{IsWhole}
 use Rattle.plat_core.specs.Places.{entries_of_logs}
-use Rattle.plat_core.proofs.CoreLemmas.{initiators_count, some_row}
+use Rattle.plat_core.proofs.CoreLemmas.{blocking_apart, blocking_from, initiators_count, some_row}
 use Rattle.plat_core.proofs.EntryLemmas.{bytes_are}
 use Rattle.plat_core.proofs.ListLemmas.{at_map, has_element, within}
 use Rattle.plat_core.proofs.SoundLemmas.{no_fourphase}
@@ -332,8 +334,9 @@ module _ (p : Plan) (table : TableId) (frame : Frame Plan) (ends : List EndOf) (
           initiators = ap length ended ∙ finished.ends_count;
           ends = λ n i end mine at.
               let here : slice_get ends n ≡ Some end = subst (λ (l : List EndOf). slice_get l n ≡ Some end) ended at in
-              let is = ended_as p h mine_of end_of log_of have_ended n i mine in
-              subst (λ (l : List Entry). Rattle.plat_core.specs.Come.IsEndOf p.platform i l end) same (subst (Rattle.plat_core.specs.Come.IsEndOf p.platform i h) (end_is n (cases_lt n (length (initiators_of p))) end here) is);
+              let by = ended_as p h mine_of end_of log_of have_ended n i mine in
+              let is = (ends_by_latencies p i h (end_of n) (blocking_apart i.row.style (blocking_from 0 n p.platform.initiators p.scripts i servable.blocking mine))).1 by in
+              subst (λ (l : List Entry). IsEndOf p i l end) same (subst (IsEndOf p i h) (end_is n (cases_lt n (length (initiators_of p))) end here) is);
         };
       }
 

@@ -8,12 +8,12 @@ use Rattle.tlm_model.specs.declared.platform.MemoryRow.{MemoryRow}
 use Rattle.tlm_model.specs.History.{IsNumbered, entries_at}
 use Rattle.tlm_model.specs.Log.{IsLog}
 use Rattle.tlm_model.specs.Plan.{Plan, Initiator, initiators_of}
+use Rattle.report_model.specs.Laws.{IsEndByLatencies}
 use Rattle.good_history.specs.Laws.{AllDecoupled}
 use Rattle.joined_runs.specs.Counting.{IsRising}
 use Rattle.joined_runs.specs.Joined.{EndsOwn, KeepsOwn}
 use Rattle.route_plan.specs.Counted.{share_at}
 use Rattle.route_plan.specs.Planned.{planned_at}
-use Rattle.plat_core.specs.Come.{IsEndOf}
 use Rattle.plat_run.specs.Job.{owner_of, position_of}
 
 -- Initiator k has finished. These are its own entries, of which the history has at least these, and they are as many at each
@@ -27,7 +27,7 @@ pub record HasEnded (p : Plan) (h : List Entry) (k : ℕ) (mine : List Entry) (e
   pub keeps : KeepsOwn p mine
   pub decoupled : AllDecoupled mine
   pub ended : EndsOwn p.platform initiator mine
-  pub end_is : IsEndOf p.platform initiator mine end
+  pub end_is : IsEndByLatencies p.platform initiator mine end
   pub all : (m : ℕ) → m < length p.platform.memories → length (entries_at (Memory m) mine) ≡ share_at p k (Memory m)
 
 -- A memory leaves its lawful log, which is its part of the history, and has no more entries than planned.

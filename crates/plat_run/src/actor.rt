@@ -1,7 +1,9 @@
 // The kinds of jobs.
 ghost use Rattle.std.specs.Prelude.{◌≡◌};
+ghost use Rattle.plat_core.specs.Steps.{StepsOnce};
 ghost use Rattle.plat_run.specs.Actors.{is_done, number_of};
 ghost use Rattle.plat_run.specs.Run.{HandsIn};
+ghost use Rattle.plat_run.specs.Turn.{engine_of};
 
 use crate::initiator::BlockingInitiator;
 use outside::Pace;
@@ -42,7 +44,7 @@ impl<N: Naming<Plan, TlmLaw>> Job for Actor<N> {
 }
 
 impl<N: Naming<Plan, TlmLaw>> Actor<N> {
-    /// A turn of a job of any kind.
+    /// A turn of a job of any kind: at most one step of its script.
     pub fn turn<B: Reach<N>, P: Pace, R: Wait>(
         &mut self,
         rt: &R,
@@ -50,7 +52,8 @@ impl<N: Naming<Plan, TlmLaw>> Actor<N> {
         board: &Board,
         pace: &P,
     )
-        ensures { number_of self.new ≡ number_of self.old }
+        ensures number { number_of self.new ≡ number_of self.old }
+        ensures once { StepsOnce (engine_of self.old) (engine_of self.new) }
     {
         match self {
             Actor::Blocking(job) => job.turn(rt, reach, board, pace),

@@ -3,6 +3,7 @@ ghost use Rattle.std.specs.Prelude.{◌≡◌, length};
 ghost use Rattle.shared_object.specs.Steps.{IsNote};
 ghost use Rattle.script_engine.specs.State.{op_of};
 ghost use Rattle.plat_core.specs.Moves.{HasReached};
+ghost use Rattle.plat_core.specs.Steps.{StepsOnce};
 ghost use Rattle.plat_run.specs.Job.{IsInitiator, IsJob};
 
 use crate::send::send;
@@ -90,9 +91,9 @@ impl<N: Naming<Plan, TlmLaw>> BlockingInitiator<N> {
         (run, note.unwrap(), wallet)
     }
 
-    /// One access or debug read, or one other operation, and the sync that is due after it. If the board
-    /// doesn't let that sync through, the turn ends, and the next one begins with it. The pace is told of
-    /// an access or a debug read before it is made, while no lock is held.
+    /// At most one access or debug read, or one other operation, and the sync that is due after it. If the
+    /// board doesn't let that sync through, the turn ends, and the next one begins with it. The pace is told
+    /// of an access or a debug read before it is made, while no lock is held.
     pub fn turn<B: Reach<N>, P: Pace, R: Wait>(
         &mut self,
         rt: &R,
@@ -100,7 +101,8 @@ impl<N: Naming<Plan, TlmLaw>> BlockingInitiator<N> {
         board: &Board,
         pace: &P,
     )
-        ensures { self.new.engine.initiator ≡ self.old.engine.initiator }
+        ensures number { self.new.engine.initiator ≡ self.old.engine.initiator }
+        ensures once { StepsOnce self.old.engine self.new.engine }
     {
         if self.is_let_through(rt, board) {
             self.go_on(rt, reach, pace);
@@ -127,7 +129,8 @@ impl<N: Naming<Plan, TlmLaw>> BlockingInitiator<N> {
 
     // One operation, or one access of it.
     fn go_on<B: Reach<N>, P: Pace, R: Wait>(&mut self, rt: &R, reach: &mut B, pace: &P)
-        ensures { self.new.engine.initiator ≡ self.old.engine.initiator }
+        ensures number { self.new.engine.initiator ≡ self.old.engine.initiator }
+        ensures once { StepsOnce self.old.engine self.new.engine }
     {
         let Some(payload) = &mut self.payload else {
             unreachable!()
@@ -142,7 +145,8 @@ impl<N: Naming<Plan, TlmLaw>> BlockingInitiator<N> {
     fn access<B: Reach<N>, R: Wait>(&mut self, rt: &R, reach: &mut B, next: &NextAccess)
         requires reached { HasReached N.frame.world self.old next.now.route }
         requires next { next.now.op ≡ op_of self.old.engine }
-        ensures { self.new.engine.initiator ≡ self.old.engine.initiator }
+        ensures number { self.new.engine.initiator ≡ self.old.engine.initiator }
+        ensures once { StepsOnce self.old.engine self.new.engine }
     {
         let mut payload = self.payload.take().unwrap();
         let note = self.note.take().unwrap();

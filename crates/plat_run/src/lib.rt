@@ -1,11 +1,11 @@
 //! The run of a platform by threads.
 //!
 //! - `BlockingInitiator` is a blocking initiator as a job: its run, its payload, its note and its wallet.
-//!   A turn of it is at most one access or debug read, and the sync that is due after it.
+//!   A turn of it is at most one operation, or one access of it, and the sync that is due after it.
 //! - `Actor` is a job of any kind, in a box: workers hand the box on, and a turn works in place.
-//! - `work_all` gives turns by so many workers, until all jobs have finished; `work_alone` by the caller.
-//! - `run` makes the jobs of a net that was just built, lets the workers go through them, and makes the
-//!   outcome of what the jobs and the memories have. `run_plan` builds the net as well.
+//! - `run` makes the jobs of a net that was just built, lets workers give them turns until all have
+//!   finished, and makes the outcome of what the jobs and the memories have. `run_plan` builds the net as
+//!   well.
 //!
 //! Promises: whatever the threads do in which order, the history is good for the plan, it is the sealed
 //! one, and the stores and ends are those of the definitions. Workers take no memory.
@@ -17,11 +17,8 @@ mod ending;
 mod initiator;
 mod running;
 mod send;
-#[cfg(test)]
-mod tests;
 mod workers;
 
 pub use actor::Actor;
 pub use initiator::BlockingInitiator;
 pub use running::{PlatSealed, run, run_plan};
-pub use workers::{work, work_all, work_alone};

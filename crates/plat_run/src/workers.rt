@@ -16,7 +16,7 @@ use time_board::Board;
 /// Takes a job, gives it a turn, and takes the next one as it gives it back, until none waits: enough have
 /// finished, or each of the others is out with a worker of its own, which goes on with it. One that has
 /// finished no longer holds others back.
-pub fn work<N: Naming<Plan, TlmLaw>, P: Pace, R: Wait>(
+fn work<N: Naming<Plan, TlmLaw>, P: Pace, R: Wait>(
     rt: &R,
     net: &Net<N>,
     board: &Board,
@@ -69,14 +69,11 @@ fn give_turn<N: Naming<Plan, TlmLaw>, B: Reach<N>, P: Pace, R: Wait>(
 
 /// The same by so many workers at once, each in a thread of its own but for one, which is the caller's.
 /// Where a thread can't be started, the others do its work. It takes no memory.
-pub fn work_all<N: Naming<Plan, TlmLaw> + Send + Sync, P: Pace + Sync, R: Threads + Wait + Sync>(
-    rt: &R,
-    net: &Net<N>,
-    board: &Board,
-    queue: &RunQueue<Actor<N>>,
-    workers: u32,
-    pace: &P,
-) {
+pub(crate) fn work_all<
+    N: Naming<Plan, TlmLaw> + Send + Sync,
+    P: Pace + Sync,
+    R: Threads + Wait + Sync,
+>(rt: &R, net: &Net<N>, board: &Board, queue: &RunQueue<Actor<N>>, workers: u32, pace: &P) {
     thread::scope(thread::scope_env(), rt, |scope| {
         for _worker in 1..workers {
             let worker = move || work::<N, P, R>(rt, net, board, queue, pace);
@@ -124,7 +121,7 @@ fn give_round<N: Naming<Plan, TlmLaw>, P: Pace, R: Wait>(
 
 /// Gives turns by the caller alone, in the order in which they would come off a queue, until all jobs have
 /// finished. No lock is taken to give a turn or to make an access, and no memory.
-pub fn work_alone<N: Naming<Plan, TlmLaw>, P: Pace, R: Wait>(
+pub(crate) fn work_alone<N: Naming<Plan, TlmLaw>, P: Pace, R: Wait>(
     rt: &R,
     net: &mut Net<N>,
     board: &Board,

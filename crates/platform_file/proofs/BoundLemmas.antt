@@ -11,6 +11,7 @@ use Rattle.addr_router.specs.declared.window.WindowFault.TheVariants as window
 use Rattle.addr_router.specs.Windows.{IsValid, window_fault}
 use Rattle.toml.specs.Data.{Members, get_member}
 use Rattle.tlm_types.specs.declared.words.MemoryTraits.{MemoryTraits}
+use Rattle.tlm_types.specs.declared.words.ReqMode.{ReqMode}
 use Rattle.tlm_types.specs.declared.words.ReqMode.TheVariants as req
 use Rattle.tlm_types.specs.declared.words.RespMode.TheVariants as resp
 use Rattle.tlm_model.specs.declared.platform.InitiatorRow.{InitiatorRow}
@@ -34,9 +35,9 @@ use Rattle.platform_file.specs.Words.{styles, responses, router_modes, memory_mo
 use Rattle.platform_file.specs.Names.{Names, Bearer, find_name, named_after, with_name, with_names, initiator_bears, router_bears, memory_bears, names_of, found_target, target_of}
 use Rattle.platform_file.specs.Tables.{initiator_key_names, router_key_names, memory_key_names, top_key_names, initiator_keys, window_keys, router_keys, memory_traits, memory_row, platform_keys}
 use Rattle.platform_file.specs.Platform.{bound_initiator, bound_window, bound_router, refused_windows, checked_windows, checked_sums, windows_of, platform_of_table}
-use Rattle.platform_file.specs.Bounded.{is_there, names_in, IsBoundedInitiator, IsBoundedRouter, IsBoundedMemory, IsBounded}
+use Rattle.platform_file.specs.Bounded.{is_there, is_router_mode, names_in, IsBoundedInitiator, IsBoundedRouter, IsBoundedMemory, IsBounded}
 use Rattle.platform_file.proofs.OwnNames.{key_names, own_key_names, rows_named}
-use Rattle.platform_file.proofs.ReadLemmas.{no_ok, ok_same, bind_ok, if_ok, unless_ok, required_name, required_number, optional_number, required_tables, optional_tables, rows_all, rows_count, rows_passed}
+use Rattle.platform_file.proofs.ReadLemmas.{no_ok, ok_same, bind_ok, if_ok, unless_ok, required_name, required_number, optional_number, optional_word, required_tables, optional_tables, rows_all, rows_count, rows_passed}
 
 record TraitsAreBounded (t : MemoryTraits) : Type 0 where
   some_bytes : 1 ≤ t.size
@@ -97,6 +98,7 @@ initiator_keys_are_bounded i t k h =
 record RouterKeysAreBounded (r : RouterKeys) : Type 0 where
   named : IsTrue (is_name r.name)
   latency : r.latency ≤ 10 ^ 12
+  accept : IsTrue (is_router_mode r.accept)
   some_lanes : 1 ≤ r.lanes
   lanes : r.lanes ≤ 16
   windows : length r.windows ≤ 16
@@ -113,10 +115,11 @@ router_keys_are_bounded i t r h =
     bind_ok (rows_from (window_keys i) 0 ts) _ _ h6 (λ windows windows_read h7.
     let y = optional_number 0 (10 ^ 12) 0 (place.Router i) (codes "latency") (get_member (codes "latency") t) latency (lit≤ tt) (lit≤ tt) latency_read in
     let l = optional_number 1 16 4 (place.Router i) (codes "lanes") (get_member (codes "lanes") t) lanes (lit≤ tt) (lit≤ tt) lanes_read in
+    let a = optional_word (λ (m : ReqMode). IsTrue (is_router_mode m)) router_modes req.Accept (place.Router i) (codes "accept") (get_member (codes "accept") t) accept (refl, (refl, tt)) refl accept_read in
     let w = optional_tables 16 (place.Router i) (codes "window") (get_member (codes "window") t) ts ts_read in
     let count = rows_count (window_keys i) 0 ts windows windows_read in
     let named = required_name (place.Router i) (codes "name") (get_member (codes "name") t) n name_read in
-    subst RouterKeysAreBounded (ok_same (record { name = n; latency = latency; accept = accept; lanes = lanes; windows = windows }) r h7) (record { named = named; latency = y.1; some_lanes = l.0; lanes = l.1; windows = omega arith }))))))))
+    subst RouterKeysAreBounded (ok_same (record { name = n; latency = latency; accept = accept; lanes = lanes; windows = windows }) r h7) (record { named = named; latency = y.1; accept = a; some_lanes = l.0; lanes = l.1; windows = omega arith }))))))))
 
 record KeysAreBounded (k : PlatformKeys) : Type 0 where
   quantum : k.quantum ≤ 10 ^ 15
@@ -248,6 +251,7 @@ window_leads rs ms names all router n k w h =
 record RouterIsBound (rs ms : ℕ) (k : RouterKeys) (r : RouterRow) : Type 0 where
   name : r.name ≡ k.name
   latency : r.latency ≡ k.latency
+  accept : r.accept ≡ k.accept
   lanes : r.lanes ≡ k.lanes
   windows : length r.windows ≡ length k.windows
   targets : All (λ (w : WindowRow). there rs ms w.to ≡ true) r.windows
@@ -259,6 +263,7 @@ router_is_bound rs ms names all n k r h =
     subst (RouterIsBound rs ms k) (ok_same _ r h1) (record {
       name = refl;
       latency = refl;
+      accept = refl;
       lanes = refl;
       windows = rows_count (bound_window names n) 0 k.windows windows windows_read;
       targets = rows_all (λ (w : WindowRow). there rs ms w.to ≡ true) (bound_window names n) (window_leads rs ms names all n) 0 k.windows windows windows_read;
@@ -301,6 +306,7 @@ rows_made P R Q read each made i (x ∷ xs) rows all h =
 record RouterParts (rs ms : ℕ) (r : RouterRow) : Type 0 where
   named : IsTrue (is_name r.name)
   latency : r.latency ≤ 10 ^ 12
+  accept : IsTrue (is_router_mode r.accept)
   some_lanes : 1 ≤ r.lanes
   lanes : r.lanes ≤ 16
   window_count : length r.windows ≤ 16
@@ -310,6 +316,7 @@ router_parts : (rs ms : ℕ) (k : RouterKeys) (r : RouterRow) → RouterKeysAreB
 router_parts rs ms k r keys bound = record {
   named = subst (λ (n : List ℕ). IsTrue (is_name n)) (sym bound.name) keys.named;
   latency = omega (arith, keys.latency, bound.latency);
+  accept = subst (λ (m : ReqMode). IsTrue (is_router_mode m)) (sym bound.accept) keys.accept;
   some_lanes = omega (arith, keys.some_lanes, bound.lanes);
   lanes = omega (arith, keys.lanes, bound.lanes);
   window_count = omega (arith, keys.windows, bound.windows);
@@ -360,6 +367,7 @@ platform_is_bounded k names initiators routers keys all initiators_read routers_
           (λ r parts windows. record {
             named = parts.named;
             latency = parts.latency;
+            accept = parts.accept;
             some_lanes = parts.some_lanes;
             lanes = parts.lanes;
             window_count = parts.window_count;

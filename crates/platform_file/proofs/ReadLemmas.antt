@@ -2,12 +2,13 @@
 use Rattle.std.proofs.Common.{◌≡◌, ℕ, ◌+◌, ◌≤◌, Bool, true, false, ◌&&◌, List, [], ◌∷◌, length, Option, Some, None, Result, Ok, Err, refl, sym, ap, subst, ◌∙◌, arith, leb}
 use Rattle.std.specs.Prelude.{pos, negsuc, All, IsTrue, if◌then◌else◌}
 use Rattle.std.proofs.lemmas.Bool.{and_parts, leb-true}
+use Rattle.std.specs.Str.{bytes_eq}
 use Rattle.std.proofs.lemmas.List.Elements.{All-nil, All-cons, All-same}
 use Rattle.toml.specs.Data.{Data, integer, string, array, Members}
 use Rattle.platform_file.specs.declared.fault.PlatformCode.{PlatformCode}
-use Rattle.platform_file.specs.declared.fault.PlatformCode.TheVariants.{BadName, OutOfRange, WrongType}
+use Rattle.platform_file.specs.declared.fault.PlatformCode.TheVariants.{BadName, OutOfRange, UnknownWord, WrongType}
 use Rattle.platform_file.specs.declared.place.Place.{Place}
-use Rattle.platform_file.specs.Kinds.{number, is_name, name, tables, all_tables, limited_tables}
+use Rattle.platform_file.specs.Kinds.{number, is_name, name, tables, all_tables, limited_tables, word, word_in}
 use Rattle.platform_file.specs.Keys.{required_value, optional_value}
 use Rattle.platform_file.specs.Reading.{Refusal, ◌>>=◌, placed_at, rows_from}
 
@@ -73,6 +74,27 @@ pub required_name : (at : Place) (key : List ℕ) (o : Option Data) (n : List �
 required_name at key o n h =
     let p = required_ok name at key o n h in
     name_is p.0 n p.1
+
+-- what holds of all that the words of a list stand for
+abbrev pub EachStandsFor : {A : Type 0} → (A → Type 0) → List (List ℕ × A) → Type 0
+EachStandsFor P [] = Unit {0}
+EachStandsFor P (w ∷ ws) = P w.1 × EachStandsFor P ws
+
+word_by : {A : Type 0} (P : A → Type 0) (same : Bool) (y : A) (others : Result A PlatformCode) (x : A) → P y → (others ≡ Ok x → P x) → (if same then Ok y else others) ≡ Ok x → P x
+word_by P true y others x one rest h = subst P (ok_same y x h) one
+word_by P false y others x one rest h = rest h
+
+word_in_stands : {A : Type 0} (P : A → Type 0) (words : List (List ℕ × A)) (s : List ℕ) (x : A) → EachStandsFor P words → word_in words s ≡ Ok x → P x
+word_in_stands P [] s x each h = absurd (no_ok UnknownWord x h)
+word_in_stands P (w ∷ ws) s x each h = word_by P (bytes_eq s w.0) w.1 (word_in ws s) x each.0 (λ rest. word_in_stands P ws s x each.1 rest) h
+
+word_stands : {A : Type 0} (P : A → Type 0) (words : List (List ℕ × A)) (d : Data) (x : A) → EachStandsFor P words → word words d ≡ Ok x → P x
+word_stands P words (string s) x each h = word_in_stands P words s x each h
+word_stands P words _ x each h = absurd (no_ok WrongType x h)
+
+pub optional_word : {A : Type 0} (P : A → Type 0) (words : List (List ℕ × A)) (default : A) (at : Place) (key : List ℕ) (o : Option Data) (x : A) → EachStandsFor P words → P default → optional_value (word words) default at key o ≡ Ok x → P x
+optional_word P words default at key None x each one h = subst P (ok_same default x h) one
+optional_word P words default at key (Some d) x each one h = word_stands P words d x each (placed_ok at key (word words d) x h)
 
 limited_between : (least most : ℕ) (r : Result (List Members) PlatformCode) (ts : List Members) → limited_tables least most r ≡ Ok ts → (least ≤ length ts) × (length ts ≤ most)
 limited_between least most (Ok us) ts h =

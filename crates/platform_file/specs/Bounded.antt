@@ -1,5 +1,5 @@
 -- The bounds that hold of each platform that a file describes.
-use Rattle.std.specs.Prelude.{ℕ, ◌<◌, ◌≤◌, ◌^◌, ◌≢◌, Bool, ◌||◌, IsTrue, List, ◌++◌, length, map, sum_by, All, nat_lt}
+use Rattle.std.specs.Prelude.{ℕ, ◌<◌, ◌≤◌, ◌^◌, ◌≢◌, Bool, true, false, ◌||◌, IsTrue, List, ◌++◌, length, map, sum_by, All, nat_lt}
 use Rattle.std.specs.List.{AllPairs}
 use Rattle.addr_router.specs.Windows.{IsValid}
 use Rattle.tlm_model.specs.declared.platform.InitiatorRow.{InitiatorRow}
@@ -8,6 +8,8 @@ use Rattle.tlm_model.specs.declared.platform.Platform.{Platform}
 use Rattle.tlm_model.specs.declared.platform.RouterRow.{RouterRow}
 use Rattle.tlm_model.specs.declared.platform.Target.{Target}
 use Rattle.tlm_model.specs.declared.platform.Target.TheVariants.{Router, Memory}
+use Rattle.tlm_types.specs.declared.words.ReqMode.{ReqMode}
+use Rattle.tlm_types.specs.declared.words.ReqMode.TheVariants.{Accept, EndReq}
 use Rattle.platform_file.specs.Kinds.{is_name}
 use Rattle.platform_file.specs.Platform.{windows_of}
 
@@ -15,6 +17,12 @@ use Rattle.platform_file.specs.Platform.{windows_of}
 abbrev pub is_there : Platform → Target → Bool
 is_there p (Router r) = nat_lt r (length p.routers)
 is_there p (Memory m) = nat_lt m (length p.memories)
+
+-- how a router may answer BEGIN_REQ: its request ends later, or at once
+abbrev pub is_router_mode : ReqMode → Bool
+is_router_mode Accept = true
+is_router_mode EndReq = true
+is_router_mode _ = false
 
 -- the names of the initiators, the routers and the memories, in this order
 abbrev pub names_in : Platform → List (List ℕ)
@@ -31,6 +39,7 @@ pub record IsBoundedInitiator (p : Platform) (i : InitiatorRow) : Type 0 where
 pub record IsBoundedRouter (p : Platform) (r : RouterRow) : Type 0 where
   pub named : IsTrue (is_name r.name)
   pub latency : r.latency ≤ 10 ^ 12
+  pub accept : IsTrue (is_router_mode r.accept)
   pub some_lanes : 1 ≤ r.lanes
   pub lanes : r.lanes ≤ 16
   pub window_count : length r.windows ≤ 16

@@ -24,8 +24,6 @@ mod reading;
 mod routers;
 mod sums;
 mod tables;
-#[cfg(test)]
-mod tests;
 mod top;
 mod windows;
 mod words;

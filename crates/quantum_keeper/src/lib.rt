@@ -8,7 +8,7 @@
 //!
 //! Promises: a sync is needed once the current time, which is the last sync's and the offset, reaches
 //! the next whole multiple of the quantum after the last sync, and always for a quantum of 0. The
-//! current time, the offset and the next point stand still at the greatest `u64`. No call takes memory,
+//! current time, the offset and the next point stand still at the greatest `u64`. No call can fail,
 //! and none is refused.
 #![tactic(auto)]
 

@@ -7,16 +7,13 @@
 //! Promises: a call adds exactly one entry, whatever its status, and entry and reply are those that
 //! the definitions give for the log so far. The bytes of a region are those of its log, as many as its
 //! size, and each status and each byte that the log tells are those of the memory as it was then. A call
-//! for which room was made takes no memory. Where `make_room` is refused memory, a region is as before.
+//! for which room was made can't fail for want of memory. Where `make_room` is refused memory, a region
+//! is as before.
 #![tactic(auto)]
 
 mod call;
 mod object;
 mod region;
-#[cfg(test)]
-mod shared_tests;
-#[cfg(test)]
-mod tests;
 
 pub use call::{RegionCall, RegionReply};
 pub use region::Region;

@@ -144,8 +144,8 @@ impl Region {
         self.log.make_room(payload_cost(payload))
     }
 
-    /// Makes this call, and takes no memory: there has to be room for its entry, and for its bytes. The
-    /// entry has this position.
+    /// Makes this call. There has to be room for its entry, and for its bytes, so that it can't fail for
+    /// want of memory. The entry has this position.
     ///
     /// An access comes by blocking transport or with four phases, and a read into a buffer of zeros. The
     /// payload comes back with the status of `Payload::check`; where that is OK a write has put its

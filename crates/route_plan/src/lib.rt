@@ -17,7 +17,7 @@
 //! that refusal, and a `Shape` is the platform that it was made of. A plan is refused just where
 //! `checked_plan` of `specs/Valid.antt` refuses it: more than 1,000,000 entries, or else more than
 //! 67,108,864 bytes. A plan's routes and hops are those of the walk of the definitions, in constant
-//! time for each router on the way and without memory. Its counts are those of `specs/Planned.antt`:
+//! time for each router on the way, and can't fail. Its counts are those of `specs/Planned.antt`:
 //! they are taken once, when it is made. The only other answer is want of memory.
 #![tactic(auto)]
 
@@ -34,8 +34,6 @@ mod routes;
 mod shapes;
 mod shares;
 mod step;
-#[cfg(test)]
-mod tests;
 mod walks;
 
 pub use checks::shape;

@@ -9,13 +9,11 @@
 //!
 //! Promises: the jobs that wait are taken first in, first out. A job is out at most once, and a job
 //! that is handed in while its number isn't out is dropped. In the end each job comes back once, and
-//! those that finished are done. No call but `new` takes memory.
+//! those that finished are done. No call but `new` can fail for want of memory.
 #![tactic(auto)]
 
 mod jobs;
 mod queue;
-#[cfg(test)]
-mod tests;
 
 pub use jobs::{Job, Jobs, Place, Taken};
 pub use queue::RunQueue;

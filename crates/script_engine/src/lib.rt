@@ -11,7 +11,7 @@
 //!
 //! Promises: every call is exact, by `specs/State`. What is next depends on the script and on the bytes
 //! that were told, and on nothing else. Each step takes constant time, but for the bytes that it copies:
-//! those of a `copy` are kept in the engine. No call takes memory, and none is refused.
+//! those of a `copy` are kept in the engine. No call can fail, and none is refused.
 #![tactic(auto)]
 
 mod buffer;
@@ -19,8 +19,6 @@ mod engine;
 pub mod laws;
 mod op;
 mod operations;
-#[cfg(test)]
-mod tests;
 
 pub use engine::Engine;
 pub use op::Op;

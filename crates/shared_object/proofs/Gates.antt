@@ -6,7 +6,7 @@ use Rattle.shared_object.specs.Written.{IsAmong}
 use Rattle.shared_object.specs.Standing.{HasGates}
 
 -- a gate of the object is one of those that the history counts for it
-own_gate : {G : Type 0} (frame : Frame G) (number gate : ℕ) (gates : ℕ × ℕ) → HasGates frame number gates → IsAmong gates gate → IsAmong (sum (take number frame.gates), slice_index_or frame.gates number 0) gate
+pub own_gate : {G : Type 0} (frame : Frame G) (number gate : ℕ) (gates : ℕ × ℕ) → HasGates frame number gates → IsAmong gates gate → IsAmong (sum (take number frame.gates), slice_index_or frame.gates number 0) gate
 own_gate frame number gate gates h among =
     let low = among.0 in
     let high = among.1 in

@@ -1,5 +1,3 @@
-pub mod Counters
-pub mod Logs
 pub mod Seats
 pub mod Calls
-mod Gates
+pub mod Gates

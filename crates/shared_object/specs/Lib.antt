@@ -1,4 +1,3 @@
 pub mod Written
 pub mod Standing
 pub mod Steps
-pub mod Counter

@@ -69,6 +69,7 @@ pub record IsSeat {G : Type 0} (table : TableId) (frame : Frame G) (number : ℕ
   pub own : own_of seat.knows ≡ map (placed number) entries
   pub idle : seat.knows.notes ≡ 0
   pub unlooked : seat.knows.looks ≡ []
+  pub outside : seat.knows.stays ≡ []
   pub knows : Within (own_of seat.knows) seat.knows.known
   pub below : (w : Written) → Has entries w → w.position < seat.knows.seen
 

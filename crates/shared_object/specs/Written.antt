@@ -1,5 +1,5 @@
 -- What an object is, and the entries that it has written.
-use Rattle.std.specs.Prelude.{◌≡◌, ℕ, ◌+◌, ◌<◌, ◌≤◌, List, map, Option}
+use Rattle.std.specs.Prelude.{ℕ, ◌+◌, ◌<◌, ◌≤◌, List, map, Option}
 use Rattle.atomic_table.specs.Seated.{TableId}
 use Rattle.view_lists.specs.Lists.{Has}
 use Rattle.one_history.specs.declared.entry.Entry.{Entry as HistoryEntry}

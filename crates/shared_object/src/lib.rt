@@ -5,6 +5,7 @@
 //! - A `Naming` names one history and its tokens, so that what stands under a lock is known by its type.
 //! - `Shared` has an object, its seat in the history and its book of tickets under a lock. `step` makes
 //!   one call: it joins a note, draws where the call is admitted, applies it and copies a note.
+//!   `step_leaving` does so with a note that is inside a gate, and leaves it after the draw.
 //!   `step_alone` does so without the lock, for the only one who has the object.
 //!
 //! Promises: a call that is admitted adds one entry to the history, which is that of the object's log,
@@ -18,8 +19,6 @@ mod locked;
 mod naming;
 mod object;
 mod shared;
-#[cfg(test)]
-mod tests;
 
 pub use locked::{Stepped, Unstepped};
 pub use naming::Naming;

@@ -1,12 +1,13 @@
 // What lies under the lock.
-ghost use Rattle.std.specs.Prelude.{◌≡◌, ℕ, ◌+◌, ◌<◌, ◌≤◌, [], ◌∷◌, ◌++◌, length, slice_index_or, map, true, false, IfOk, IfErr, MatchOption, Some, None};
+ghost use Rattle.std.specs.Prelude.{◌≡◌, ℕ, ◌+◌, ◌<◌, ◌≤◌, [], ◌∷◌, ◌++◌, length, slice_index_or, map, true, false, IfOk, IfErr, IfSome, MatchOption, Some, None};
 ghost use Rattle.std.specs.Option.{ForSome, unwrap_or};
-ghost use Rattle.one_history.specs.Moves.{entry, number_of, own_of, KnowsOwn, drawn, copied, one_gone, fresh};
+ghost use Rattle.one_history.specs.Moves.{entry, number_of, own_of, KnowsOwn, IsAtGate, drawn, copied, one_gone, left, fresh};
+ghost use Rattle.one_history.specs.Gates.{total_gates, stays_of};
 ghost use Rattle.token_book.specs.Account.{out_of, amount_of};
 ghost use Rattle.token_book.specs.Ticket.{IsTicket};
 ghost use Rattle.shared_object.specs.Written.{sign_of, own_number, wrote, placed, written_at};
-ghost use Rattle.shared_object.specs.Standing.{place, IsBuiltFor, Meets, AreVouched, IsSeat, IsBook, IsDrawn};
-ghost use Rattle.shared_object.specs.Steps.{IsNote, HasTicket, unspent, Enters};
+ghost use Rattle.shared_object.specs.Standing.{place, HasGates, IsBuiltFor, Meets, AreVouched, IsSeat, IsBook, IsDrawn};
+ghost use Rattle.shared_object.specs.Steps.{IsNote, IsNoteAt, HasTicket, left_if, unspent, Enters};
 
 use crate::naming::Naming;
 use crate::object::{Object, World};
@@ -66,6 +67,9 @@ fn draw_for<O: Object, G, W: Law<Content, G>, D: Said>(
     requires backed { (p : ℕ) → seat.old.knows.seen ≤ p → KnowsOwn seat.old.knows →
         W.backs history.now.frame.world seat.old.knows.known
         (placed (number_of seat.old.knows) (wrote p (O.content object.now call.now))) }
+    requires fits { KnowsOwn seat.old.knows → O.fits object.now call.now (O.entries object.now) }
+    requires gates { HasGates history.now.frame (number_of seat.old.knows) (O.built object.now).gates }
+    requires at { KnowsOwn seat.old.knows → IsAtGate seat.old.knows (sign_of (O.content object.now call.now).what) }
     ensures table { seat.new.table ≡ seat.old.table }
     ensures after { seat.old.knows.seen ≤ result }
     ensures below { result < 1000000 }
@@ -88,7 +92,7 @@ fn copy_for<O: Object, G, W: Law<Content, G>, D: Looked>(
 ) -> Note<Content, G, W>
     requires pick { D.number ≡ O.look _reply.now }
     requires seat { seat.old.table ≡ history.now.table }
-    requires notes { 1 ≤ seat.old.knows.notes }
+    requires notes { length seat.old.knows.stays + 1 ≤ seat.old.knows.notes }
     ensures table { (seat.new.table ≡ seat.old.table) × (result.table ≡ seat.old.table) }
     ensures seat { seat.new.knows ≡ one_gone seat.old.knows }
     ensures note { result.knows ≡ copied (O.look _reply.now) seat.old.knows }
@@ -116,6 +120,10 @@ fn enter<O: Object, G, W: Law<Content, G>>(
         seat.old.knows.seen ≤ p → KnowsOwn seat.old.knows →
         W.backs history.now.frame.world seat.old.knows.known
         (placed (number_of seat.old.knows) (wrote p (O.content object.now call.now))) }
+    requires fits { KnowsOwn seat.old.knows → O.fits object.now call.now (O.entries object.now) }
+    requires gates { HasGates history.now.frame (number_of seat.old.knows) (O.built object.now).gates }
+    requires at { O.admitted object.now call.now ≡ true → O.follows object.now → KnowsOwn seat.old.knows →
+        IsAtGate seat.old.knows (sign_of (O.content object.now call.now).what) }
     ensures table { (seat.new.table ≡ seat.old.table) × (number_of seat.new.knows ≡ number_of seat.old.knows) }
     ensures book { (book.new.table ≡ book.old.table) × (book.new.owner ≡ book.old.owner) }
     ensures state { O.follows object.now }
@@ -137,6 +145,23 @@ fn enter<O: Object, G, W: Law<Content, G>>(
     retire(tickets, book, ticket);
     let position = draw_for::<O, G, W, Brand>(history, seat, object, call);
     (Some(position), None)
+}
+
+// The seat leaves the gate, if there is one.
+fn leave_if<G, W: Law<Content, G>>(
+    history: &History<Content, G, W>,
+    seat: &mut ObjectSeat<Content, G, W>,
+    gate: Option<u32>,
+)
+    requires seat { seat.old.table ≡ history.now.table }
+    requires gate { IfSome gate (λ g. g < total_gates history.now.frame) }
+    requires stay { IfSome gate (λ g. 1 ≤ stays_of g seat.old.knows) }
+    ensures table { seat.new.table ≡ seat.old.table }
+    ensures left { seat.new.knows ≡ left_if gate seat.old.knows }
+{
+    if let Some(gate) = gate {
+        history.leave(seat, gate);
+    }
 }
 
 /// What a step answers.
@@ -181,7 +206,7 @@ impl<O: Object, G, W: Law<Content, G> + World<G, O>, N: Naming<G, W>> Model for 
         × IsSeat N.table N.frame l.book.owner (O.entries l.object) l.seat
         × IsBook N.tokens l.book.owner (O.room l.object) (O.bytes_left l.object) l.book
         × (length (O.entries l.object) + O.room l.object ≡ slice_index_or N.frame.planned l.book.owner 0)
-        × AreVouched (W.vouches N.frame.world l.book.owner) (O.carried l.object) l.seat.knows.known };
+        × AreVouched (W.vouches N.frame.world N.tokens l.book.owner) (O.carried l.object) l.seat.knows.known };
 }
 
 impl<O: Object, G, W: Law<Content, G> + World<G, O>, N: Naming<G, W>> Locked<O, G, W, N> {
@@ -216,8 +241,8 @@ impl<O: Object, G, W: Law<Content, G> + World<G, O>, N: Naming<G, W>> Locked<O, 
         self.object.number()
     }
 
-    /// One call: it makes room, joins the note, draws where the call is admitted, applies, and copies a
-    /// note.
+    /// One call: it makes room, joins the note, draws where the call is admitted, leaves the gate that the
+    /// note is inside, if there is one, applies, and copies a note.
     #[inline(always)]
     pub fn step(
         &mut self,
@@ -225,11 +250,13 @@ impl<O: Object, G, W: Law<Content, G> + World<G, O>, N: Naming<G, W>> Locked<O, 
         tickets: &Tokens,
         note: Note<Content, G, W>,
         ticket: Option<Ticket>,
+        gate: Option<u32>,
         call: O::Call,
     ) -> Result<Stepped<O, G, W>, Unstepped<O, G, W>>
         requires history { (history.now.table ≡ N.table) × (history.now.frame ≡ N.frame) }
         requires tickets { tickets.now ≡ N.tokens }
-        requires note { IsNote N.table note }
+        requires note { IsNoteAt N.table gate note }
+        requires gate { IfSome gate (λ g. g < total_gates N.frame) }
         requires ticket { let at = place N.frame N.tokens self.old.number (own_number (O.built self.old.object).object) in
             (o : O) → IsBuiltFor W.builds at (O.built o) → O.follows o → O.admitted o call ≡ true →
             HasTicket N.tokens self.old.number (O.cost call) ticket }
@@ -240,17 +267,20 @@ impl<O: Object, G, W: Law<Content, G> + World<G, O>, N: Naming<G, W>> Locked<O, 
             O.admitted o call ≡ true → note.knows.seen ≤ p →
             W.backs N.frame.world (map (placed self.old.number) (O.entries o) ++ note.knows.known)
             (placed self.old.number (wrote p (O.content o call))) }
+        requires gates { let at = place N.frame N.tokens self.old.number (own_number (O.built self.old.object).object) in
+            (o : O) → Meets W.builds O.built O.entries O.follows at note.knows.known o →
+            O.admitted o call ≡ true → IsAtGate note.knows (sign_of (O.content o call).what) }
         requires vouched { let at = place N.frame N.tokens self.old.number (own_number (O.built self.old.object).object) in
             (o : O) → Meets W.builds O.built O.entries O.follows at note.knows.known o →
-            AreVouched (W.vouches N.frame.world self.old.number) (O.brought o call) note.knows.known }
+            AreVouched (W.vouches N.frame.world N.tokens self.old.number) (O.brought o call) note.knows.known }
         ensures answer { let at = place N.frame N.tokens self.old.number (own_number (O.built self.old.object).object) in
             IfOk result (λ s. (before : O) × (after : O)
             × Meets W.builds O.built O.entries O.follows at note.knows.known before
-            × Enters self.old.number (O.entries before) (O.entries after) (O.admitted before call)
+            × Enters N.frame self.old.number (O.entries before) (O.entries after) (O.admitted before call)
             (O.content before call) note.knows s.note.knows s.position
             × O.applied before (unwrap_or s.position 0) call s.reply after
             × O.follows after
-            × AreVouched (W.vouches N.frame.world self.old.number) (O.given before call s.reply) s.note.knows.known) }
+            × AreVouched (W.vouches N.frame.world N.tokens self.old.number) (O.given before call s.reply) s.note.knows.known) }
         ensures note { IfOk result (λ s. IsNote N.table s.note) }
         ensures look { IfOk result (λ s. s.note.knows.looks ≡ note.knows.looks ++ (self.old.number, O.look s.reply) ∷ []) }
         ensures ticket { IfOk result (λ s. s.ticket ≡ unspent s.position ticket) }
@@ -260,7 +290,7 @@ impl<O: Object, G, W: Law<Content, G> + World<G, O>, N: Naming<G, W>> Locked<O, 
         if self.object.make_room(&call).is_err() {
             return Err(Unstepped { note, ticket, call });
         }
-        history.join(&mut self.seat, note);
+        history.take_in(&mut self.seat, note);
         let (position, ticket) = enter(
             history,
             tickets,
@@ -270,6 +300,7 @@ impl<O: Object, G, W: Law<Content, G> + World<G, O>, N: Naming<G, W>> Locked<O, 
             ticket,
             &call,
         );
+        leave_if(history, &mut self.seat, gate);
         let reply = self.object.apply(tickets, position.unwrap_or(0), call);
         let note = copy_for::<O, G, W, Brand>(history, &mut self.seat, &reply);
         Ok(Stepped {
@@ -279,6 +310,7 @@ impl<O: Object, G, W: Law<Content, G> + World<G, O>, N: Naming<G, W>> Locked<O, 
             ticket,
         })
     }
+
     /// The object, its seat and its book.
     pub fn into_parts(self) -> (O, ObjectSeat<Content, G, W>, Book)
         ensures object { result.0 ≡ self.object }
@@ -286,7 +318,7 @@ impl<O: Object, G, W: Law<Content, G> + World<G, O>, N: Naming<G, W>> Locked<O, 
         ensures seat { IsSeat N.table N.frame self.number (O.entries result.0) result.1 }
         ensures book { IsBook N.tokens self.number (O.room result.0) (O.bytes_left result.0) result.2 }
         ensures planned { length (O.entries result.0) + O.room result.0 ≡ slice_index_or N.frame.planned self.number 0 }
-        ensures vouched { AreVouched (W.vouches N.frame.world self.number) (O.carried result.0) result.1.knows.known }
+        ensures vouched { AreVouched (W.vouches N.frame.world N.tokens self.number) (O.carried result.0) result.1.knows.known }
     {
         let Locked {
             object,

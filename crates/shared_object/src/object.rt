@@ -93,8 +93,8 @@ pub trait Object {
         ensures sign { result ≡ sign_of (content self.now call.now).what }
         ensures gates { fits self.now call.now (entries self.now) → NamesOwnGate (built self.now).gates result };
 
-    /// Makes room for the call, so that `apply` takes no memory for it. Its only error is want of
-    /// memory.
+    /// Makes room for the call, so that `apply` can't fail for want of memory. Its only error is that
+    /// want.
     fn make_room(&mut self, call: &Self::Call) -> Result<(), Memory>
         ensures built { built self.new ≡ built self.old }
         ensures entries { entries self.new ≡ entries self.old }
@@ -147,9 +147,11 @@ pub trait Object {
 }
 
 /// What the world of a law says of objects of one type: how the object of each number is built, and
-/// which known entries vouch for an item of a transaction at the object of a number.
+/// which known entries vouch for an item of a transaction at the object of a number. Items may keep
+/// tokens, so vouching names their table.
 pub trait World<G, O: Object> {
     ghost use Rattle.std.specs.Prelude.{ℕ, List};
+    ghost use Rattle.atomic_table.specs.Seated.{TableId};
     ghost use Rattle.view_lists.specs.Lists.{Within};
     ghost use Rattle.one_history.specs.declared.entry.Entry.{Entry};
     ghost use Rattle.tlm_types.specs.declared.words.TxnId.{TxnId};
@@ -160,17 +162,17 @@ pub trait World<G, O: Object> {
     ghost builds: { G → ℕ → Built O.Made → Type 0 };
 
     /// These entries vouch for the item.
-    ghost vouches: { G → ℕ → TxnId → O.Item → List (Entry Content) → Type 0 };
+    ghost vouches: { G → TableId → ℕ → TxnId → O.Item → List (Entry Content) → Type 0 };
 
     /// More entries vouch for no less.
-    ghost more_vouch: { (world : G) (number : ℕ) (txn : TxnId) (item : O.Item) (xs ys : List (Entry Content)) →
-        Within xs ys → vouches world number txn item xs → vouches world number txn item ys };
+    ghost more_vouch: { (world : G) (tokens : TableId) (number : ℕ) (txn : TxnId) (item : O.Item) (xs ys : List (Entry Content)) →
+        Within xs ys → vouches world tokens number txn item xs → vouches world tokens number txn item ys };
 }
 
 impl<G, O: Object> World<G, O> for NoLaw {
     ghost builds = { λ _ _ _. Unit {0} };
 
-    ghost vouches = { λ _ _ _ _ _. Unit {0} };
+    ghost vouches = { λ _ _ _ _ _ _. Unit {0} };
 
-    ghost more_vouch = { λ _ _ _ _ _ _ _ _. tt };
+    ghost more_vouch = { λ _ _ _ _ _ _ _ _ _. tt };
 }

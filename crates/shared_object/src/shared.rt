@@ -1,10 +1,11 @@
 // An object that threads share.
-ghost use Rattle.std.specs.Prelude.{◌≡◌, ℕ, ◌+◌, ◌≤◌, [], ◌∷◌, ◌++◌, length, slice_index_or, map, true, IfOk, IfErr};
+ghost use Rattle.std.specs.Prelude.{◌≡◌, ℕ, ◌+◌, ◌<◌, ◌≤◌, [], ◌∷◌, ◌++◌, length, slice_index_or, map, true, IfOk, IfErr, Some};
 ghost use Rattle.std.specs.Option.{unwrap_or};
-ghost use Rattle.one_history.specs.Moves.{fresh};
-ghost use Rattle.shared_object.specs.Written.{own_number, wrote, placed, written_at};
+ghost use Rattle.one_history.specs.Moves.{IsAtGate, fresh};
+ghost use Rattle.one_history.specs.Gates.{total_gates};
+ghost use Rattle.shared_object.specs.Written.{own_number, sign_of, wrote, placed, written_at};
 ghost use Rattle.shared_object.specs.Standing.{place, IsBuiltFor, Meets, AreVouched, IsSeat, IsBook};
-ghost use Rattle.shared_object.specs.Steps.{IsNote, HasTicket, unspent, Enters};
+ghost use Rattle.shared_object.specs.Steps.{IsNote, IsInside, HasTicket, unspent, Enters};
 
 use crate::locked::{Locked, Stepped, Unstepped};
 use crate::naming::Naming;
@@ -67,9 +68,10 @@ impl<O: Object, G, W: Law<Content, G> + World<G, O>, N: Naming<G, W>> Shared<O, 
         self.own
     }
 
-    /// Makes one call on the object, under its lock. The note is handed in and comes back, knowing all
-    /// that the object has written. Where the call is admitted, its entry is drawn in the history and
-    /// added to the log, and the ticket is spent; else the ticket comes back, and nothing was added. The
+    /// Makes one call on the object, under its lock. The note, which is inside no gate, is handed in and
+    /// comes back, knowing all that the object has written. Where the call is admitted, its entry is drawn
+    /// in the history and added to the log, and the ticket is spent; else the ticket comes back, and
+    /// nothing was added. An entry is no direct access, and a closing's gate is drained to the note. The
     /// reply is what the object's `apply` gives in a state that its log so far gives. Its only error is
     /// want of memory, and comes before anything is done; note, ticket and call come back in it.
     #[inline(always)]
@@ -95,17 +97,20 @@ impl<O: Object, G, W: Law<Content, G> + World<G, O>, N: Naming<G, W>> Shared<O, 
             O.admitted o call ≡ true → note.knows.seen ≤ p →
             W.backs N.frame.world (map (placed self.now.number) (O.entries o) ++ note.knows.known)
             (placed self.now.number (wrote p (O.content o call))) }
+        requires gates { let at = place N.frame N.tokens self.now.number self.now.own in
+            (o : O) → Meets W.builds O.built O.entries O.follows at note.knows.known o →
+            O.admitted o call ≡ true → IsAtGate note.knows (sign_of (O.content o call).what) }
         requires vouched { let at = place N.frame N.tokens self.now.number self.now.own in
             (o : O) → Meets W.builds O.built O.entries O.follows at note.knows.known o →
-            AreVouched (W.vouches N.frame.world self.now.number) (O.brought o call) note.knows.known }
+            AreVouched (W.vouches N.frame.world N.tokens self.now.number) (O.brought o call) note.knows.known }
         ensures answer { let at = place N.frame N.tokens self.now.number self.now.own in
             IfOk result (λ s. (before : O) × (after : O)
             × Meets W.builds O.built O.entries O.follows at note.knows.known before
-            × Enters self.now.number (O.entries before) (O.entries after) (O.admitted before call)
+            × Enters N.frame self.now.number (O.entries before) (O.entries after) (O.admitted before call)
             (O.content before call) note.knows s.note.knows s.position
             × O.applied before (unwrap_or s.position 0) call s.reply after
             × O.follows after
-            × AreVouched (W.vouches N.frame.world self.now.number) (O.given before call s.reply) s.note.knows.known) }
+            × AreVouched (W.vouches N.frame.world N.tokens self.now.number) (O.given before call s.reply) s.note.knows.known) }
         ensures note { IfOk result (λ s. IsNote N.table s.note) }
         ensures look { IfOk result (λ s. s.note.knows.looks ≡ note.knows.looks ++ (self.now.number, O.look s.reply) ∷ []) }
         ensures ticket { IfOk result (λ s. s.ticket ≡ unspent s.position ticket) }
@@ -117,7 +122,63 @@ impl<O: Object, G, W: Law<Content, G> + World<G, O>, N: Naming<G, W>> Shared<O, 
             for _ in rt.forever() {}
             unreachable!()
         }
-        guard.step(history, tickets, note, ticket, call)
+        guard.step(history, tickets, note, ticket, None, call)
+    }
+
+    /// Makes one call on the object, as `step` does, with a note that is inside a gate, which it leaves
+    /// after the draw and before the copy: the note that comes back is inside none. An entry that is
+    /// added is a direct access through this gate, or has a sign that needs no gate.
+    #[inline(always)]
+    pub fn step_leaving<R: Wait>(
+        &self,
+        rt: &R,
+        history: &History<Content, G, W>,
+        tickets: &Tokens,
+        note: Note<Content, G, W>,
+        ticket: Ticket,
+        gate: u32,
+        call: O::Call,
+    ) -> Result<Stepped<O, G, W>, Unstepped<O, G, W>>
+        requires history { (history.now.table ≡ N.table) × (history.now.frame ≡ N.frame) }
+        requires tickets { tickets.now ≡ N.tokens }
+        requires note { IsInside N.table gate note }
+        requires gate { gate < total_gates N.frame }
+        requires ticket { let at = place N.frame N.tokens self.now.number self.now.own in
+            (o : O) → IsBuiltFor W.builds at (O.built o) → O.follows o → O.admitted o call ≡ true →
+            HasTicket N.tokens self.now.number (O.cost call) (Some ticket) }
+        requires fits { let at = place N.frame N.tokens self.now.number self.now.own in
+            (o : O) → IsBuiltFor W.builds at (O.built o) → O.fits o call (written_at self.now.number note.knows.known) }
+        requires backed { let at = place N.frame N.tokens self.now.number self.now.own in
+            (o : O) (p : ℕ) → Meets W.builds O.built O.entries O.follows at note.knows.known o →
+            O.admitted o call ≡ true → note.knows.seen ≤ p →
+            W.backs N.frame.world (map (placed self.now.number) (O.entries o) ++ note.knows.known)
+            (placed self.now.number (wrote p (O.content o call))) }
+        requires gates { let at = place N.frame N.tokens self.now.number self.now.own in
+            (o : O) → Meets W.builds O.built O.entries O.follows at note.knows.known o →
+            O.admitted o call ≡ true → IsAtGate note.knows (sign_of (O.content o call).what) }
+        requires vouched { let at = place N.frame N.tokens self.now.number self.now.own in
+            (o : O) → Meets W.builds O.built O.entries O.follows at note.knows.known o →
+            AreVouched (W.vouches N.frame.world N.tokens self.now.number) (O.brought o call) note.knows.known }
+        ensures answer { let at = place N.frame N.tokens self.now.number self.now.own in
+            IfOk result (λ s. (before : O) × (after : O)
+            × Meets W.builds O.built O.entries O.follows at note.knows.known before
+            × Enters N.frame self.now.number (O.entries before) (O.entries after) (O.admitted before call)
+            (O.content before call) note.knows s.note.knows s.position
+            × O.applied before (unwrap_or s.position 0) call s.reply after
+            × O.follows after
+            × AreVouched (W.vouches N.frame.world N.tokens self.now.number) (O.given before call s.reply) s.note.knows.known) }
+        ensures note { IfOk result (λ s. IsNote N.table s.note) }
+        ensures look { IfOk result (λ s. s.note.knows.looks ≡ note.knows.looks ++ (self.now.number, O.look s.reply) ∷ []) }
+        ensures ticket { IfOk result (λ s. s.ticket ≡ unspent s.position (Some ticket)) }
+        ensures unstepped { IfErr result (λ u. (u.note ≡ note) × (u.ticket ≡ Some ticket) × (u.call ≡ call)) }
+        ensures refused { IfErr result (λ _. O.takes_memory call ≡ true) }
+    {
+        let mut guard = self.lock.lock(rt);
+        if guard.number() != self.number || guard.own_number() != self.own {
+            for _ in rt.forever() {}
+            unreachable!()
+        }
+        guard.step(history, tickets, note, Some(ticket), Some(gate), call)
     }
 
     /// Makes one call on the object, as `step` does, for the only one who has it: no lock is taken.
@@ -144,18 +205,21 @@ impl<O: Object, G, W: Law<Content, G> + World<G, O>, N: Naming<G, W>> Shared<O, 
             O.admitted o call ≡ true → note.knows.seen ≤ p →
             W.backs N.frame.world (map (placed self.old.number) (O.entries o) ++ note.knows.known)
             (placed self.old.number (wrote p (O.content o call))) }
+        requires gates { let at = place N.frame N.tokens self.old.number self.old.own in
+            (o : O) → Meets W.builds O.built O.entries O.follows at note.knows.known o →
+            O.admitted o call ≡ true → IsAtGate note.knows (sign_of (O.content o call).what) }
         requires vouched { let at = place N.frame N.tokens self.old.number self.old.own in
             (o : O) → Meets W.builds O.built O.entries O.follows at note.knows.known o →
-            AreVouched (W.vouches N.frame.world self.old.number) (O.brought o call) note.knows.known }
+            AreVouched (W.vouches N.frame.world N.tokens self.old.number) (O.brought o call) note.knows.known }
         ensures numbers { self.new ≡ self.old }
         ensures answer { let at = place N.frame N.tokens self.old.number self.old.own in
             IfOk result (λ s. (before : O) × (after : O)
             × Meets W.builds O.built O.entries O.follows at note.knows.known before
-            × Enters self.old.number (O.entries before) (O.entries after) (O.admitted before call)
+            × Enters N.frame self.old.number (O.entries before) (O.entries after) (O.admitted before call)
             (O.content before call) note.knows s.note.knows s.position
             × O.applied before (unwrap_or s.position 0) call s.reply after
             × O.follows after
-            × AreVouched (W.vouches N.frame.world self.old.number) (O.given before call s.reply) s.note.knows.known) }
+            × AreVouched (W.vouches N.frame.world N.tokens self.old.number) (O.given before call s.reply) s.note.knows.known) }
         ensures note { IfOk result (λ s. IsNote N.table s.note) }
         ensures look { IfOk result (λ s. s.note.knows.looks ≡ note.knows.looks ++ (self.old.number, O.look s.reply) ∷ []) }
         ensures ticket { IfOk result (λ s. s.ticket ≡ unspent s.position ticket) }
@@ -167,7 +231,7 @@ impl<O: Object, G, W: Law<Content, G> + World<G, O>, N: Naming<G, W>> Shared<O, 
             for _ in rt.forever() {}
             unreachable!()
         }
-        locked.step(history, tickets, note, ticket, call)
+        locked.step(history, tickets, note, ticket, None, call)
     }
 
     /// The object, its seat and its book. The log stands in the seat, and a ticket is out for each
@@ -177,7 +241,7 @@ impl<O: Object, G, W: Law<Content, G> + World<G, O>, N: Naming<G, W>> Shared<O, 
         ensures seat { IsSeat N.table N.frame self.number (O.entries result.0) result.1 }
         ensures book { IsBook N.tokens self.number (O.room result.0) (O.bytes_left result.0) result.2 }
         ensures planned { length (O.entries result.0) + O.room result.0 ≡ slice_index_or N.frame.planned self.number 0 }
-        ensures vouched { AreVouched (W.vouches N.frame.world self.number) (O.carried result.0) result.1.knows.known }
+        ensures vouched { AreVouched (W.vouches N.frame.world N.tokens self.number) (O.carried result.0) result.1.knows.known }
     {
         let Shared { lock, number, own } = self;
         let locked = lock.into_inner();

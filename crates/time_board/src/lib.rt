@@ -8,14 +8,12 @@
 //!
 //! Promises: a member goes on exactly where no unfinished member is in a lower round, so that the
 //! rounds of unfinished members differ by at most one. Who is held back is told the least member that
-//! is behind. No call but `new` takes memory.
+//! is behind. No call but `new` can fail for want of memory.
 #![tactic(auto)]
 
 mod board;
 mod rounds;
 mod tally;
-#[cfg(test)]
-mod tests;
 
 pub use board::Board;
 pub use rounds::{Advance, Member, Rounds};

@@ -1,13 +1,11 @@
 -- Worked runs, by computing the definitions.
-use Rattle.std.proofs.Common.{◌≡◌, ℕ, List, [], ap, refl, codes}
+use Rattle.std.proofs.Common.{◌≡◌, ℕ, List, [], ap, refl}
 use Rattle.std.specs.Prelude.{slice_index}
-use Rattle.std.specs.Fmt.{digits}
 use Rattle.tlm_model.specs.Kept.{KeepsRequests, EndsRequests}
-use Rattle.tlm_model.specs.Report.{report_of, report_lines}
-use Rattle.tlm_model.specs.Worked.{IsWorked, cut_short, debug_plan, debug_text, debugged, doubled, empty_plan, empty_text, enables, enables_plan, enables_text, hasty, ignore_plan, ignore_text, ignored, past_end, past_end_plan, past_end_text, quantum_plan, readback, readback_plan, readback_text, routed, routed_plan, routed_text, seven_reads, seven_reads_text, streaming, streaming_plan, streaming_text, sum_plan, sum_text, summed, swapped, wrong_byte, wrong_status}
+use Rattle.tlm_model.specs.Worked.{IsWorked, cut_short, debug_plan, debugged, doubled, empty_plan, enables, enables_plan, hasty, ignore_plan, ignored, past_end, past_end_plan, quantum_plan, readback, readback_plan, routed, routed_plan, seven_reads, streaming, streaming_plan, sum_plan, summed, swapped, wrong_byte, wrong_status}
 
-pub readback_is_worked : IsWorked readback_plan readback readback_text
-unfolding readback readback_plan report_of report_lines digits
+pub readback_is_worked : IsWorked readback_plan readback
+unfolding readback readback_plan
 readback_is_worked = record {
   kept = record {
     numbered = (refl, (refl, tt));
@@ -21,11 +19,10 @@ readback_is_worked = record {
     times = (refl, (refl, tt));
   };
   ended = record { answers = (refl, tt) };
-  report = refl;
 }
 
-pub empty_is_worked : IsWorked empty_plan [] empty_text
-unfolding empty_plan report_of report_lines digits
+pub empty_is_worked : IsWorked empty_plan []
+unfolding empty_plan
 empty_is_worked = record {
   kept = record {
     numbered = tt;
@@ -39,11 +36,10 @@ empty_is_worked = record {
     times = tt;
   };
   ended = record { answers = (refl, tt) };
-  report = refl;
 }
 
-pub past_end_is_worked : IsWorked past_end_plan past_end past_end_text
-unfolding past_end past_end_plan report_of report_lines digits
+pub past_end_is_worked : IsWorked past_end_plan past_end
+unfolding past_end past_end_plan
 past_end_is_worked = record {
   kept = record {
     numbered = (refl, (refl, tt));
@@ -57,11 +53,10 @@ past_end_is_worked = record {
     times = (refl, (refl, tt));
   };
   ended = record { answers = (refl, tt) };
-  report = refl;
 }
 
-pub enables_is_worked : IsWorked enables_plan enables enables_text
-unfolding enables enables_plan report_of report_lines digits
+pub enables_is_worked : IsWorked enables_plan enables
+unfolding enables enables_plan
 enables_is_worked = record {
   kept = record {
     numbered = (refl, tt);
@@ -75,11 +70,10 @@ enables_is_worked = record {
     times = (refl, tt);
   };
   ended = record { answers = (refl, tt) };
-  report = refl;
 }
 
-pub streaming_is_worked : IsWorked streaming_plan streaming streaming_text
-unfolding streaming streaming_plan report_of report_lines digits
+pub streaming_is_worked : IsWorked streaming_plan streaming
+unfolding streaming streaming_plan
 streaming_is_worked = record {
   kept = record {
     numbered = (refl, tt);
@@ -93,11 +87,10 @@ streaming_is_worked = record {
     times = (refl, tt);
   };
   ended = record { answers = (refl, tt) };
-  report = refl;
 }
 
-pub ignore_is_worked : IsWorked ignore_plan ignored ignore_text
-unfolding ignore_plan ignored report_of report_lines digits
+pub ignore_is_worked : IsWorked ignore_plan ignored
+unfolding ignore_plan ignored
 ignore_is_worked = record {
   kept = record {
     numbered = (refl, tt);
@@ -111,11 +104,10 @@ ignore_is_worked = record {
     times = (refl, tt);
   };
   ended = record { answers = (refl, tt) };
-  report = refl;
 }
 
-pub debug_is_worked : IsWorked debug_plan debugged debug_text
-unfolding debug_plan debugged report_of report_lines digits
+pub debug_is_worked : IsWorked debug_plan debugged
+unfolding debug_plan debugged
 debug_is_worked = record {
   kept = record {
     numbered = (refl, (refl, tt));
@@ -129,11 +121,10 @@ debug_is_worked = record {
     times = (refl, (refl, tt));
   };
   ended = record { answers = (refl, tt) };
-  report = refl;
 }
 
-pub sum_is_worked : IsWorked sum_plan summed sum_text
-unfolding sum_plan summed report_of report_lines digits
+pub sum_is_worked : IsWorked sum_plan summed
+unfolding sum_plan summed
 sum_is_worked = record {
   kept = record {
     numbered = (refl, (refl, (refl, (refl, (refl, tt)))));
@@ -147,11 +138,10 @@ sum_is_worked = record {
     times = (refl, (refl, (refl, (refl, (refl, tt)))));
   };
   ended = record { answers = (refl, tt) };
-  report = refl;
 }
 
-pub routed_is_worked : IsWorked routed_plan routed routed_text
-unfolding routed routed_plan report_of report_lines digits
+pub routed_is_worked : IsWorked routed_plan routed
+unfolding routed routed_plan
 routed_is_worked = record {
   kept = record {
     numbered = (refl, (refl, tt));
@@ -165,11 +155,10 @@ routed_is_worked = record {
     times = (refl, (refl, tt));
   };
   ended = record { answers = (refl, tt) };
-  report = refl;
 }
 
-pub quantum_is_worked : IsWorked (quantum_plan 100) seven_reads (seven_reads_text (codes "2"))
-unfolding quantum_plan seven_reads report_of report_lines digits
+pub quantum_is_worked : IsWorked (quantum_plan 100) seven_reads
+unfolding quantum_plan seven_reads
 quantum_is_worked = record {
   kept = record {
     numbered = (refl, (refl, (refl, (refl, (refl, (refl, (refl, tt)))))));
@@ -183,11 +172,10 @@ quantum_is_worked = record {
     times = (refl, (refl, (refl, (refl, (refl, (refl, (refl, tt)))))));
   };
   ended = record { answers = (refl, tt) };
-  report = refl;
 }
 
-pub no_quantum_is_worked : IsWorked (quantum_plan 0) seven_reads (seven_reads_text (codes "7"))
-unfolding quantum_plan seven_reads report_of report_lines digits
+pub no_quantum_is_worked : IsWorked (quantum_plan 0) seven_reads
+unfolding quantum_plan seven_reads
 no_quantum_is_worked = record {
   kept = record {
     numbered = (refl, (refl, (refl, (refl, (refl, (refl, (refl, tt)))))));
@@ -201,7 +189,6 @@ no_quantum_is_worked = record {
     times = (refl, (refl, (refl, (refl, (refl, (refl, (refl, tt)))))));
   };
   ended = record { answers = (refl, tt) };
-  report = refl;
 }
 
 pub wrong_byte_is_not_right : ¬ KeepsRequests readback_plan wrong_byte

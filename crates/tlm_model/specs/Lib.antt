@@ -10,6 +10,5 @@ pub mod Scripts
 pub mod Times
 pub mod Kept
 pub mod Text
-pub mod Report
 pub mod Laws
 pub mod Worked

@@ -1,5 +1,6 @@
 -- What an initiator asks for, and when.
-use Rattle.std.specs.Prelude.{ℕ, ◌+◌, ◌*◌, ◌%◌, ◌/◌, ◌^◌, Bool, ◌&&◌, List, [], ◌∷◌, length, Option, Some, None, unwrap_or, if◌then◌else◌, ◌==◌}
+use Rattle.std.specs.Prelude.{ℕ, ◌+◌, ◌*◌, ◌%◌, ◌/◌, ◌^◌, Bool, false, ◌&&◌, List, [], ◌∷◌, length, Option, Some, None, is_none, unwrap_or, if◌then◌else◌, ◌==◌}
+use Rattle.std.specs.List.{filter}
 use Rattle.tlm_types.specs.declared.words.Command.TheVariants.{Read as read_command, Write as write_command, Ignore as ignore_command}
 use Rattle.tlm_types.specs.declared.words.TxnId.{TxnId}
 use Rattle.tlm_types.specs.declared.entry.Access.{Access}
@@ -163,3 +164,12 @@ end_from p i t (op ∷ ops) = end_from p i (time_after p i t op) ops
 -- the end time of a blocking or direct initiator
 abbrev pub end_of : Platform → Initiator → ℕ
 end_of p i = end_from p i 0 i.script
+
+abbrev pub has_no_route : Platform → Initiator → Request → Asked → Bool
+has_no_route p i r (Transport a) = is_none (route_of p i r.address)
+has_no_route p i r (DebugRead a) = is_none (route_of p i r.address)
+has_no_route p i r (Invalidation n) = false
+
+-- the accesses and debug reads whose address has no route
+abbrev pub refused_of : Platform → Initiator → List Entry → List Request
+refused_of p i h = filter (λ r. has_no_route p i r r.asked) (requests_of p i h)

@@ -1,5 +1,5 @@
--- Worked runs: plans, histories and texts that were made by hand.
-use Rattle.std.specs.Prelude.{ℕ, ◌≡◌, List, [], ◌∷◌, ◌++◌, length, true, codes, Some, None}
+-- Worked runs: plans and histories that were made by hand.
+use Rattle.std.specs.Prelude.{ℕ, List, [], ◌∷◌, length, true, codes, Some, None}
 use Rattle.tlm_types.specs.declared.words.Command.{Command}
 use Rattle.tlm_types.specs.declared.words.Command.TheVariants.{Read as read_command, Write as write_command, Ignore as ignore_command}
 use Rattle.tlm_types.specs.declared.words.ObjectNo.TheVariants.{Memory as memory_object}
@@ -18,17 +18,14 @@ use Rattle.tlm_model.specs.declared.platform.RouterRow.{RouterRow}
 use Rattle.tlm_model.specs.declared.platform.Style.TheVariants.{Blocking as blocking_style}
 use Rattle.tlm_model.specs.declared.platform.Target.{Target}
 use Rattle.tlm_model.specs.declared.platform.Target.TheVariants.{Router, Memory}
-use Rattle.tlm_model.specs.declared.trace.Trace.TheVariants.{All as all_entries}
 use Rattle.tlm_model.specs.Kept.{KeepsRequests, EndsRequests}
 use Rattle.tlm_model.specs.Plan.{Plan}
-use Rattle.tlm_model.specs.Report.{report_of}
 use Rattle.tlm_model.specs.Store.{zeros}
 
--- the history has the points of requests, also those of its end, and its report is this text
-pub record IsWorked (p : Plan) (h : List Entry) (text : List ℕ) : Type 0 where
+-- the history has the points of requests, also those of its end
+pub record IsWorked (p : Plan) (h : List Entry) : Type 0 where
   pub kept : KeepsRequests p h
   pub ended : EndsRequests p h
-  pub report : report_of all_entries p h ≡ text
 
 -- one blocking initiator `cpu`, and a memory `ram` of 256 bytes
 abbrev pub plan_of : ℕ → ℕ → Target → List RouterRow → List Operation → Plan
@@ -75,15 +72,9 @@ readback_plan = lone (Write 0x10 deadbeef [] None ∷ Read 0x10 4 [] None ∷ []
 unfoldable pub readback : List Entry
 readback = entry 0 0 0 (wrote 0x10 deadbeef Ok) ∷ entry 1 1 10 (read 0x10 deadbeef Ok) ∷ []
 
-abbrev pub readback_text : List ℕ
-readback_text = codes "tlm-report 1\n0 0 cpu.0 ram blocking write 0x10 4 be=- sw=4 deadbeef ok\n1 10 cpu.1 ram blocking read 0x10 4 be=- sw=4 deadbeef ok\ninitiator cpu blocking transactions 2 refused 0 syncs 2 end 20\nmemory ram 256\n00000010 deadbeef000000000000000000000000\nend 2\n"
-
 -- an empty script
 unfoldable pub empty_plan : Plan
 empty_plan = lone []
-
-abbrev pub empty_text : List ℕ
-empty_text = codes "tlm-report 1\ninitiator cpu blocking transactions 0 refused 0 syncs 0 end 0\nmemory ram 256\nend 0\n"
 
 -- a write that ends at the last byte, and one that goes past it
 unfoldable pub past_end_plan : Plan
@@ -92,18 +83,12 @@ past_end_plan = lone (Write 0xfe (0xaa ∷ 0xbb ∷ []) [] None ∷ Write 0xff (
 unfoldable pub past_end : List Entry
 past_end = entry 0 0 0 (wrote 0xfe (0xaa ∷ 0xbb ∷ []) Ok) ∷ entry 1 1 10 (wrote 0xff (0xcc ∷ 0xdd ∷ []) AddressError) ∷ []
 
-abbrev pub past_end_text : List ℕ
-past_end_text = codes "tlm-report 1\n0 0 cpu.0 ram blocking write 0xfe 2 be=- sw=2 aabb ok\n1 10 cpu.1 ram blocking write 0xff 2 be=- sw=2 ccdd address_error\ninitiator cpu blocking transactions 2 refused 0 syncs 2 end 20\nmemory ram 256\n000000f0 0000000000000000000000000000aabb\nend 2\n"
-
 -- a write whose second enable is off: the enables repeat
 unfoldable pub enables_plan : Plan
 enables_plan = lone (Write 0x0 (1 ∷ 2 ∷ 3 ∷ 4 ∷ []) (0xff ∷ 0 ∷ []) None ∷ [])
 
 unfoldable pub enables : List Entry
 enables = entry 0 0 0 (made Blocking write_command 0 4 (1 ∷ 2 ∷ 3 ∷ 4 ∷ []) (0xff ∷ 0 ∷ []) 4 Ok []) ∷ []
-
-abbrev pub enables_text : List ℕ
-enables_text = codes "tlm-report 1\n0 0 cpu.0 ram blocking write 0x0 4 be=ff00 sw=4 01020304 ok\ninitiator cpu blocking transactions 1 refused 0 syncs 1 end 10\nmemory ram 256\n00000000 01000300000000000000000000000000\nend 1\n"
 
 -- a write of five bytes that streams over two places: the last byte at a place wins
 unfoldable pub streaming_plan : Plan
@@ -112,9 +97,6 @@ streaming_plan = lone (Write 0x0 (1 ∷ 2 ∷ 3 ∷ 4 ∷ 5 ∷ []) [] (Some 2) 
 unfoldable pub streaming : List Entry
 streaming = entry 0 0 0 (made Blocking write_command 0 5 (1 ∷ 2 ∷ 3 ∷ 4 ∷ 5 ∷ []) [] 2 Ok []) ∷ []
 
-abbrev pub streaming_text : List ℕ
-streaming_text = codes "tlm-report 1\n0 0 cpu.0 ram blocking write 0x0 5 be=- sw=2 0102030405 ok\ninitiator cpu blocking transactions 1 refused 0 syncs 1 end 10\nmemory ram 256\n00000000 05040000000000000000000000000000\nend 1\n"
-
 -- an ignore command needs no place in the memory
 unfoldable pub ignore_plan : Plan
 ignore_plan = lone (Ignore 0xfff ∷ [])
@@ -122,18 +104,12 @@ ignore_plan = lone (Ignore 0xfff ∷ [])
 unfoldable pub ignored : List Entry
 ignored = entry 0 0 0 (made Blocking ignore_command 0xfff 0 [] [] 0 Ok []) ∷ []
 
-abbrev pub ignore_text : List ℕ
-ignore_text = codes "tlm-report 1\n0 0 cpu.0 ram blocking ignore 0xfff 0 be=- sw=0 - ok\ninitiator cpu blocking transactions 1 refused 0 syncs 1 end 10\nmemory ram 256\nend 1\n"
-
 -- a debug read takes no time, and moves the bytes up to the memory's end
 unfoldable pub debug_plan : Plan
 debug_plan = lone (Write 0xfe (0xaa ∷ 0xbb ∷ []) [] None ∷ Debug 0xfe 4 ∷ [])
 
 unfoldable pub debugged : List Entry
 debugged = entry 0 0 0 (wrote 0xfe (0xaa ∷ 0xbb ∷ []) Ok) ∷ entry 1 1 10 (made by_debug read_command 0xfe 4 [] [] 4 Ok (0xaa ∷ 0xbb ∷ [])) ∷ []
-
-abbrev pub debug_text : List ℕ
-debug_text = codes "tlm-report 1\n0 0 cpu.0 ram blocking write 0xfe 2 be=- sw=2 aabb ok\n1 10 cpu.1 ram debug read 0xfe 4 be=- sw=4 aabb ok\ninitiator cpu blocking transactions 2 refused 0 syncs 2 end 10\nmemory ram 256\n000000f0 0000000000000000000000000000aabb\nend 2\n"
 
 -- an `add` that wraps, and a `copy`: each asks for a second access by what the first one read
 abbrev pub ones : List ℕ
@@ -148,9 +124,6 @@ sum_plan = lone (Write 0x0 ones [] None ∷ Add 0x0 2 ∷ Copy 0x0 0x8 4 ∷ [])
 unfoldable pub summed : List Entry
 summed = entry 0 0 0 (wrote 0 ones Ok) ∷ entry 1 1 10 (read 0 ones Ok) ∷ entry 2 2 20 (wrote 0 one Ok) ∷ entry 3 3 30 (read 0 one Ok) ∷ entry 4 4 40 (wrote 8 one Ok) ∷ []
 
-abbrev pub sum_text : List ℕ
-sum_text = codes "tlm-report 1\n0 0 cpu.0 ram blocking write 0x0 4 be=- sw=4 ffffffff ok\n1 10 cpu.1 ram blocking read 0x0 4 be=- sw=4 ffffffff ok\n2 20 cpu.2 ram blocking write 0x0 4 be=- sw=4 01000000 ok\n3 30 cpu.3 ram blocking read 0x0 4 be=- sw=4 01000000 ok\n4 40 cpu.4 ram blocking write 0x8 4 be=- sw=4 01000000 ok\ninitiator cpu blocking transactions 5 refused 0 syncs 3 end 50\nmemory ram 256\n00000000 01000000000000000100000000000000\nend 5\n"
-
 abbrev pub byte_read : ℕ → Operation
 byte_read address = Read address 1 [] None
 
@@ -164,18 +137,12 @@ routed_plan = plan_of 0 10 (Router 0) (record { name = codes "bus"; latency = 5;
 unfoldable pub routed : List Entry
 routed = entry 0 0 5 (zero_read 0) ∷ entry 1 2 25 (zero_read 1) ∷ []
 
-abbrev pub routed_text : List ℕ
-routed_text = codes "tlm-report 1\n0 5 cpu.0 ram blocking read 0x0 1 be=- sw=1 00 ok\n1 25 cpu.2 ram blocking read 0x1 1 be=- sw=1 00 ok\ninitiator cpu blocking transactions 3 refused 1 syncs 3 end 35\nrefused cpu.1 15 read 0x1000\nmemory ram 256\nend 2\n"
-
 -- seven reads of 30 ps, under this quantum
 unfoldable pub quantum_plan : ℕ → Plan
 quantum_plan quantum = plan_of quantum 30 (Memory 0) [] (byte_read 0 ∷ byte_read 0 ∷ byte_read 0 ∷ byte_read 0 ∷ byte_read 0 ∷ byte_read 0 ∷ byte_read 0 ∷ [])
 
 unfoldable pub seven_reads : List Entry
 seven_reads = entry 0 0 0 (zero_read 0) ∷ entry 1 1 30 (zero_read 0) ∷ entry 2 2 60 (zero_read 0) ∷ entry 3 3 90 (zero_read 0) ∷ entry 4 4 120 (zero_read 0) ∷ entry 5 5 150 (zero_read 0) ∷ entry 6 6 180 (zero_read 0) ∷ []
-
-abbrev pub seven_reads_text : List ℕ → List ℕ
-seven_reads_text syncs = codes "tlm-report 1\n0 0 cpu.0 ram blocking read 0x0 1 be=- sw=1 00 ok\n1 30 cpu.1 ram blocking read 0x0 1 be=- sw=1 00 ok\n2 60 cpu.2 ram blocking read 0x0 1 be=- sw=1 00 ok\n3 90 cpu.3 ram blocking read 0x0 1 be=- sw=1 00 ok\n4 120 cpu.4 ram blocking read 0x0 1 be=- sw=1 00 ok\n5 150 cpu.5 ram blocking read 0x0 1 be=- sw=1 00 ok\n6 180 cpu.6 ram blocking read 0x0 1 be=- sw=1 00 ok\ninitiator cpu blocking transactions 7 refused 0 syncs " ++ (syncs ++ codes " end 210\nmemory ram 256\nend 7\n")
 
 -- of the plan that reads back: a read of a byte that isn't there
 unfoldable pub wrong_byte : List Entry

@@ -1,21 +1,19 @@
-//! The definitions: which histories and reports are right for a platform with its scripts.
+//! The definitions: which histories are right for a platform with its scripts.
 //!
 //! - `Platform` and its rows say what a platform is, `Operation` what a script asks for; code and
 //!   definitions share them.
 //! - `specs/` has the definitions that contracts cite, one file a subject: `Store` what an access
 //!   does, `Route` where an address leads, `Requests` what an initiator asks for, `Rounds` its
 //!   syncs, `History` and `Log` the store of a history and of one memory, `Scripts` and `Kept` the
-//!   points of requests, `Report` the text of a history.
-//! - `worked` has small runs, each with a history that has these points and its report, and histories
-//!   that miss one. Each is proved to be so by computing the definitions.
+//!   points of requests, `Text` the words of numbers and bytes.
+//! - `worked` has small runs, each with a history that has these points, and histories that miss one.
+//!   Each is proved to be so by computing the definitions.
 #![tactic(auto)]
 
 pub mod laws;
 mod operation;
 mod platform;
 mod rows;
-#[cfg(test)]
-mod tests;
 mod trace;
 pub mod worked;
 

@@ -1,63 +1,62 @@
-//! Worked runs. Each function says of a plan, a history and a text, all made by hand, that the history
-//! has the points of requests for the plan and that the text is its report; or of a history that it
-//! misses one.
-ghost use Rattle.std.specs.Prelude.{[], codes};
+//! Worked runs. Each function says of a plan and a history, both made by hand, that the history has the
+//! points of requests for the plan, or that it misses one.
+ghost use Rattle.std.specs.Prelude.{[]};
 ghost use Rattle.tlm_model.specs.Kept.{KeepsRequests, EndsRequests};
-ghost use Rattle.tlm_model.specs.Worked.{IsWorked, cut_short, debug_plan, debug_text, debugged, doubled, empty_plan, empty_text, enables, enables_plan, enables_text, hasty, ignore_plan, ignore_text, ignored, past_end, past_end_plan, past_end_text, quantum_plan, readback, readback_plan, readback_text, routed, routed_plan, routed_text, seven_reads, seven_reads_text, streaming, streaming_plan, streaming_text, sum_plan, sum_text, summed, swapped, wrong_byte, wrong_status};
+ghost use Rattle.tlm_model.specs.Worked.{IsWorked, cut_short, debug_plan, debugged, doubled, empty_plan, enables, enables_plan, hasty, ignore_plan, ignored, past_end, past_end_plan, quantum_plan, readback, readback_plan, routed, routed_plan, seven_reads, streaming, streaming_plan, sum_plan, summed, swapped, wrong_byte, wrong_status};
 
 /// Four bytes are written and read back.
 pub fn reads_back()
-    ensures { IsWorked readback_plan readback readback_text }
+    ensures { IsWorked readback_plan readback }
 {}
 
 /// An empty script asks for nothing.
 pub fn runs_an_empty_script()
-    ensures { IsWorked empty_plan [] empty_text }
+    ensures { IsWorked empty_plan [] }
 {}
 
 /// A write that goes past the end of the memory is refused, and takes its time.
 pub fn refuses_past_the_end()
-    ensures { IsWorked past_end_plan past_end past_end_text }
+    ensures { IsWorked past_end_plan past_end }
 {}
 
 /// A disabled byte is not written, and the enables repeat.
 pub fn writes_enabled_bytes()
-    ensures { IsWorked enables_plan enables enables_text }
+    ensures { IsWorked enables_plan enables }
 {}
 
 /// Of the bytes that stream to one place the last stays.
 pub fn streams()
-    ensures { IsWorked streaming_plan streaming streaming_text }
+    ensures { IsWorked streaming_plan streaming }
 {}
 
 /// An ignore command is always OK.
 pub fn ignores()
-    ensures { IsWorked ignore_plan ignored ignore_text }
+    ensures { IsWorked ignore_plan ignored }
 {}
 
 /// A debug read takes no time, and moves what there is.
 pub fn reads_by_debug_transport()
-    ensures { IsWorked debug_plan debugged debug_text }
+    ensures { IsWorked debug_plan debugged }
 {}
 
 /// `add` and `copy` write what depends on their read.
 pub fn adds_and_copies()
-    ensures { IsWorked sum_plan summed sum_text }
+    ensures { IsWorked sum_plan summed }
 {}
 
 /// A router adds its latency, and refuses an address without a window.
 pub fn passes_a_router()
-    ensures { IsWorked routed_plan routed routed_text }
+    ensures { IsWorked routed_plan routed }
 {}
 
 /// Under a quantum of 100 ps seven reads of 30 ps sync at 120 ps and at 210 ps.
 pub fn syncs_by_the_quantum()
-    ensures { IsWorked (quantum_plan 100) seven_reads (seven_reads_text (codes "2")) }
+    ensures { IsWorked (quantum_plan 100) seven_reads }
 {}
 
 /// Without a quantum each operation is one sync.
 pub fn syncs_without_a_quantum()
-    ensures { IsWorked (quantum_plan 0) seven_reads (seven_reads_text (codes "7")) }
+    ensures { IsWorked (quantum_plan 0) seven_reads }
 {}
 
 /// A read of other bytes than the store has is not right.

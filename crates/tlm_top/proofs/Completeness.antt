@@ -22,7 +22,7 @@ held_text bytes text (Some b) is same = let e : b ≡ bytes = cc in same ∙ e
 
 -- a told file has one text
 text_is : (h : Holding) (name a b : List ℕ) → IsTold h name → IsText h name a → IsText h name b → a ≡ b
-text_is h name a b told first second = held_text told.bytes a (h name) told.held first ∙ sym (held_text told.bytes b (h name) told.held second)
+text_is h name a b told first second = held_text told.bytes a (h name) told.held first.held ∙ sym (held_text told.bytes b (h name) told.held second.held)
 
 not_long : (h : Holding) (name : List ℕ) → IsTold h name → ¬ IsLong h name
 not_long h name told long = by_case (h name) told.held long

@@ -3,3 +3,4 @@ mod Loading
 mod LoneShape
 mod Planning
 pub mod Completeness
+mod Serving

@@ -1,5 +1,5 @@
 -- What a command line has loaded: a platform, and the scripts of its initiators.
-use Rattle.std.specs.Prelude.{ℕ, ◌≡◌, ◌<◌, List, [], ◌∷◌, length, take, Option, Some, None, IfSome, Result, Ok, Err, slice_get}
+use Rattle.std.specs.Prelude.{ℕ, ◌≡◌, ◌<◌, ◌≤◌, List, [], ◌∷◌, length, take, Option, Some, None, IfSome, Result, Ok, Err, slice_get}
 use Rattle.outside.specs.Causes.{Rose}
 use Rattle.tlm_model.specs.declared.operation.Operation.{Operation}
 use Rattle.tlm_model.specs.declared.platform.InitiatorRow.{InitiatorRow}
@@ -29,9 +29,10 @@ pub record Files : Type 0 where
   pub faults_before : List ℕ → ℕ
   pub faults_after : List ℕ → ℕ
 
--- a text that was loaded under this name: the one that is held, where the library tells it
-abbrev pub IsText : Holding → List ℕ → List ℕ → Type 0
-IsText h name text = IfSome (h name) (λ bytes. text ≡ bytes)
+-- a text that was loaded under this name: the one that is held, where the library tells it, and not too long
+pub record IsText (h : Holding) (name text : List ℕ) : Type 0 where
+  pub held : IfSome (h name) (λ bytes. text ≡ bytes)
+  pub fits : length text ≤ file_limit
 
 -- the platform that a text describes, if its shape is good, or its first refusal
 abbrev pub shaped_platform : List ℕ → Result Platform PlatformRefusal

@@ -7,7 +7,7 @@ use Rattle.tlm_types.specs.declared.entry.Content.{Content}
 use Rattle.tlm_model.specs.declared.trace.Trace.{Trace}
 use Rattle.tlm_model.specs.declared.trace.Trace.TheVariants.{All as all_entries}
 use Rattle.tlm_model.specs.Plan.{Plan}
-use Rattle.tlm_model.specs.Report.{report_of}
+use Rattle.report_model.specs.Report.{report_of}
 use Rattle.good_history.specs.Good.{IsGood}
 use Rattle.route_plan.specs.Valid.{IsValid}
 use Rattle.plat_run.specs.Entries.{entries_read}

@@ -4,3 +4,4 @@ pub mod Files
 pub mod Loads
 pub mod Headline
 pub mod Complete
+pub mod Serving

@@ -6,6 +6,8 @@
 //!   `Sink`.
 //! - `Exit` is the answer, and `Exit::number` the number that a program ends with. Where a run was
 //!   reported, the answer carries its history, which was closed.
+//! - `serve` is `run` over two streams, with the rest written that a sink collects: what the program does.
+//! - `program` is `serve` with the words, the files and the streams of a runtime: a `main` hands on to it.
 //! - `after_flush` is the answer after a sink that collects has written its rest.
 //!
 //! Promises: Done means that the sink took the report of the history that the threads drew, whatever
@@ -18,11 +20,13 @@ mod built_in;
 mod exit;
 pub mod laws;
 mod loads;
+mod runtimes;
+mod streams;
 mod tells;
-#[cfg(test)]
-mod tests;
 mod top;
 
 pub use exit::Exit;
+pub use runtimes::program;
+pub use streams::serve;
 pub use tells::after_flush;
 pub use top::run;

@@ -1,6 +1,6 @@
 // Loads what a command line asks for: a platform, and the scripts of its initiators.
-ghost use Rattle.std.specs.Prelude.{◌≡◌, ◌≤◌, ℕ, List, IfOk, IfErr, IfSome};
-ghost use Rattle.tlm_top.specs.Files.{shaped_platform, IsFilePlatform, IsScript, AreScripts};
+ghost use Rattle.std.specs.Prelude.{◌≡◌, ◌≤◌, ℕ, List, IfOk, IfErr};
+ghost use Rattle.tlm_top.specs.Files.{shaped_platform, IsText, IsFilePlatform, IsScript, AreScripts};
 ghost use Rattle.tlm_top.specs.Loads.{IsLoadAnswer, IsLoadFault, IsFileFault, IsScriptAnswer, IsScriptFault, IsFirstFault};
 ghost use Rattle.platform_file.specs.Reading.{Gives};
 ghost use Rattle.std.specs.Prelude.{length};
@@ -36,7 +36,7 @@ fn load_failed(alloc: Global, name: &str, fault: LoadFault) -> Exit
 fn load<L: Library>(alloc: Global, lib: &mut L, name: &str) -> Result<Vec<u8>, Exit>
     ensures same { (n : List ℕ) → L.holds lib.new n ≡ L.holds lib.old n }
     ensures later { (n : List ℕ) → L.faults lib.old n ≤ L.faults lib.new n }
-    ensures text { IfOk result (λ v. IfSome (L.holds lib.old name.now) (λ bytes. v.items ≡ bytes)) }
+    ensures text { IfOk result (λ v. IsText (L.holds lib.old) name.now v.items) }
     ensures fault { IfErr result (IsLoadFault (record {
       holds = L.holds lib.old;
       faults_before = L.faults lib.old;

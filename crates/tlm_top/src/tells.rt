@@ -1,5 +1,5 @@
 // The line that tells of an answer.
-ghost use Rattle.std.specs.Prelude.{◌≡◌, ◌++◌, ◌∷◌, [], is_ok, codes};
+ghost use Rattle.std.specs.Prelude.{◌≡◌, ◌≤◌, ◌++◌, ◌∷◌, [], is_ok, codes};
 ghost use Rattle.std.specs.List.{concat};
 ghost use Rattle.trace_print.specs.Writes.{Writes, Tells};
 ghost use Rattle.tlm_top.specs.Exits.{told_of, told_after, answer_after};
@@ -120,12 +120,13 @@ fn write_told<S: Sink>(sink: &mut S, exit: &Exit) -> Result<(), Failed>
 
 /// Writes the line that tells of an answer. A sink that fails is left alone.
 pub fn tell<S: Sink>(sink: &mut S, exit: &Exit)
-    ensures { Tells (record {
+    ensures told { Tells (record {
       taken_before = S.taken sink.old;
       taken_after = S.taken sink.new;
       faults_before = S.faults sink.old;
       faults_after = S.faults sink.new;
     }) (told_of exit.now) }
+    ensures later { S.faults sink.old ≤ S.faults sink.new }
 {
     let _ = write_told(sink, exit);
 }
@@ -140,6 +141,7 @@ pub fn after_flush<D: Sink>(exit: Exit, is_flushed: bool, diag: &mut D) -> Exit
       faults_before = D.faults diag.old;
       faults_after = D.faults diag.new;
     }) (told_after is_flushed exit) }
+    ensures later { D.faults diag.old ≤ D.faults diag.new }
 {
     match exit {
         Exit::Done(sealed) if !is_flushed => {

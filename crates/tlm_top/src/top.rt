@@ -82,12 +82,13 @@ fn run_and_print<R: Threads + Wait + Sync, K: Sink, P: Pace + Sync>(
     out: &mut K,
     pace: &P,
 ) -> Exit
-    ensures { IsRunOf result (record {
+    ensures outcome { IsRunOf result (record {
       taken_before = K.taken out.old;
       taken_after = K.taken out.new;
       faults_before = K.faults out.old;
       faults_after = K.faults out.new;
     }) trace plan.now }
+    ensures later { K.faults out.old ≤ K.faults out.new }
 {
     let Ok((outcome, sealed)) = run_plan(rt, alloc, plan, workers, pace) else {
         return Exit::NoMemory;
@@ -108,7 +109,7 @@ fn answer<R: Threads + Wait + Sync, L: Library, K: Sink, P: Pace + Sync>(
     out: &mut K,
     pace: &P,
 ) -> Exit
-    ensures { IsAnswer result (record {
+    ensures answer { IsAnswer result (record {
       files = record {
         holds = L.holds lib.old;
         faults_before = L.faults lib.old;
@@ -121,6 +122,7 @@ fn answer<R: Threads + Wait + Sync, L: Library, K: Sink, P: Pace + Sync>(
         faults_after = K.faults out.new;
       };
     }) (line_of command.entry) }
+    ensures later { K.faults out.old ≤ K.faults out.new }
 {
     let plan = match plan_of(alloc, lib, command) {
         Ok(plan) => plan,
@@ -139,7 +141,7 @@ fn explain<R: Threads + Wait + Sync, L: Library, K: Sink, P: Pace + Sync>(
     out: &mut K,
     pace: &P,
 ) -> Exit
-    ensures { IsExplained result (record {
+    ensures answer { IsExplained result (record {
       files = record {
         holds = L.holds lib.old;
         faults_before = L.faults lib.old;
@@ -152,6 +154,7 @@ fn explain<R: Threads + Wait + Sync, L: Library, K: Sink, P: Pace + Sync>(
         faults_after = K.faults out.new;
       };
     }) (texts words.now) }
+    ensures later { K.faults out.old ≤ K.faults out.new }
 {
     match read_words(alloc, words) {
         Ok(Some(command)) => answer(rt, alloc, command, lib, out, pace),
@@ -192,6 +195,9 @@ pub fn run<R: Threads + Wait + Sync, L: Library, K: Sink, D: Sink, P: Pace + Syn
       faults_before = D.faults diag.old;
       faults_after = D.faults diag.new;
     }) (told_of result) }
+    // The counts of faults never fall.
+    ensures later { K.faults out.old ≤ K.faults out.new }
+    ensures told_later { D.faults diag.old ≤ D.faults diag.new }
 {
     let exit = explain(rt, alloc, words, lib, out, pace);
     tell(diag, &exit);

@@ -16,7 +16,7 @@ pub struct RefusedItem {
     pub address: u64,
 }
 
-/// A list of refused requests that takes no memory once it was made.
+/// A list of refused requests, whose room is made once.
 #[derive(Drop)]
 pub struct RefusedList {
     items: Vec<RefusedItem>,
@@ -44,7 +44,7 @@ impl RefusedList {
         Ok(RefusedList { items, room })
     }
 
-    /// Appends an item, and takes no memory.
+    /// Appends an item. The room for it is there.
     pub fn push(&mut self, item: RefusedItem)
         requires { length self.old.items < self.old.room }
         ensures { self.new ≡ record self.old { items = self.old.items ++ item ∷ [] } }

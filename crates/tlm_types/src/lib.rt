@@ -11,8 +11,8 @@
 //! - `Memory` is the error of every call that takes memory and was refused it.
 //!
 //! Promises: a list made of a slice, a text or a vector is that list, `Response::value` is the
-//! standard's number, `kind_of` is what a memory allows, a `RefusedList` takes no memory after it was
-//! made, and a `Log` takes none while it has room, and answers the entries that were pushed, in order.
+//! standard's number, `kind_of` is what a memory allows, a `RefusedList` can't fail for want of memory
+//! after it was made, nor a `Log` while it has room, and a log has what was pushed, in order.
 //! After want of memory a log is as before.
 #![tactic(auto)]
 
@@ -20,8 +20,6 @@ mod bytes;
 mod ends;
 mod entry;
 mod log;
-#[cfg(test)]
-mod tests;
 mod words;
 
 pub use bytes::{Bytes, Text};

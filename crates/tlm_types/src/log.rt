@@ -97,8 +97,8 @@ impl Log {
         self.items.len() == 0
     }
 
-    /// Appends an entry that isn't an access. It takes no memory where there is room for it. Its only
-    /// error is want of memory, after which the log is as before.
+    /// Appends an entry that isn't an access. It is `Ok` where there is room for it. Its only error is
+    /// want of memory, after which the log is as before.
     pub fn push(&mut self, head: Head, what: What) -> Result<(), Memory>
         requires { is_access what ≡ false }
         ensures ok { OnOk result (self.new ≡ with_entry self.old (entry_at head what)) }
@@ -110,7 +110,7 @@ impl Log {
 
     /// Appends the entry of an access, with the bytes that it sent, its byte enables, and a read's
     /// buffer afterwards. For a read `sent` is empty: it stands for as many zeros as the length, and in
-    /// a debug read for no byte. It takes no memory where there is room for the entry and for the bytes.
+    /// a debug read for no byte. It is `Ok` where there is room for the entry and for the bytes.
     /// Its only error is want of memory, after which the log is as before.
     #[inline(always)]
     pub fn push_access(

@@ -8,12 +8,11 @@
 //!
 //! Promises: between any two steps of any threads, for each owner and name, the amounts of all tokens
 //! sum to what the owner's book has out. So a token that is retired was out. Every call is exact, and
-//! none but `Tokens::new` and `Wallet::new` takes memory. A token that is dropped counts as out for good.
+//! none but `Tokens::new` and `Wallet::new` can fail, for want of memory. A token that is dropped counts
+//! as out for good.
 #![tactic(auto)]
 
 mod place;
-#[cfg(test)]
-mod tests;
 mod ticket;
 mod tokens;
 mod view;

@@ -13,7 +13,7 @@ use Rattle.tlm_model.specs.declared.platform.Style.{Style}
 use Rattle.tlm_model.specs.declared.platform.Style.TheVariants.{Blocking}
 use Rattle.tlm_model.specs.Each.{EachFrom}
 use Rattle.tlm_model.specs.Plan.{Plan, Initiator}
-use Rattle.tlm_model.specs.Report.{is_access}
+use Rattle.report_model.specs.Report.{is_access}
 use Rattle.tlm_model.specs.Requests.{Asked, Transport, DebugRead, Invalidation, Request, buffer_of, requests_from, requests_of}
 use Rattle.tlm_model.specs.Route.{Route, later, latency_of, route_of}
 use Rattle.tlm_model.specs.Scripts.{HasWay, IsCloser, IsEntryOf, IsGrantee, IsInvalidationOf, OfRequest}

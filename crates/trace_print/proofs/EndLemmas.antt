@@ -9,44 +9,49 @@ use Rattle.tlm_types.specs.declared.entry.Entry.{Entry}
 use Rattle.tlm_model.specs.declared.operation.Operation.{Operation}
 use Rattle.tlm_model.specs.declared.platform.InitiatorRow.{InitiatorRow}
 use Rattle.tlm_model.specs.declared.platform.Platform.{Platform}
-use Rattle.tlm_model.specs.Plan.{Initiator, initiators_from}
-use Rattle.tlm_model.specs.Report.{ends_words, has_no_route, initiator_lines, refused_of, refused_words}
-use Rattle.tlm_model.specs.Requests.{Asked, Transport, DebugRead, Invalidation, Request, numbers_in, end_of, requests_of}
+use Rattle.tlm_model.specs.Plan.{Initiator, Plan, initiators_from}
+use Rattle.tlm_model.specs.Requests.{Asked, Transport, DebugRead, Invalidation, Request, numbers_in, requests_of, has_no_route, refused_of}
 use Rattle.tlm_model.specs.Rounds.{syncs_of}
 use Rattle.tlm_model.specs.Text.{line_of}
-use Rattle.plat_core.specs.Come.{IsEndOf}
-use Rattle.plat_core.specs.Run.{refused_item}
+use Rattle.report_model.specs.Ends.{IsEndOf, end_of_initiator, refused_at, time_of_issue}
+use Rattle.report_model.specs.Report.{ends_words, initiator_lines, refused_words}
 use Rattle.trace_print.specs.Told.{end_lines, ends_lines, refused_item_words, text_of}
 use Rattle.trace_print.proofs.Texts.{map-more, text-append, text-one}
 
 -- an invalidation is never refused: what has no route is an access or a debug read
-words-is : (p : Platform) (i : Initiator) (name : List ℕ) (r : Request) (a : Asked) → r.asked ≡ a → has_no_route p i r a ≡ true → refused_item_words name (refused_item r) ≡ refused_words name r
-words-is p i name r (Transport a) e h = rw e refl
-words-is p i name r (DebugRead a) e h = rw e refl
-words-is p i name r (Invalidation n) e h = cc
+words-is : (p : Platform) (i : Initiator) (name : List ℕ) (r : Request) (t : ℕ) (a : Asked) → r.asked ≡ a → has_no_route p i r a ≡ true → refused_item_words name (refused_at r t) ≡ refused_words name r t
+words-is p i name r t (Transport a) e h = rw e refl
+words-is p i name r t (DebugRead a) e h = rw e refl
+words-is p i name r t (Invalidation n) e h = cc
 
-refused-step : (p : Platform) (i : Initiator) (name : List ℕ) (r : Request) (rs : List Request) (b : Bool) → has_no_route p i r r.asked ≡ b →
-    map (refused_item_words name) (map refused_item (filter (λ q. has_no_route p i q q.asked) rs)) ≡ map (refused_words name) (filter (λ q. has_no_route p i q q.asked) rs) →
-    map (refused_item_words name) (map refused_item (filter (λ q. has_no_route p i q q.asked) (r ∷ rs))) ≡ map (refused_words name) (filter (λ q. has_no_route p i q q.asked) (r ∷ rs))
-refused-step p i name r rs true e rest =
-    rw e (ap (λ (w : List (List ℕ)). w ∷ map (refused_item_words name) (map refused_item (filter (λ q. has_no_route p i q q.asked) rs))) (words-is p i name r r.asked refl e)
-    ∙ ap (λ (l : List (List (List ℕ))). refused_words name r ∷ l) rest)
-refused-step p i name r rs false e rest = rw e rest
+-- each refused request, issued at the time that `issued` gives
+module _ (p : Platform) (i : Initiator) (name : List ℕ) (issued : Request → ℕ) where
+  abbrev told : List Request → List (List (List ℕ))
+  told rs = map (refused_item_words name) (map (λ q. refused_at q (issued q)) (filter (λ q. has_no_route p i q q.asked) rs))
 
-refused-lines : (p : Platform) (i : Initiator) (name : List ℕ) (rs : List Request) →
-    map (refused_item_words name) (map refused_item (filter (λ q. has_no_route p i q q.asked) rs)) ≡ map (refused_words name) (filter (λ q. has_no_route p i q q.asked) rs)
-refused-lines p i name [] = refl
-refused-lines p i name (r ∷ rs) = refused-step p i name r rs (has_no_route p i r r.asked) refl (refused-lines p i name rs)
+  abbrev reported : List Request → List (List (List ℕ))
+  reported rs = map (λ q. refused_words name q (issued q)) (filter (λ q. has_no_route p i q q.asked) rs)
 
-pub end-is : (p : Platform) (h : List Entry) (i : Initiator) (end : EndOf) → IsEndOf p i h end → end_lines i.row end ≡ initiator_lines p h i
+  refused-step : (r : Request) (rs : List Request) (b : Bool) → has_no_route p i r r.asked ≡ b → told rs ≡ reported rs → told (r ∷ rs) ≡ reported (r ∷ rs)
+  refused-step r rs true e rest =
+      rw e (ap (λ (w : List (List ℕ)). w ∷ told rs) (words-is p i name r (issued r) r.asked refl e)
+      ∙ ap (λ (l : List (List (List ℕ))). refused_words name r (issued r) ∷ l) rest)
+  refused-step r rs false e rest = rw e rest
+
+  refused-lines : (rs : List Request) → told rs ≡ reported rs
+  refused-lines [] = refl
+  refused-lines (r ∷ rs) = refused-step r rs (has_no_route p i r r.asked) refl (refused-lines rs)
+
+pub end-is : (p : Plan) (h : List Entry) (i : Initiator) (end : EndOf) → IsEndOf p i h end → end_lines i.row end ≡ initiator_lines p h i
 end-is p h i end is =
-    let count : length end.refused.items ≡ length (refused_of p i h) = ap length is.refused ∙ length-map (refused_of p i h) refused_item in
-    let lines : map (refused_item_words i.row.name) end.refused.items ≡ map (refused_words i.row.name) (refused_of p i h) =
-    ap (map (refused_item_words i.row.name)) is.refused ∙ refused-lines p i i.row.name (requests_of p i h) in
-    rw (is.transactions, is.syncs, is.time, count) (ap (λ (l : List (List (List ℕ))). ends_words i.row.name i.row.style (numbers_in i.script) (length (refused_of p i h)) (syncs_of p i) (end_of p i) ∷ l) lines)
+    let refused = refused_of p.platform i h in
+    let count : length end.refused.items ≡ length refused = ap length is.refused ∙ length-map refused (λ (r : Request). refused_at r (time_of_issue p h i r)) in
+    let lines : map (refused_item_words i.row.name) end.refused.items ≡ map (λ (r : Request). refused_words i.row.name r (time_of_issue p h i r)) refused =
+    ap (map (refused_item_words i.row.name)) is.refused ∙ refused-lines p.platform i i.row.name (time_of_issue p h i) (requests_of p.platform i h) in
+    rw (is.transactions, is.syncs, is.time, count) (ap (λ (l : List (List (List ℕ))). ends_words i.row.name i.row.style (numbers_in i.script) (length refused) (syncs_of p.platform i) (end_of_initiator p h i) ∷ l) lines)
 
 -- the lines of all initiators, from the n-th on
-pub ends-are : (p : Platform) (h : List Entry) (n : ℕ) (rows : List InitiatorRow) (scripts : List (List Operation)) (ends : List EndOf) →
+pub ends-are : (p : Plan) (h : List Entry) (n : ℕ) (rows : List InitiatorRow) (scripts : List (List Operation)) (ends : List EndOf) →
     length scripts ≡ length rows → length ends ≡ length rows →
     ((k : ℕ) (i : Initiator) (end : EndOf) → slice_get (initiators_from n rows scripts) k ≡ Some i → slice_get ends k ≡ Some end → IsEndOf p i h end) →
     ends_lines rows ends ≡ flat_map (initiator_lines p h) (initiators_from n rows scripts)

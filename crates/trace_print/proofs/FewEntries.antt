@@ -16,7 +16,7 @@ use Rattle.tlm_model.specs.declared.operation.Operation.TheVariants.{Write, Read
 use Rattle.tlm_model.specs.declared.platform.Platform.{Platform}
 use Rattle.tlm_model.specs.Each.{EachFrom}
 use Rattle.tlm_model.specs.Plan.{Plan, Initiator}
-use Rattle.tlm_model.specs.Report.{is_access}
+use Rattle.report_model.specs.Report.{is_access}
 use Rattle.tlm_model.specs.Requests.{Request, buffer_of, is_txn, requests_from, requests_of, using}
 use Rattle.tlm_model.specs.Route.{later, latency_of}
 use Rattle.tlm_model.specs.Scripts.{IsInOrder, OfRequest, RunsScripts, has_answer, is_answer}

@@ -31,7 +31,7 @@ use Rattle.tlm_model.specs.Each.{EachFrom}
 use Rattle.good_history.specs.Good.{IsGood}
 use Rattle.tlm_model.specs.History.{IsAnswer, IsLegalEntry, IsLegalFrom, IsNumberedFrom, Store, after, opening_store, put, zeros_of}
 use Rattle.tlm_model.specs.Plan.{Plan, Initiator}
-use Rattle.tlm_model.specs.Report.{is_access, shown_by}
+use Rattle.report_model.specs.Report.{is_access, shown_by}
 use Rattle.tlm_model.specs.Requests.{Asked, Transport, DebugRead, Invalidation, Request, got_in, requests_of}
 use Rattle.tlm_model.specs.Route.{Found, Route, into_memory, into_router, into_window, is_within, later, latency_of, before_of, route_of, walk, window_of}
 use Rattle.tlm_model.specs.Scripts.{HasWay, IsAccessOf, IsEntryOf, IsWay, OfRequest}

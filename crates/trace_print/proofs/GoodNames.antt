@@ -16,7 +16,7 @@ use Rattle.tlm_model.specs.declared.platform.RouterRow.{RouterRow}
 use Rattle.tlm_model.specs.declared.platform.Target.{Target}
 use Rattle.tlm_model.specs.declared.platform.Target.TheVariants.{Router, Memory}
 use Rattle.tlm_model.specs.declared.platform.WindowRow.{WindowRow}
-use Rattle.tlm_model.specs.Report.{hop_word, hop_words, initiator_name, memory_name, name_of_initiator, name_of_memory, name_of_router, object_word, target_name}
+use Rattle.report_model.specs.Report.{hop_word, hop_words, initiator_name, memory_name, name_of_initiator, name_of_memory, name_of_router, object_word, target_name}
 use Rattle.route_plan.specs.Shape.{IsShape}
 use Rattle.route_plan.proofs.SinglePaths.{or_true, some_same, windows_apart}
 use Rattle.trace_print.specs.Naming.{HasOwnNames, HasPlainNames, IsPlainName}

@@ -9,7 +9,7 @@ use Rattle.tlm_model.specs.declared.platform.InitiatorRow.{InitiatorRow}
 use Rattle.tlm_model.specs.declared.platform.Platform.{Platform}
 use Rattle.tlm_model.specs.declared.platform.RouterRow.{RouterRow}
 use Rattle.tlm_model.specs.declared.platform.WindowRow.{WindowRow}
-use Rattle.tlm_model.specs.Report.{hop_word, hop_words, name_of_initiator, name_of_router, object_word, target_name}
+use Rattle.report_model.specs.Report.{hop_word, hop_words, name_of_initiator, name_of_router, object_word, target_name}
 use Rattle.route_plan.specs.declared.ends.HopEnds.{HopEnds}
 use Rattle.route_plan.specs.Routes.{binding_ends, ends_of, router_ends, window_ends}
 use Rattle.trace_print.specs.Hops.{ends_at, hop_word_by, hop_word_of, object_word_by, up_name}

@@ -6,7 +6,7 @@ use Rattle.std.specs.List.{flat_map}
 use Rattle.tlm_model.specs.declared.trace.Trace.{Trace}
 use Rattle.tlm_model.specs.History.{last_store}
 use Rattle.tlm_model.specs.Plan.{Plan, initiators_of}
-use Rattle.tlm_model.specs.Report.{entry_words, initiator_lines, memories_from, report_lines, report_of, traced}
+use Rattle.report_model.specs.Report.{entry_words, initiator_lines, memories_from, report_lines, report_of, traced}
 use Rattle.tlm_model.specs.Text.{line_of}
 use Rattle.plat_core.specs.declared.outcome.Outcome.{Outcome}
 use Rattle.plat_core.specs.Outcome.{IsReportable}
@@ -30,10 +30,10 @@ report-is t p o is =
     let h = o.history.entries in
     let title = codes "tlm-report" ∷ codes "1" ∷ [] in
     let entries = map (entry_words p.platform) (traced t h) in
-    let inits = flat_map (initiator_lines p.platform h) (initiators_of p) in
+    let inits = flat_map (initiator_lines p h) (initiators_of p) in
     let mems = memories_from 0 p.platform.memories (last_store p.platform h) in
     let last = codes "end" ∷ decimal (length h) ∷ [] in
-    let e1 : ends_lines p.platform.initiators o.ends ≡ inits = ends-are p.platform h 0 p.platform.initiators p.scripts o.ends is.scripts is.initiators is.ends in
+    let e1 : ends_lines p.platform.initiators o.ends ≡ inits = ends-are p h 0 p.platform.initiators p.scripts o.ends is.scripts is.initiators is.ends in
     let e2 : stores_lines p.platform.memories o.stores ≡ mems = stores-are 0 p.platform.memories o.stores (last_store p.platform h) is.memories
     (λ k bytes at. let same : k ≡ 0 + k = omega arith in is.stores k bytes at ∙ ap (last_store p.platform h) same) in
     let e3 : text_of mems ++ line_of last ≡ text_of (mems ++ last ∷ []) = ap (λ (l : List ℕ). text_of mems ++ l) (sym (text-one last)) ∙ sym (text-append mems (last ∷ [])) in

@@ -18,7 +18,7 @@ use Rattle.tlm_types.specs.Log.{read_sends}
 use Rattle.tlm_model.specs.declared.platform.Platform.{Platform}
 use Rattle.tlm_model.specs.declared.platform.Target.{Target}
 use Rattle.tlm_model.specs.declared.platform.Target.TheVariants.{Router as to_router, Memory as to_memory}
-use Rattle.tlm_model.specs.Report.{command_word, entry_words, freed_words, hop_words, initiator_name, kind_word, memory_name, object_word, phase_word, range_word, shown_by, status_word, sync_words, target_name, txn_word, way_word, what_words}
+use Rattle.report_model.specs.Report.{command_word, entry_words, freed_words, hop_words, initiator_name, kind_word, memory_name, object_word, phase_word, range_word, shown_by, status_word, sync_words, target_name, txn_word, way_word, what_words}
 use Rattle.tlm_model.specs.Text.{address_word, data_word}
 use Rattle.route_plan.specs.declared.ends.HopEnds.{HopEnds}
 use Rattle.route_plan.specs.declared.ends.Up.{Up}

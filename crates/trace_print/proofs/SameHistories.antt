@@ -10,8 +10,8 @@ use Rattle.tlm_types.specs.declared.entry.Entry.{Entry}
 use Rattle.tlm_model.specs.declared.platform.MemoryRow.{MemoryRow}
 use Rattle.tlm_model.specs.declared.platform.Platform.{Platform}
 use Rattle.tlm_model.specs.History.{Store, last_store}
-use Rattle.tlm_model.specs.Plan.{Initiator, initiators_of}
-use Rattle.tlm_model.specs.Report.{entry_words, initiator_lines, memories_from, object_word, report_lines, report_of, txn_word, what_words}
+use Rattle.tlm_model.specs.Plan.{Initiator, Plan, initiators_of}
+use Rattle.report_model.specs.Report.{entry_words, initiator_lines, memories_from, object_word, report_lines, report_of, txn_word, what_words}
 use Rattle.tlm_model.specs.Text.{line_of}
 use Rattle.trace_print.specs.Naming.{HasOwnNames, HasPlainNames, IsTellable, NamesHistories}
 use Rattle.trace_print.specs.Told.{text_of}
@@ -34,11 +34,11 @@ starts-with-digit p e x small =
     starts-so (decimal e.position) (32 ∷ join_with_byte 32 (decimal e.time ∷ txn_word p e.txn ∷ object_word p e.object ∷ what_words e.what)) (10 ∷ []) x d.0.0 d.0.1
 
 -- the lines of the same report after its entries
-abbrev rest_of : Platform → List Entry → List Initiator → List MemoryRow → Store → List (List (List ℕ))
+abbrev rest_of : Plan → List Entry → List Initiator → List MemoryRow → Store → List (List (List ℕ))
 rest_of p h is ms s = flat_map (initiator_lines p h) is ++ (memories_from 0 ms s ++ ((codes "end" ∷ decimal (length h) ∷ []) ∷ []))
 
 -- their text starts with a letter
-starts-with-letter : (p : Platform) (h : List Entry) (is : List Initiator) (ms : List MemoryRow) (s : Store) → 10 ≤ first_digit (text_of (rest_of p h is ms s))
+starts-with-letter : (p : Plan) (h : List Entry) (is : List Initiator) (ms : List MemoryRow) (s : Store) → 10 ≤ first_digit (text_of (rest_of p h is ms s))
 starts-with-letter p h [] [] s = omega arith
 starts-with-letter p h [] (m ∷ ms) s = omega arith
 starts-with-letter p h (i ∷ is) ms s = omega arith
@@ -70,7 +70,7 @@ names-histories p names own h g t u e =
     let q = p.platform in
     let is = initiators_of p in
     let title = line_of (codes "tlm-report" ∷ codes "1" ∷ []) in
-    let rest = rest_of q h is q.memories (last_store q h) in
-    let more = rest_of q g is q.memories (last_store q g) in
-    same-entries q names own h g rest more t u (starts-with-letter q h is q.memories (last_store q h)) (starts-with-letter q g is q.memories (last_store q g))
+    let rest = rest_of p h is q.memories (last_store q h) in
+    let more = rest_of p g is q.memories (last_store q g) in
+    same-entries q names own h g rest more t u (starts-with-letter p h is q.memories (last_store q h)) (starts-with-letter p g is q.memories (last_store q g))
     (append_cancel_left title (text_of (map (entry_words q) h ++ rest)) (text_of (map (entry_words q) g ++ more)) e)

@@ -16,7 +16,7 @@ use Rattle.tlm_types.specs.declared.words.TlmSync.{TlmSync}
 use Rattle.tlm_types.specs.declared.words.TlmSync.TheVariants.{Accepted, Updated, Completed}
 use Rattle.tlm_types.specs.declared.words.Way.{Way}
 use Rattle.tlm_types.specs.declared.words.Way.TheVariants.{Blocking, FourPhase, Direct, Debug}
-use Rattle.tlm_model.specs.Report.{command_word, freed_words, kind_word, phase_word, range_word, seq_word, status_word, sync_words, way_word}
+use Rattle.report_model.specs.Report.{command_word, freed_words, kind_word, phase_word, range_word, seq_word, status_word, sync_words, way_word}
 use Rattle.tlm_model.specs.Text.{address_word, data_word, hex_of}
 use Rattle.traffic_script.specs.Proper.{AreBytes}
 use Rattle.trace_print.specs.Naming.{HasGate, IsVisible, Lacks}

@@ -20,7 +20,7 @@ use Rattle.tlm_types.specs.declared.entry.What.TheVariants.{Access as Accessed, 
 use Rattle.tlm_model.specs.declared.platform.MemoryRow.{MemoryRow}
 use Rattle.tlm_model.specs.declared.platform.Platform.{Platform}
 use Rattle.tlm_model.specs.History.{Store, after, last_store, opening_store, store_from, zeros_of}
-use Rattle.tlm_model.specs.Report.{is_zero, memories_from, memory_lines, row_lines, rows_from}
+use Rattle.report_model.specs.Report.{is_zero, memories_from, memory_lines, row_lines, rows_from}
 use Rattle.tlm_model.specs.Store.{is_enabled, place_of, put_from, store_after, stored_by}
 use Rattle.tlm_model.specs.Text.{hex_of, line_of, offset_word}
 use Rattle.trace_print.specs.Told.{HaveSizes, stores_lines, text_of}

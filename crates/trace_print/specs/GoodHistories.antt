@@ -5,7 +5,7 @@ use Rattle.tlm_types.specs.declared.entry.Entry.{Entry}
 use Rattle.tlm_model.specs.declared.trace.Trace.TheVariants.{All}
 use Rattle.good_history.specs.Good.{IsGood}
 use Rattle.tlm_model.specs.Plan.{Plan}
-use Rattle.tlm_model.specs.Report.{report_of}
+use Rattle.report_model.specs.Report.{report_of}
 use Rattle.route_plan.specs.Valid.{IsValid}
 use Rattle.trace_print.specs.Naming.{IsTellable}
 

@@ -3,7 +3,7 @@ use Rattle.std.specs.Prelude.{ℕ, List, [], ◌++◌, Option, Some, None, slice
 use Rattle.tlm_model.specs.declared.platform.Platform.{Platform}
 use Rattle.tlm_types.specs.declared.words.ObjectNo.{ObjectNo}
 use Rattle.tlm_types.specs.declared.words.ObjectNo.TheVariants.{Memory as memory_object, Hop, Pool}
-use Rattle.tlm_model.specs.Report.{hop_word, initiator_name, memory_name, name_of_router, target_name}
+use Rattle.report_model.specs.Report.{hop_word, initiator_name, memory_name, name_of_router, target_name}
 use Rattle.route_plan.specs.declared.ends.HopEnds.{HopEnds}
 use Rattle.route_plan.specs.declared.ends.Up.{Up}
 use Rattle.route_plan.specs.declared.ends.Up.TheVariants.{Initiator, Router}

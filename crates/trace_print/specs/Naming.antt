@@ -15,7 +15,7 @@ use Rattle.tlm_types.specs.Log.{read_sends}
 use Rattle.tlm_model.specs.declared.platform.Platform.{Platform}
 use Rattle.tlm_model.specs.declared.trace.Trace.TheVariants.{All}
 use Rattle.tlm_model.specs.Plan.{Plan}
-use Rattle.tlm_model.specs.Report.{entry_words, hop_words, initiator_name, memory_name, name_of_router, object_word, report_of, shown_by}
+use Rattle.report_model.specs.Report.{entry_words, hop_words, initiator_name, memory_name, name_of_router, object_word, report_of, shown_by}
 use Rattle.tlm_model.specs.Text.{line_of}
 use Rattle.traffic_script.specs.Proper.{AreBytes}
 

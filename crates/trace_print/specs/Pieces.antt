@@ -3,7 +3,7 @@ use Rattle.std.specs.Prelude.{ℕ, ◌≡◌, ◌+◌, List, ◌++◌, length, t
 use Rattle.std.specs.Fmt.{decimal}
 use Rattle.tlm_types.specs.declared.entry.Facts.{Facts}
 use Rattle.tlm_types.specs.declared.words.Response.{Response}
-use Rattle.tlm_model.specs.Report.{command_word, status_word, way_word}
+use Rattle.report_model.specs.Report.{command_word, status_word, way_word}
 use Rattle.tlm_model.specs.Text.{address_word}
 use Rattle.trace_print.specs.declared.pieces.Piece.{Piece}
 use Rattle.trace_print.specs.declared.pieces.Piece.TheVariants.{Number, Address, Times, Seq, Asked, Width, Status}

@@ -11,7 +11,7 @@ use Rattle.tlm_types.specs.declared.words.Command.{Command}
 use Rattle.tlm_types.specs.declared.words.Command.TheVariants.{Read, Write, Ignore}
 use Rattle.tlm_model.specs.declared.platform.InitiatorRow.{InitiatorRow}
 use Rattle.tlm_model.specs.declared.platform.MemoryRow.{MemoryRow}
-use Rattle.tlm_model.specs.Report.{command_word, ends_words, memory_lines, seq_word, shown_by, status_word, way_word}
+use Rattle.report_model.specs.Report.{command_word, ends_words, memory_lines, seq_word, shown_by, status_word, way_word}
 use Rattle.tlm_model.specs.Text.{address_word, data_word, line_of}
 
 -- the bytes of some lines

@@ -2,7 +2,7 @@
 ghost use Rattle.std.specs.Prelude.{◌≡◌, ◌∷◌, [], ◌++◌, length, map, codes};
 ghost use Rattle.std.specs.Fmt.{decimal};
 ghost use Rattle.std.specs.List.{join_with_byte};
-ghost use Rattle.tlm_model.specs.Report.{ends_words, style_word};
+ghost use Rattle.report_model.specs.Report.{ends_words, style_word};
 ghost use Rattle.tlm_model.specs.Text.{line_of};
 ghost use Rattle.trace_print.specs.Putting.{Puts, page};
 ghost use Rattle.trace_print.specs.Told.{end_lines, ends_lines, refused_command, refused_item_words, text_of};

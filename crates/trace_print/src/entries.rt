@@ -4,7 +4,7 @@ ghost use Rattle.std.specs.Fmt.{decimal};
 ghost use Rattle.std.specs.List.{join_with_byte};
 ghost use Rattle.tlm_types.specs.declared.entry.Entry.{Entry};
 ghost use Rattle.tlm_types.specs.declared.entry.What.TheVariants.{Granted, Call};
-ghost use Rattle.tlm_model.specs.Report.{entry_words, is_access, traced, txn_word, what_words};
+ghost use Rattle.report_model.specs.Report.{entry_words, is_access, traced, txn_word, what_words};
 ghost use Rattle.tlm_model.specs.Text.{line_of};
 ghost use Rattle.trace_print.specs.AccessText.{access_text, IsShort};
 ghost use Rattle.trace_print.specs.Hops.{ends_at, object_word_by};

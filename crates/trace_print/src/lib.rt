@@ -12,9 +12,9 @@
 //! the history.
 #![tactic(auto)]
 
-ghost use Rattle.std.specs.Prelude.{◌≡◌, ◌∷◌, [], codes};
+ghost use Rattle.std.specs.Prelude.{◌≡◌, ◌≤◌, ◌∷◌, [], codes};
 ghost use Rattle.std.specs.Fmt.{decimal};
-ghost use Rattle.tlm_model.specs.Report.{report_of};
+ghost use Rattle.report_model.specs.Report.{report_of};
 ghost use Rattle.tlm_model.specs.Text.{line_of};
 ghost use Rattle.trace_print.specs.Putting.{Puts, page};
 ghost use Rattle.plat_core.specs.Outcome.{IsReportable};
@@ -28,8 +28,6 @@ mod line;
 mod memories;
 mod names;
 mod pieces;
-#[cfg(test)]
-mod tests;
 mod words;
 
 use crate::ends::put_initiators;
@@ -131,12 +129,13 @@ pub fn print<K: Sink>(
     trace: Trace,
 ) -> Result<(), PrintFault>
     requires { IsReportable plan.now outcome.now }
-    ensures { IsPrinted result (record {
+    ensures printed { IsPrinted result (record {
       taken_before = K.taken out.old;
       taken_after = K.taken out.new;
       faults_before = K.faults out.old;
       faults_after = K.faults out.new;
     }) (report_of trace plan.now outcome.now.history.entries) }
+    ensures later { K.faults out.old ≤ K.faults out.new }
 {
     let mut line = Line::with_room(alloc)?;
     let mut reader = outcome.history.reader(alloc)?;

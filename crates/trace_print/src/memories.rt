@@ -1,7 +1,7 @@
 // The lines of the bytes of memories.
 ghost use Rattle.std.specs.Prelude.{◌≡◌, ◌+◌, ◌/◌, ◌∷◌, [], length, map, codes};
 ghost use Rattle.std.specs.Fmt.{decimal};
-ghost use Rattle.tlm_model.specs.Report.{memory_lines, row_lines, rows_from};
+ghost use Rattle.report_model.specs.Report.{memory_lines, row_lines, rows_from};
 ghost use Rattle.tlm_model.specs.Text.{hex_of, line_of, offset_word};
 ghost use Rattle.trace_print.specs.Putting.{Puts, page};
 ghost use Rattle.trace_print.specs.Told.{HaveSizes, stores_lines, text_of};

@@ -1,6 +1,6 @@
 // Names of a platform's components, as the report has them.
 ghost use Rattle.std.specs.Prelude.{◌≡◌, ◌++◌, codes, slice_get};
-ghost use Rattle.tlm_model.specs.Report.{initiator_name, memory_name, name_of_router, seq_word, target_name, txn_word};
+ghost use Rattle.report_model.specs.Report.{initiator_name, memory_name, name_of_router, seq_word, target_name, txn_word};
 ghost use Rattle.trace_print.specs.Hops.{ends_at, hop_word_of, object_word_by, up_name};
 ghost use Rattle.trace_print.specs.Putting.{Puts, page};
 

@@ -2,7 +2,7 @@
 // The place goes from one write to the next in a register, and digits are written where they stay.
 ghost use Rattle.std.specs.Prelude.{◌≡◌, ◌+◌, ◌*◌, ◌/◌, ◌%◌, ◌<◌, ◌≤◌, [], ◌∷◌, ◌++◌, false, codes, drop, length, take};
 ghost use Rattle.std.specs.Fmt.{decimal, digits, digit_glyph};
-ghost use Rattle.tlm_model.specs.Report.{command_word, way_word};
+ghost use Rattle.report_model.specs.Report.{command_word, way_word};
 ghost use Rattle.tlm_model.specs.Text.{address_word, hex_of};
 ghost use Rattle.trace_print.specs.Pieces.{Adds, asked_text, piece_text, seq_text, status_text, times_text, unmasked_text, width_text};
 

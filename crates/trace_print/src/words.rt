@@ -2,7 +2,7 @@
 ghost use Rattle.std.specs.Prelude.{◌≡◌, ◌∷◌, [], ◌++◌, codes};
 ghost use Rattle.std.specs.Fmt.{decimal};
 ghost use Rattle.std.specs.List.{join_with_byte};
-ghost use Rattle.tlm_model.specs.Report.{command_word, kind_word, phase_word, range_word, style_word, sync_words};
+ghost use Rattle.report_model.specs.Report.{command_word, kind_word, phase_word, range_word, style_word, sync_words};
 ghost use Rattle.tlm_model.specs.Text.{address_word, data_word, hex_of, offset_word};
 ghost use Rattle.trace_print.specs.Putting.{Puts, page};
 

@@ -30,8 +30,6 @@ mod reader;
 mod repeat;
 mod script;
 mod statement;
-#[cfg(test)]
-mod tests;
 mod words;
 pub mod worked;
 

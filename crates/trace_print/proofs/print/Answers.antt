@@ -3,7 +3,7 @@ use Rattle.std.proofs.lemmas.List.{append-nil}
 use Rattle.trace_print.proofs.Putting.{printed-part, puts-as, puts-more}
 use Rattle.trace_print.proofs.print.Goals as goal
 
-pub returns-then-has_failed : goal.returns-then-has_failed
-returns-then-has_failed g c =
+pub returns-then-has_failed-clause-printed : goal.returns-then-has_failed-clause-printed
+returns-then-has_failed-clause-printed g c =
     let puts = puts-more _ _ _ _ _ c.put_report.ensures c.flush.ensures.puts in
     printed-part _ _ _ c.in_ok-line.ensures.1 (sym c.has_failed.ensures ∙ c.if-has_failed.true) c.in_ok-line.ensures.0 (puts-as _ _ _ _ puts (append-nil _))

@@ -1,5 +1,5 @@
-use Rattle.std.proofs.Common.{◌≡◌, ◌<◌, Option, ℕ, true, false, take, subst, sym, ◌∙◌, arith}
-use Rattle.hop_object.specs.Lanes.{waits, FindsFirst}
+use Rattle.std.proofs.Common.{Option, ℕ, take, subst, sym, ◌∙◌}
+use Rattle.hop_object.specs.Lanes.{FindsFirst}
 use Rattle.hop_object.proofs.Firsts.{alone_at, newer_at, older_at}
 use Rattle.hop_object.proofs.lane.first_of.Goals as goal
 

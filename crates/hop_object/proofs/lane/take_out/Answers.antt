@@ -1,4 +1,4 @@
-use Rattle.std.proofs.Common.{◌≡◌, ◌<◌, List, ◌∷◌, ◌++◌, suc, length, take, drop, sym, ap, ◌∙◌}
+use Rattle.std.proofs.Common.{◌≡◌, ◌<◌, ◌∷◌, ◌++◌, suc, length, take, drop, sym, ap, ◌∙◌}
 use Rattle.hop_object.specs.declared.lane.Lane.{Lane}
 use Rattle.hop_object.proofs.Places.{split_at, read_twice}
 use Rattle.hop_object.proofs.lane.take_out.Goals as goal

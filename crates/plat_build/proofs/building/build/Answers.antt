@@ -92,7 +92,7 @@ make_notes-requires-clause-fresh g c =
     let frame = ap (λ (x : OpenedView). x.frame) c.opened.view_is ∙ c.requires.history.1 in
     let tokens = ap (λ (x : OpenedView). x.tokens) c.opened.view_is ∙ c.requires.tickets in
     let may = may_build g.N.Naming.table g.N.Naming.tokens g.N.Naming.frame c.args.plan.now o.history.table o.tickets o.history.frame o.seats.items o.note o.books.items c.opened.invariant table frame tokens c.requires.plan in
-    (may.notes ∙ sym c.notes_of-count.ensures.notes, may.unseen, may.unknown, may.unlooked)
+    (may.notes ∙ sym c.notes_of-count.ensures.notes, may.unseen, may.unknown, may.unlooked, may.outside)
 
 pub new-requires-clause-plan : goal.new-requires-clause-plan
 new-requires-clause-plan g c =

@@ -10,6 +10,7 @@ invariant-loop-part l = record {
   unseen : l.note.knows.seen ≡ 0;
   unknown : l.note.knows.known ≡ [];
   unlooked : l.note.knows.looks ≡ [];
+  outside : l.note.knows.stays ≡ [];
   blank : All (IsBlank l.history.table) l.notes.items;
   many : length l.notes.items + 1 ≡ l._part;
 }

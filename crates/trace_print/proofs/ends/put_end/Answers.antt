@@ -1,7 +1,7 @@
 use Rattle.std.proofs.Common.{◌∷◌, [], length}
 use Rattle.std.specs.Prelude.{codes}
 use Rattle.std.specs.Fmt.{decimal}
-use Rattle.tlm_model.specs.Report.{style_word}
+use Rattle.report_model.specs.Report.{style_word}
 use Rattle.trace_print.proofs.TextLemmas.{end-words}
 use Rattle.trace_print.proofs.Putting.{puts-as, puts-more}
 use Rattle.trace_print.proofs.ends.put_end.Goals as goal

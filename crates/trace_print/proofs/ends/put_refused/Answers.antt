@@ -1,7 +1,7 @@
 use Rattle.std.proofs.Common.{◌∷◌, []}
 use Rattle.std.specs.Prelude.{codes}
 use Rattle.std.specs.Fmt.{decimal}
-use Rattle.tlm_model.specs.Report.{seq_word}
+use Rattle.report_model.specs.Report.{seq_word}
 use Rattle.tlm_model.specs.Text.{address_word}
 use Rattle.trace_print.specs.Told.{refused_command}
 use Rattle.trace_print.proofs.TextLemmas.{refused-words}

@@ -1,6 +1,6 @@
 use Rattle.std.specs.Prelude.{codes}
 use Rattle.std.specs.Fmt.{decimal}
-use Rattle.tlm_model.specs.Report.{command_word, status_word, way_word}
+use Rattle.report_model.specs.Report.{command_word, status_word, way_word}
 use Rattle.tlm_model.specs.Text.{address_word, data_word}
 use Rattle.trace_print.proofs.TextLemmas.{access-line}
 use Rattle.trace_print.proofs.Putting.{puts-as, puts-more}

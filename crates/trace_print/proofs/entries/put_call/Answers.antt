@@ -1,4 +1,4 @@
-use Rattle.tlm_model.specs.Report.{phase_word}
+use Rattle.report_model.specs.Report.{phase_word}
 use Rattle.trace_print.proofs.EntryLemmas.{call-words}
 use Rattle.trace_print.proofs.Putting.{puts-as, puts-more}
 use Rattle.trace_print.proofs.entries.put_call.Goals as goal

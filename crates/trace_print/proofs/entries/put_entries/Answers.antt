@@ -2,7 +2,7 @@ use Rattle.std.proofs.Common.{◌≡◌, List, ap, arith, refl, ◌∙◌}
 use Rattle.std.proofs.lemmas.List.{take_all}
 use Rattle.std.specs.Prelude.{map, slice_get}
 use Rattle.tlm_types.specs.declared.entry.Entry.{Entry}
-use Rattle.tlm_model.specs.Report.{entry_words, traced}
+use Rattle.report_model.specs.Report.{entry_words, traced}
 use Rattle.plat_core.specs.Places.{MergedView}
 use Rattle.trace_print.specs.Told.{text_of}
 use Rattle.trace_print.proofs.EntryLemmas.{entries-next, next-entry, traced-nothing}

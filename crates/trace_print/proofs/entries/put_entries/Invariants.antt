@@ -1,5 +1,5 @@
 use Rattle.std.proofs.Common.{◌≡◌, take, map}
-use Rattle.tlm_model.specs.Report.{entry_words, traced}
+use Rattle.report_model.specs.Report.{entry_words, traced}
 use Rattle.trace_print.specs.Putting.{Puts, page}
 use Rattle.trace_print.specs.Told.{text_of}
 use Rattle.trace_print.proofs.entries.put_entries.Given as goal

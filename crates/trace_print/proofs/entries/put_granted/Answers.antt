@@ -1,6 +1,6 @@
 use Rattle.std.specs.Prelude.{codes}
 use Rattle.std.specs.Fmt.{decimal}
-use Rattle.tlm_model.specs.Report.{kind_word, range_word}
+use Rattle.report_model.specs.Report.{kind_word, range_word}
 use Rattle.trace_print.proofs.TextLemmas.{granted-words}
 use Rattle.trace_print.proofs.Putting.{puts-as, puts-more}
 use Rattle.trace_print.proofs.entries.put_granted.Goals as goal

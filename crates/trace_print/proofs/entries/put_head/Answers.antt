@@ -1,6 +1,6 @@
 use Rattle.std.specs.Prelude.{codes}
 use Rattle.std.specs.Fmt.{decimal}
-use Rattle.tlm_model.specs.Report.{txn_word}
+use Rattle.report_model.specs.Report.{txn_word}
 use Rattle.trace_print.specs.Hops.{object_word_by}
 use Rattle.trace_print.proofs.TextLemmas.{head-words}
 use Rattle.trace_print.proofs.Putting.{puts-as, puts-more}

@@ -1,6 +1,6 @@
 use Rattle.std.proofs.Common.{ℕ, zero, suc, refl, arith, codes}
 use Rattle.tlm_types.specs.declared.words.Response.TheVariants.{Ok}
-use Rattle.tlm_model.specs.Report.{initiator_name, memory_name}
+use Rattle.report_model.specs.Report.{initiator_name, memory_name}
 use Rattle.tlm_model.specs.Worked.{deadbeef, entry, read, readback, readback_plan, wrote}
 use Rattle.traffic_script.specs.Proper.{AreBytes}
 use Rattle.trace_print.specs.Naming.{HasOwnNames, HasPlainNames, IsPlainName, IsTellable}

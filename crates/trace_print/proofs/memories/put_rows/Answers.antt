@@ -1,5 +1,5 @@
 use Rattle.std.proofs.Common.{◌*◌, List, ℕ, ap}
-use Rattle.tlm_model.specs.Report.{row_lines}
+use Rattle.report_model.specs.Report.{row_lines}
 use Rattle.trace_print.specs.Told.{text_of}
 use Rattle.trace_print.proofs.StoreLemmas.{row-is, rows-more}
 use Rattle.trace_print.proofs.Putting.{puts-as, puts-more}

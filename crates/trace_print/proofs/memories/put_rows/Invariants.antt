@@ -1,4 +1,4 @@
-use Rattle.tlm_model.specs.Report.{rows_from}
+use Rattle.report_model.specs.Report.{rows_from}
 use Rattle.trace_print.specs.Told.{text_of}
 use Rattle.trace_print.specs.Putting.{Puts, page}
 use Rattle.trace_print.proofs.memories.put_rows.Given as goal

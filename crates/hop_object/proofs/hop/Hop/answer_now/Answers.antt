@@ -18,7 +18,7 @@ invariant_of-self g c =
     let can : can_begin v ≡ true = ap can_begin c.self.view_is ∙ c.requires.can in
     let is : Updated BeginResp ≡ begin_answer v = sym (ap begin_answer c.self.view_is ∙ c.requires.answer) in
     let late : v.request_end ≤ c.max-time.result = omega (arith, c.max-time.ensures) in
-    let kept = kept_entered v p c.args.txn c.max-time.result (Updated BeginResp) Responding None (leg_out v.book p Responding) k.kept may.past can is refl late may.below (λ n. omega (arith, out_issued n v.book (4 * p + 3))) in
+    let kept = kept_entered v p c.args.txn c.max-time.result (Updated BeginResp) Responding None (leg_out v.book p Responding) k.kept may.past can is refl late may.below refl (λ n. omega (arith, out_issued n v.book (4 * p + 3))) in
     record {
       kept = rw (c.put.ensures.items, c.push_call.ensures, c.issue.ensures.book) kept;
       roomy = omega (arith, c.put.ensures.capacity, k.roomy);

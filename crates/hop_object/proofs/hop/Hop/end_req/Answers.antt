@@ -1,4 +1,4 @@
-use Rattle.std.proofs.Common.{Some, List, get_or, length, ◌<◌, subst, ap, ◌≡◌, ℕ, ◌≤◌, suc, take, drop, true, refl, sym, ◌∙◌, arith}
+use Rattle.std.proofs.Common.{Some, List, get_or, length, ◌<◌, subst, ap, ◌≡◌, suc, take, drop, true, refl, sym, ◌∙◌, arith}
 use Rattle.std.specs.Prelude.{find}
 use Rattle.std.specs.List.{list_any}
 use Rattle.base_phases.specs.declared.phases.LaneState.TheVariants.{Requested}
@@ -28,7 +28,7 @@ push_call-requires g c =
     let xs = c.self.inside.lanes.items in
     let is : find (has_leg c.args.leg.name) xs ≡ Some lane = ap (find (has_leg c.args.leg.name)) (sym c.deref.ensures.value) ∙ c.redeem-index.ensures.found lane (c.index-lane.ensures ∙ ap (λ (ys : List (Lane g.row.T.Denot)). get_or ys i lane) (sym c.deref.ensures.value)) in
     let may = c.requires.may (ap (λ (v : HopView g.row.T.Denot). list_any (has_leg c.args.leg.name) v.lanes) (sym c.self.view_is) ∙ found_any (has_leg c.args.leg.name) xs lane is) in
-    subst (λ (v : HopView g.row.T.Denot). length v.log.entries < v.log.room) (sym c.self.view_is) may.room
+    subst (λ (v : HopView g.row.T.Denot). length v.log.events < v.log.room) (sym c.self.view_is) may.room
 
 pub invariant_of-self : goal.invariant_of-self
 invariant_of-self g c =

@@ -1,4 +1,4 @@
-use Rattle.std.proofs.Common.{◌≡◌, ◌≤◌, ◌+◌, ℕ, true, Some, sym, subst, ap, ◌∙◌, arith}
+use Rattle.std.proofs.Common.{◌≡◌, ◌≤◌, true, not, Some, sym, subst, ap, ◌∙◌, arith}
 use Rattle.tlm_types.specs.declared.words.Phase.TheVariants.{BeginReq}
 use Rattle.base_phases.specs.declared.phases.LaneState.TheVariants.{Free}
 use Rattle.base_phases.specs.Phases.{next_state}
@@ -21,7 +21,7 @@ invariant_of-self g c =
     let is : answer ≡ begin_answer v = c.request_answer-answer.ensures ∙ ap (request_answer v.traits.req) (c.any_responding.ensures ∙ ap any_responding c.deref.ensures.value) in
     let next : next_state Free BeginReq answer ≡ Some c.args.state = ap (next_state Free BeginReq) (is ∙ ap begin_answer c.self.view_is) ∙ c.requires.next in
     let late : v.request_end ≤ c.max-time.result = omega (arith, c.max-time.ensures) in
-    let kept = kept_entered v p c.args.txn c.max-time.result answer c.args.state (Some c.args.item) v.book k.kept may.past can is next late may.below (λ n. omega arith) in
+    let kept = kept_entered v p c.args.txn c.max-time.result answer c.args.state (Some c.args.item) v.book k.kept may.past can is next late may.below (ap not c.requires.down) (λ n. omega arith) in
     record {
       kept = rw (c.put.ensures.items, c.push_call.ensures, c.request_end_begun-self-inside.ensures) kept;
       roomy = omega (arith, c.put.ensures.capacity, k.roomy);

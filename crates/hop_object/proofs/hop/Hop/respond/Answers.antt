@@ -1,4 +1,4 @@
-use Rattle.std.proofs.Common.{◌⊎◌, false, Some, List, get_or, length, ◌<◌, subst, ap, ◌≡◌, ℕ, ◌≤◌, suc, take, drop, true, refl, sym, ◌∙◌, arith}
+use Rattle.std.proofs.Common.{◌⊎◌, false, Some, List, get_or, length, ◌<◌, subst, ap, ◌≡◌, suc, take, drop, true, refl, sym, ◌∙◌, arith}
 use Rattle.std.specs.Prelude.{find}
 use Rattle.std.specs.List.{list_any}
 use Rattle.base_phases.specs.declared.phases.LaneState.TheVariants.{Requested, Waiting}
@@ -25,7 +25,7 @@ push_call-requires g c =
     let xs = c.self.inside.lanes.items in
     let is : find (has_leg c.args.leg.name) xs ≡ Some lane = ap (find (has_leg c.args.leg.name)) (sym c.deref.ensures.value) ∙ c.redeem-index.ensures.found lane (c.index-lane.ensures ∙ ap (λ (ys : List (Lane g.row.T.Denot)). get_or ys i lane) (sym c.deref.ensures.value)) in
     let may = c.requires.may (ap (λ (v : HopView g.row.T.Denot). list_any (has_leg c.args.leg.name) v.lanes) (sym c.self.view_is) ∙ found_any (has_leg c.args.leg.name) xs lane is) in
-    subst (λ (v : HopView g.row.T.Denot). length v.log.entries < v.log.room) (sym c.self.view_is) may.room
+    subst (λ (v : HopView g.row.T.Denot). length v.log.events < v.log.room) (sym c.self.view_is) may.room
 
 pub invariant_of-self : goal.invariant_of-self
 invariant_of-self g c =
@@ -45,7 +45,7 @@ invariant_of-self g c =
     let redeemed : Redeemed v c.args.leg (take i xs) lane (drop (suc i) xs) = record { here = d.here; has = has; one = c.redeem-index.ensures.one; was = c.redeem-index.ensures.out } in
     let kept = kept_respond v c.args.leg (take i xs) lane (drop (suc i) xs) c.args.position t c.args.item k.kept may_here.past redeemed (omega (arith, c.max-time.ensures, c.max-early.ensures)) (omega (arith, c.max-time.ensures)) free own in
     record {
-      kept = rw (d.after, c.push_call.ensures, c.redeem-index.ensures.book, c.request_end_responded-self-inside.ensures, c.response_end_responded-self-inside.ensures, c.state_by-next.ensures, c.response_answer-answer.ensures) kept;
+      kept = rw (d.after, c.push_call.ensures, c.redeem-index.ensures.book, c.request_end_responded-self-inside.ensures, c.response_end_responded-self-inside.ensures, c.state_by-next.ensures, c.mark_of.ensures, c.response_answer-answer.ensures) kept;
       roomy = omega (arith, c.change-was.ensures.capacity, k.roomy);
     }
 
@@ -63,6 +63,6 @@ returns g c =
       leg_is = ap (find (has_leg c.args.leg.name)) (sym c.deref.ensures.value) ∙ c.redeem-index.ensures.found lane (c.index-lane.ensures ∙ ap (λ (ys : List (Lane g.row.T.Denot)). get_or ys i lane) (sym c.deref.ensures.value));
       time = c.max-time.result;
       time_is = rw (c.max-time.ensures, c.max-early.ensures) refl;
-      after = rw (d.after, c.push_call.ensures, c.redeem-index.ensures.book, c.request_end_responded-self-inside.ensures, c.response_end_responded-self-inside.ensures, c.state_by-next.ensures, c.response_answer-answer.ensures) refl;
+      after = rw (d.after, c.push_call.ensures, c.redeem-index.ensures.book, c.request_end_responded-self-inside.ensures, c.response_end_responded-self-inside.ensures, c.state_by-next.ensures, c.mark_of.ensures, c.response_answer-answer.ensures) refl;
       answer_is = rw c.response_answer-answer.ensures refl;
     })

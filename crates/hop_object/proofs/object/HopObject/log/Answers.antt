@@ -1,10 +1,9 @@
-use Rattle.std.proofs.Common.{ap, ◌∙◌}
+use Rattle.std.proofs.Common.{◌∙◌}
 use Rattle.tlm_types.specs.declared.words.ObjectNo.TheVariants.{Hop}
-use Rattle.tlm_types.specs.Log.{LogView}
-use Rattle.shared_object.proofs.Logs.{logged_noted}
+use Rattle.numbered_log.proofs.Written.{logged_written}
 use Rattle.hop_object.proofs.object.HopObject.log.Goals as goal
 
 pub returns : goal.returns
 returns g c =
     let h = c.args.self.now in
-    ap (λ (l : LogView). l.entries) c.log.ensures.log ∙ logged_noted (Hop h.number) 0 h.log.entries c.log.ensures.own
+    c.log.ensures.entries ∙ logged_written (Hop h.number) h.log.events c.log.ensures.own

@@ -2,14 +2,14 @@ use Rattle.std.proofs.Common.{List, sym, ap, ◌∙◌, subst, arith}
 use Rattle.view_lists.specs.Lists.{Has}
 use Rattle.one_history.specs.Rule.{plain}
 use Rattle.one_history.specs.declared.view.Owned.{Owned}
-use Rattle.one_history.proofs.Keeps.{learns}
+use Rattle.one_history.proofs.Wholes.{learns}
 use Rattle.one_history.proofs.history.History.seal.Goals as goal
 
 pub load-count-requires : goal.load-count-requires
 load-count-requires g c =
     let v = c.self.view_is in
     let some = c.requires.frame.1 in
-    (c.requires.table ∙ sym (ap (λ h. h.table) v), omega (arith, c.self.invariant.0), learns g.W.Law.backs (plain c.self.inside.table.shared.key) _ _ c.args.master.me (omega arith))
+    (c.requires.table ∙ sym (ap (λ h. h.table) v), (let wide = c.self.invariant.0 in omega arith), learns g.W.Law.backs (plain c.self.inside.table.shared.key) _ _ c.args.master.me (omega arith))
 
 pub returns-clause-owns : goal.returns-clause-owns
 returns-clause-owns g c x has =

@@ -1,6 +1,6 @@
 use Rattle.std.proofs.Common.{sym, ap, ◌∙◌, arith}
 use Rattle.one_history.specs.Rule.{plain}
-use Rattle.one_history.proofs.Keeps.{joins}
+use Rattle.one_history.proofs.Wholes.{joins}
 use Rattle.one_history.proofs.history.History.take_seat.Goals as goal
 
 pub join_seat-requires : goal.join_seat-requires
@@ -11,6 +11,6 @@ join_seat-requires g c =
       c.requires.master.0 ∙ v,
       n.0 ∙ c.requires.seat ∙ v,
       ap (λ m. m.1) n.1,
-      omega (arith, c.self.invariant.0),
+      (let wide = c.self.invariant.0 in omega arith),
       joins g.W.Law.backs (plain c.self.inside.table.shared.key) _ _ c.args.master.now.me.0 _ (omega arith),
     )

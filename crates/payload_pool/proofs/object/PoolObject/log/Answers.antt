@@ -1,6 +1,6 @@
 use Rattle.std.proofs.Common.{◌∙◌}
 use Rattle.tlm_types.specs.declared.words.ObjectNo.TheVariants.{Pool}
-use Rattle.payload_pool.proofs.Written.{logged_written}
+use Rattle.numbered_log.proofs.Written.{logged_written}
 use Rattle.payload_pool.proofs.object.PoolObject.log.Goals as goal
 
 pub returns : goal.returns

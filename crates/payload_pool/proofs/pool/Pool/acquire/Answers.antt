@@ -1,11 +1,13 @@
-use Rattle.std.proofs.Common.{◌≡◌, ℕ, ◌+◌, ◌-◌, ◌<◌, ◌≤◌, ◌==◌, Bool, true, length, set, sym, ap, ◌∙◌, subst, refl, arith}
+use Rattle.std.proofs.Common.{◌≡◌, ℕ, ◌+◌, ◌-◌, ◌<◌, ◌≤◌, true, length, set, sym, ap, ◌∙◌, subst, refl, arith}
 use Rattle.std.specs.Prelude.{◌%◌}
+use Rattle.std.specs.List.{All}
 use Rattle.tlm_types.specs.declared.entry.What.TheVariants.{Acquire}
 use Rattle.token_book.specs.Account.{Account, Slip, out_of, issued, retired}
+use Rattle.flow_model.specs.Events.{Event}
 use Rattle.payload_pool.specs.Slots.{SlotView, slot_at, acquired_more, acquired_of}
 use Rattle.payload_pool.specs.Pool.{PoolView, IsPool, changed, event_by}
 use Rattle.payload_pool.specs.Inside.{view_of}
-use Rattle.payload_pool.specs.Calls.{Acquires, is_out}
+use Rattle.payload_pool.specs.Calls.{is_out}
 use Rattle.payload_pool.proofs.Keeps.{Holds, holds_at, not_lost, read_slot, may_acquire, few_retired, few_issued, kept_acquire, acquire_at}
 use Rattle.payload_pool.proofs.pool.Pool.acquire.Goals as goal
 
@@ -115,7 +117,8 @@ after c =
 pub invariant_of-self : goal.invariant_of-self
 invariant_of-self c =
     let one = one_own c.own.inside.token c.args.baton.own c.own.view_is c.own.invariant in
-    subst IsPool (sym (after c)) (kept_acquire (view_of c.self.inside) c.self.invariant c.args.baton.own c.in-Some.place c.args.position c.args.at (held c) one.1 c.requires.few)
+    let past = subst (λ (w : PoolView). is_out w c.args.baton.own.name ≡ true → All (λ (y : Event). y.position < c.args.position) w.log.events) (sym c.self.view_is) c.requires.past (held c).place.any in
+    subst IsPool (sym (after c)) (kept_acquire (view_of c.self.inside) c.self.invariant c.args.baton.own c.in-Some.place c.args.position c.args.at (held c) one.1 c.requires.few past)
 
 pub returns : goal.returns
 returns c =

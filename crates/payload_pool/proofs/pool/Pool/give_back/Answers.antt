@@ -1,13 +1,15 @@
-use Rattle.std.proofs.Common.{◌≡◌, ℕ, ◌+◌, ◌-◌, ◌<◌, ◌≤◌, ◌==◌, Bool, true, length, set, sym, ap, ◌∙◌, subst, refl, arith}
+use Rattle.std.proofs.Common.{◌≡◌, ℕ, ◌<◌, ◌≤◌, ◌==◌, true, length, set, sym, ap, ◌∙◌, subst, refl}
 use Rattle.std.specs.Prelude.{◌%◌, MatchOption, Option}
+use Rattle.std.specs.List.{All}
 use Rattle.std.specs.Option.{option_map}
 use Rattle.tlm_types.specs.declared.entry.What.TheVariants.{Release}
 use Rattle.token_book.specs.Account.{retired}
+use Rattle.flow_model.specs.Events.{Event}
 use Rattle.payload_pool.specs.declared.slot.Kept.{Kept}
-use Rattle.payload_pool.specs.Slots.{SlotView, slot_at, tally, given_back, number_of}
+use Rattle.payload_pool.specs.Slots.{SlotView, slot_at, given_back, number_of}
 use Rattle.payload_pool.specs.Pool.{PoolView, IsPool, changed, event_by}
 use Rattle.payload_pool.specs.Inside.{view_of}
-use Rattle.payload_pool.specs.Calls.{Releases, is_out}
+use Rattle.payload_pool.specs.Calls.{is_out}
 use Rattle.payload_pool.proofs.Keeps.{Holds, holds_at, not_lost, read_slot, some_at, brought, kept_release, release_at, last_at}
 use Rattle.payload_pool.proofs.pool.Pool.give_back.Goals as goal
 
@@ -59,7 +61,8 @@ pub invariant_of-self : goal.invariant_of-self
 invariant_of-self c =
     let v = view_of c.self.inside in
     let part = subst (λ (w : PoolView). MatchOption c.args.kept (c.args.token.name % 32 < 15) (λ (b : Kept). (16 ≤ c.args.token.name % 32) × (b.payload.room ≡ w.room))) (sym c.self.view_is) c.requires.part in
-    subst IsPool (sym (after c)) (kept_release v c.self.invariant c.args.token c.in-Some.place c.args.position c.args.at (bytes c) (held c) (brought v c.self.invariant c.args.token.name c.args.kept part))
+    let past = subst (λ (w : PoolView). is_out w c.args.token.name ≡ true → All (λ (y : Event). y.position < c.args.position) w.log.events) (sym c.self.view_is) c.requires.past (held c).place.any in
+    subst IsPool (sym (after c)) (kept_release v c.self.invariant c.args.token c.in-Some.place c.args.position c.args.at (bytes c) (held c) (brought v c.self.invariant c.args.token.name c.args.kept part) past)
 
 pub returns : goal.returns
 returns c =

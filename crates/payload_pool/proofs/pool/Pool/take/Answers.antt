@@ -1,12 +1,13 @@
-use Rattle.std.proofs.Common.{◌≡◌, ℕ, ◌<◌, ◌*◌, ◌+◌, true, false, length, set, sym, ap, ◌∙◌, subst, refl, arith, rules}
+use Rattle.std.proofs.Common.{◌≡◌, ◌<◌, ◌*◌, ◌+◌, true, false, length, set, sym, ap, ◌∙◌, subst, refl, arith}
 use Rattle.std.specs.Prelude.{IsSome}
+use Rattle.std.specs.List.{All}
 use Rattle.token_book.specs.Account.{issued}
 use Rattle.tlm_types.specs.declared.entry.What.TheVariants.{Take}
-use Rattle.generic_payload.specs.Payload.{PayloadView, new_payload}
-use Rattle.payload_pool.specs.Slots.{SlotView, blank_slot, is_free, begun, name_of}
+use Rattle.generic_payload.specs.Payload.{new_payload}
+use Rattle.flow_model.specs.Events.{Event}
+use Rattle.payload_pool.specs.Slots.{SlotView, is_free, begun, name_of}
 use Rattle.payload_pool.specs.Pool.{PoolView, IsPool, changed, event_by, has_free}
 use Rattle.payload_pool.specs.Inside.{view_of}
-use Rattle.payload_pool.specs.Calls.{Takes}
 use Rattle.payload_pool.proofs.Found.{found_in, none_in, passes_found}
 use Rattle.payload_pool.proofs.Keeps.{few_tokens, free_kept, kept_room, kept_take, read_slot, take_at}
 use Rattle.payload_pool.proofs.pool.Pool.take.Goals as goal
@@ -68,7 +69,8 @@ invariant_of-self c =
     let k = c.in_ok-place.place in
     let f = found_in is_free v.slots c.deref.result.now c.free_place.result k c.deref.ensures.value c.free_place.ensures (c.in_ok-place.was) in
     let below = subst (λ (w : PoolView). has_free w ≡ true → c.args.position < 1000000) (sym c.self.view_is) c.requires.position f.any in
-    subst IsPool (sym (after c)) (kept_take v c.self.invariant k c.args.position c.args.txn c.args.at f below)
+    let past = subst (λ (w : PoolView). has_free w ≡ true → All (λ (y : Event). y.position < c.args.position) w.log.events) (sym c.self.view_is) c.requires.past f.any in
+    subst IsPool (sym (after c)) (kept_take v c.self.invariant k c.args.position c.args.txn c.args.at f below past)
 
 pub returns : goal.returns
 returns c =

@@ -23,11 +23,11 @@ returns-clause-entry g c =
     let built : IsMemoryBuilt c.args.self.now m (built_of s.0) =
     subst (λ (w : Plan). IsMemoryBuilt w m (built_of s.0)) (sym c.plan.ensures.world) (subst (λ (k : ℕ). IsMemoryBuilt g.N.Naming.frame.world k (built_of s.0)) num s.2.built_for.world) in
     let known : Within (written_at m note.known) (written_from 0 s.0.log.entries) = subst (λ (k : ℕ). Within (written_at k note.known) (written_from 0 s.0.log.entries)) num s.2.knows in
-    let enters : Enters m (written_from 0 s.0.log.entries) (written_from 0 s.1.log.entries) true (content_of s.0 c.args.call) note back c.in-Ok.field-0.position =
-    subst (λ (k : ℕ). Enters k (written_from 0 s.0.log.entries) (written_from 0 s.1.log.entries) true (content_of s.0 c.args.call) note back c.in-Ok.field-0.position) num s.3 in
+    let enters : Enters g.N.Naming.frame m (written_from 0 s.0.log.entries) (written_from 0 s.1.log.entries) true (content_of s.0 c.args.call) note back c.in-Ok.field-0.position =
+    subst (λ (k : ℕ). Enters g.N.Naming.frame k (written_from 0 s.0.log.entries) (written_from 0 s.1.log.entries) true (content_of s.0 c.args.call) note back c.in-Ok.field-0.position) num s.3 in
     let same : c.returned.result ≡ returned c.in-Ok.field-0.reply = (let a = c.returned.ensures in let b = c.in-Ok.reply-is in cc) in
     subst (λ (x : PayloadView). IsCalled c.args.self.now m c.args.call note back x) (sym same)
-    (called c.args.self.now m c.args.call note back c.in-Ok.field-0.position c.in-Ok.field-0.reply s.0 s.1 built s.2.state known enters s.4)
+    (called g.N.Naming.frame c.args.self.now m c.args.call note back c.in-Ok.field-0.position c.in-Ok.field-0.reply s.0 s.1 built s.2.state known enters s.4)
 
 pub returns-clause-wallet : goal.returns-clause-wallet
 returns-clause-wallet g c = subst (λ (t : TableId). IsOf t c.pull-ticket.new.self) c.tickets.ensures c.pull-ticket.ensures.of

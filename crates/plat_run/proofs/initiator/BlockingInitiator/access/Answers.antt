@@ -5,6 +5,8 @@ use Rattle.script_engine.specs.State.{op_of}
 use Rattle.plat_build.specs.Calls.{CanPay}
 use Rattle.plat_core.specs.Moves.{HasReached}
 use Rattle.plat_core.specs.Run.{Run}
+use Rattle.plat_core.specs.Steps.{StepsOnce}
+use Rattle.plat_core.proofs.OnceLemmas.{StepsOnce-by_access}
 use Rattle.plat_run.specs.Job.{IsInitiator}
 use Rattle.plat_run.proofs.AccessLemmas.{goes_on, reached_as, room_again, set_out, whole_back}
 use Rattle.plat_run.proofs.MoveLemmas.{number_below}
@@ -82,3 +84,10 @@ invariant_of-self g c =
             c.send-sent.ensures.entry c.send-sent.ensures.ticket c.complete.new.self next.route.latency refl c.complete.ensures);
       };
     }
+
+pub returns-clause-once : goal.returns-clause-once
+returns-clause-once g c =
+    let old = c.self.inside.run in
+    let next = c.args.next.now in
+    let new = c.complete.new.self in
+    subst (λ (r : Run). StepsOnce r.engine new.engine) c.self.view_is (StepsOnce-by_access old new next.op next.route.latency c.send-sent.result.payload.bytes c.complete.ensures)

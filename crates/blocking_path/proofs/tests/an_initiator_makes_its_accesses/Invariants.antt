@@ -1,4 +1,0 @@
-use Rattle.blocking_path.proofs.tests.an_initiator_makes_its_accesses.Given as goal
-
-abbrev pub ghosts-alone : goal.ghosts-alone
-ghosts-alone g a = record { table = a.opened.table; frame = a.opened.frame; tokens = a.opened.tokens }

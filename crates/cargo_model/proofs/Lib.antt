@@ -1,0 +1,13 @@
+pub mod More
+pub mod Wallets
+pub mod Down
+pub mod Up
+pub mod Backs
+pub mod Rows
+pub mod Called
+pub mod Ways
+pub mod Origins
+pub mod There
+pub mod HopEnds
+pub mod Worked
+pub mod Modes

@@ -1,0 +1,10 @@
+pub mod Counts
+pub mod Called
+pub mod Stops
+pub mod Tickets
+pub mod Known
+pub mod Travel
+pub mod Laws
+pub mod Modes
+pub mod Origins
+pub mod Worked

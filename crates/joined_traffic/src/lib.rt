@@ -1,0 +1,40 @@
+//! What initiators of all styles, hops, pools and memories leave at the end of a run makes the whole history right.
+//!
+//! No thread sees the history. A four-phase initiator knows the entries of its accesses and its debug reads, with their
+//! positions, and what its wallet has left; each object has its log, with no more entries than were planned, less what the wallets
+//! have left. By counting, these are all entries.
+//!
+//! - `specs/Accesses` counts the entries of accesses, `specs/Driven` says what an initiator knows of its entries and its
+//!   wallet, `specs/Ended` what stands once all have finished, `specs/Issued` when requests were issued and what was waited for.
+//! - `specs/Laws` has the laws: the premises of the law of four-phase traffic, its points, and that the history is good.
+//! - `specs/Worked` has a run by hand that leaves all this.
+//!
+//! Nothing here runs: each function carries a law.
+#![tactic(auto)]
+
+ghost use Rattle.joined_traffic.specs.Laws.{EndedHasPremises, EndedHasTraffic, EndedIsGood, EndedIsSound};
+ghost use Rattle.joined_traffic.specs.Worked.{CompletingHasEnded};
+
+/// What initiators, hops, pools and memories leave at the end of a run has the premises of the law of four-phase
+/// traffic, for the times at which the initiators issued their accesses.
+pub fn ended_runs_have_premises()
+    ensures { EndedHasPremises }
+{}
+
+/// Where the initiators also issued their requests when they may, the whole history has the points of four-phase traffic
+/// that backed entries give, and those of the end.
+pub fn ended_runs_have_traffic()
+    ensures { EndedHasTraffic }
+{}
+
+/// A run that has ended leaves a good history, where initiators of all styles run side by side, and each of its
+/// beginnings is sound.
+pub fn ended_runs_are_good()
+    ensures good { EndedIsGood }
+    ensures beginnings { EndedIsSound }
+{}
+
+/// A run by hand leaves all of this: one access, which its memory completes with its answer.
+pub fn a_completed_access_has_ended()
+    ensures { CompletingHasEnded }
+{}

@@ -1,0 +1,9 @@
+use Rattle.std.proofs.Common.{sym}
+use Rattle.numbered_log.proofs.Written.{entries-events_of, length-events_of}
+use Rattle.numbered_log.proofs.log.NumberedLog.log.Goals as goal
+
+pub returns-clause-entries : goal.returns-clause-entries
+returns-clause-entries c = let s = c.self.inside in rw (← c.self.view_is) (sym (entries-events_of s.log.entries s.numbers.items))
+
+pub returns-clause-len : goal.returns-clause-len
+returns-clause-len c = let s = c.self.inside in rw (← c.self.view_is) (sym (length-events_of s.log.entries s.numbers.items))

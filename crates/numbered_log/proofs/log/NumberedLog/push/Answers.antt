@@ -1,0 +1,27 @@
+use Rattle.std.proofs.Common.{◌<◌, length, arith, sym, subst, refl}
+use Rattle.tlm_types.specs.Log.{entry_at}
+use Rattle.numbered_log.specs.Logged.{LoggedView}
+use Rattle.numbered_log.proofs.Written.{events_of-push, length-events_of}
+use Rattle.numbered_log.proofs.log.NumberedLog.push.Goals as goal
+
+pub unreachable-requires : goal.unreachable-requires
+unreachable-requires c =
+    let s = c.self.inside in
+    let len = length-events_of s.log.entries s.numbers.items in
+    let room = subst (λ (l : LoggedView). length l.events < l.room) (sym c.self.view_is) c.requires.room in
+    let below : length s.log.entries < s.log.room = omega arith in
+    let ok = rw c.in_default.is at (c.push.ensures.roomy below) in
+    cc
+
+pub unreachable-requires-in_default-push : goal.unreachable-requires-in_default-push
+unreachable-requires-in_default-push c =
+    let s = c.self.inside in
+    let len = length-events_of s.log.entries s.numbers.items in
+    let room = subst (λ (l : LoggedView). length l.events < l.room) (sym c.self.view_is) c.requires.room in
+    let full = c.in_default-push.ensures.full in
+    omega (arith, s.numbers.ok.0)
+
+pub returns : goal.returns
+returns c =
+    let s = c.self.inside in
+    rw (c.in-Ok.ensures.ok, c.in-Ok-push.ensures.items, ← c.self.view_is, events_of-push s.log.entries s.numbers.items (entry_at c.args.head c.args.what) c.args.number c.self.invariant.same) refl

@@ -1,0 +1,66 @@
+// A log whose entries have numbers.
+ghost use Rattle.std.specs.Prelude.{◌≡◌, ◌<◌, false, [], length, IfOk};
+ghost use Rattle.tlm_types.specs.Log.{entry_at, is_access};
+ghost use Rattle.flow_model.specs.Events.{entries};
+ghost use Rattle.numbered_log.specs.Logged.{event_of, with_event};
+
+use std::alloc::Global;
+use std::marker::Model;
+use tlm_types::{Head, Log, Memory, What};
+
+/// A log without accesses, and the number of each entry. Contracts see its entries with their numbers,
+/// and for how many there is room.
+#[derive(Drop)]
+pub struct NumberedLog {
+    log: Log,
+    numbers: Vec<u32>,
+}
+
+impl Model for NumberedLog {
+    ghost use Rattle.std.specs.Prelude.{◌≡◌, ◌≤◌, length, vec_capacity};
+    ghost use Rattle.numbered_log.specs.Logged.{LoggedView, IsNumbered, events_of};
+
+    ghost Value = { LoggedView };
+
+    ghost view = { λ l. record {
+      events = events_of l.log.entries l.numbers.items;
+      room = l.log.room;
+    } };
+
+    ghost invariant = { λ l. IsNumbered (length l.log.entries) (length l.numbers.items) l.log.room
+        (vec_capacity l.numbers) };
+}
+
+impl NumberedLog {
+    /// An empty log with room for so many entries. Its only error is want of memory.
+    pub fn with_room(alloc: Global, entries: u64) -> Result<NumberedLog, Memory>
+        ensures { IfOk result (λ l. l ≡ record { events = []; room = entries }) }
+    {
+        let log = Log::with_room(alloc, entries, 0)?;
+        let numbers = Vec::with_capacity(alloc, entries as usize)?;
+        Ok(NumberedLog { log, numbers })
+    }
+
+    /// The entries without their numbers.
+    pub fn log(&self) -> &Log
+        ensures entries { result.now.entries ≡ entries self.now.events }
+        ensures room { result.now.room ≡ self.now.room }
+        ensures len { length result.now.entries ≡ length self.now.events }
+    {
+        &self.log
+    }
+
+    /// Appends an entry with its number. The room for it is there.
+    pub fn push(&mut self, head: Head, what: What, number: u32)
+        requires room { length self.old.events < self.old.room }
+        requires what { is_access what ≡ false }
+        ensures { self.new ≡ with_event self.old (event_of (entry_at head what) number) }
+    {
+        let Ok(()) = self.log.push(head, what) else {
+            unreachable!()
+        };
+        let Ok(()) = self.numbers.push(number) else {
+            unreachable!()
+        };
+    }
+}

@@ -1,0 +1,19 @@
+//! Tests of parts of a platform, each over the public calls of its crate, which has the contracts: what
+//! these can't say is shown here.
+//!
+//! - `payloads` has the generic payload of `generic_payload`, `engines` the scripts of `script_engine`.
+//! - `boards` has the rounds of `time_board`, `queues` the jobs of `run_queue`: by one thread, and by two at
+//!   once, which meet at their locks.
+//!
+//! There is nothing to call. The tests stand in a crate of their own so that those crates aren't proved
+//! again with them.
+#![tactic(auto)]
+
+#[cfg(test)]
+mod boards;
+#[cfg(test)]
+mod engines;
+#[cfg(test)]
+mod payloads;
+#[cfg(test)]
+mod queues;

@@ -1,9 +1,0 @@
-use Rattle.std.proofs.Common.{sym}
-use Rattle.payload_pool.proofs.Written.{entries-events_of, length-events_of}
-use Rattle.payload_pool.proofs.log.NumberedLog.log.Goals as goal
-
-pub returns-clause-entries : goal.returns-clause-entries
-returns-clause-entries c = let s = c.self.inside in rw (← c.self.view_is) (sym (entries-events_of s.log.entries s.numbers.items))
-
-pub returns-clause-len : goal.returns-clause-len
-returns-clause-len c = let s = c.self.inside in rw (← c.self.view_is) (sym (length-events_of s.log.entries s.numbers.items))

@@ -1,0 +1,468 @@
+-- A port makes a debug read.
+use Rattle.std.proofs.Common.{◌≡◌, ◌⊎◌, ℕ, suc, ◌+◌, ◌<◌, ◌≤◌, IsSome, Bool, true, false, cond, max, nat_eq, eq-eqb, List, [], ◌∷◌, ◌++◌, length, length-append, append_assoc, Option, Some, None, refl, sym, ap, ◌∙◌, subst, inl, inr, arith, get_or, map}
+use Rattle.std.specs.Prelude.{slice_get}
+use Rattle.std.specs.List.{filter}
+use Rattle.std.proofs.lemmas.List.{map-append, append-nil}
+use Rattle.std.proofs.lemmas.List.Elements.{filter-append}
+use Rattle.std.proofs.lemmas.Option.{slice_get_within}
+use Rattle.view_lists.specs.Lists.{Has}
+use Rattle.tlm_types.specs.declared.ends.RefusedItem.{RefusedItem}
+use Rattle.tlm_types.specs.declared.words.ObjectNo.{ObjectNo}
+use Rattle.tlm_types.specs.declared.words.TxnId.{TxnId}
+use Rattle.tlm_types.specs.declared.entry.Entry.{Entry}
+use Rattle.tlm_model.specs.History.{entries_at, is_object}
+use Rattle.tlm_model.specs.Plan.{Plan, Initiator}
+use Rattle.tlm_model.specs.Requests.{Request, requests_of, has_no_route}
+use Rattle.tlm_model.specs.Route.{route_of}
+use Rattle.generic_payload.specs.Payload.{PayloadView}
+use Rattle.flow_model.specs.World.{Passage}
+use Rattle.flow_model.specs.Events.{Among, Event, Finds}
+use Rattle.flow_model.specs.Issue.{issues_from, settled}
+use Rattle.flow_model.specs.Platform.{passage_of}
+use Rattle.report_model.specs.Ends.{refused_at}
+use Rattle.joined_traffic.specs.Accesses.{sum_below, txn_of}
+use Rattle.script_engine.specs.declared.op.Op.{Op}
+use Rattle.script_engine.specs.declared.op.Op.TheVariants as next
+use Rattle.script_engine.specs.State.{is_fenced, op_of, passed_by, payload_of, told_by}
+use Rattle.script_engine.specs.Asking.{asked_by, requests_at, stage_after, time_after_op}
+use Rattle.script_engine.proofs.Steps.{passes}
+use Rattle.port_model.specs.Stages.{HasTickets, IsBack, Stage, ahead, charged, count_of, end_by, moved, outstanding_by, price, under_by}
+use Rattle.port_model.specs.Stages.Stage.{Ahead, Under, Back}
+use Rattle.port_model.specs.Issues.{IsWaitingOp, current_at, issues_at}
+use Rattle.port_model.specs.Way.{Agrees, HasAccesses, HasEntries, IsReading, IsTimeOf, IsUnderWay, Port, Replied, pending, refused_in, top}
+use Rattle.port_model.specs.Laws.{AreBelow, Knows, next_request, refused_for, request_of}
+use Rattle.port_model.proofs.IssueSteps.{in_order}
+use Rattle.port_model.proofs.Kept.{Grows, agrees_less, begun_more, get_kept, get_last, get_new, reading_more, returned_more, waited_more}
+use Rattle.port_model.proofs.Sums.{ends_moved, more_differs, moved_here, moved_other, same_or_not, sum_moved}
+use Rattle.port_model.proofs.Ops.{IsAsk, asks_one, more_numbers, refused_same, seq_of}
+use Rattle.port_model.specs.Issues.{issue_of, time_after, engine_after}
+use Rattle.port_model.specs.Laws.{HasSettled}
+use Rattle.port_model.proofs.Takes.{all_back, low_made, made_count, made_passed}
+use Rattle.view_lists.specs.Lists.{AreDistinct}
+use Rattle.view_lists.proofs.Members.{has_either, has_later, has_left, has_none, has_one, has_right}
+use Rattle.port_model.specs.Stages.{made_at, made_by}
+use Rattle.joined_traffic.specs.Accesses.{entries_of, visits}
+use Rattle.tlm_types.specs.declared.words.ObjectNo.TheVariants.{Memory, Hop, Pool}
+use Rattle.port_model.specs.Way.{IsReply}
+use Rattle.port_model.specs.Laws.{replies_of}
+use Rattle.port_model.proofs.Kept.{served_more}
+use Rattle.port_model.proofs.PlainTakes.{false_is_true, get_tail}
+use Rattle.port_model.specs.Laws.{HasRead, IsDebugOp, ReadsDebug, HasSettled}
+use Rattle.port_model.proofs.PlainTakes.{next_time, settled_here}
+use Rattle.port_model.proofs.Takes.{waited_at}
+
+debug_asks : (op : Op) → IsDebugOp op → IsAsk op
+debug_asks (next.Access s a n command plain fenced) o = absurd o
+debug_asks (next.Debug s a n) o = tt
+debug_asks (next.Wait n) o = absurd o
+debug_asks next.Sync o = absurd o
+debug_asks next.Fence o = absurd o
+debug_asks (next.Invalidate s a n) o = absurd o
+debug_asks next.Done o = absurd o
+
+debug_free : (op : Op) → IsDebugOp op → is_fenced op ≡ false
+debug_free (next.Access s a n command plain fenced) o = absurd o
+debug_free (next.Debug s a n) o = refl
+debug_free (next.Wait n) o = absurd o
+debug_free next.Sync o = absurd o
+debug_free next.Fence o = absurd o
+debug_free (next.Invalidate s a n) o = absurd o
+debug_free next.Done o = absurd o
+
+debug_waits : (op : Op) → IsDebugOp op → IsWaitingOp op
+debug_waits (next.Access s a n command plain fenced) o = absurd o
+debug_waits (next.Debug s a n) o = tt
+debug_waits (next.Wait n) o = absurd o
+debug_waits next.Sync o = absurd o
+debug_waits next.Fence o = absurd o
+debug_waits (next.Invalidate s a n) o = absurd o
+debug_waits next.Done o = absurd o
+
+debug_stage : (op : Op) (payload : PayloadView) (t g : ℕ) → IsDebugOp op → (request_of op payload t g).stage ≡ g + 1
+debug_stage (next.Access s a n command plain fenced) payload t g o = absurd o
+debug_stage (next.Debug s a n) payload t g o = refl
+debug_stage (next.Wait n) payload t g o = absurd o
+debug_stage next.Sync payload t g o = absurd o
+debug_stage next.Fence payload t g o = absurd o
+debug_stage (next.Invalidate s a n) payload t g o = absurd o
+debug_stage next.Done payload t g o = absurd o
+
+debug_after : (op : Op) (g : ℕ) → IsDebugOp op → g + 1 ≤ stage_after op g
+debug_after (next.Access s a n command plain fenced) g o = absurd o
+debug_after (next.Debug s a n) g o = omega arith
+debug_after (next.Wait n) g o = absurd o
+debug_after next.Sync g o = absurd o
+debug_after next.Fence g o = absurd o
+debug_after (next.Invalidate s a n) g o = absurd o
+debug_after next.Done g o = absurd o
+
+debug_issue : (op : Op) (t : ℕ) → IsDebugOp op → issue_of op t ≡ t ∷ []
+debug_issue (next.Access s a n command plain fenced) t o = absurd o
+debug_issue (next.Debug s a n) t o = refl
+debug_issue (next.Wait n) t o = absurd o
+debug_issue next.Sync t o = absurd o
+debug_issue next.Fence t o = absurd o
+debug_issue (next.Invalidate s a n) t o = absurd o
+debug_issue next.Done t o = absurd o
+
+debug_time : (op : Op) (t : ℕ) → IsDebugOp op → time_after op t ≡ t
+debug_time (next.Access s a n command plain fenced) t o = absurd o
+debug_time (next.Debug s a n) t o = refl
+debug_time (next.Wait n) t o = absurd o
+debug_time next.Sync t o = absurd o
+debug_time next.Fence t o = absurd o
+debug_time (next.Invalidate s a n) t o = absurd o
+debug_time next.Done t o = absurd o
+
+address_same : (op : Op) (payload : PayloadView) (t g : ℕ) → IsDebugOp op → (request_of op payload t g).address ≡ (request_of op payload 0 0).address
+address_same (next.Access s a n command plain fenced) payload t g o = absurd o
+address_same (next.Debug s a n) payload t g o = refl
+address_same (next.Wait n) payload t g o = absurd o
+address_same next.Sync payload t g o = absurd o
+address_same next.Fence payload t g o = absurd o
+address_same (next.Invalidate s a n) payload t g o = absurd o
+address_same next.Done payload t g o = absurd o
+
+new_one : (reply : Option Entry) (e : Entry) → Has (replies_of reply) e → reply ≡ Some e
+new_one None e h = absurd (has_none e h)
+new_one (Some f) e h = ap (λ (g : Entry). Some g) (has_one f e h)
+
+same_entry : (o : Option Entry) (e f : Entry) → o ≡ Some e → o ≡ Some f → e ≡ f
+same_entry o e f a b = cc
+
+some_of : (o : Option Entry) → IsSome o → (e : Entry) × (o ≡ Some e)
+some_of None s = cc
+some_of (Some e) s = (e, refl)
+
+has_reply : (o : Option Entry) (e : Entry) → o ≡ Some e → Has (replies_of o) e
+has_reply o e q = subst (λ (r : Option Entry). Has (replies_of r) e) (sym q) (0, refl)
+
+distinct_more : (xs : List Entry) (o : Option Entry) → AreDistinct xs → ((e : Entry) → o ≡ Some e → Has xs e → ⊥) → AreDistinct (xs ++ replies_of o)
+distinct_more [] None d f = tt
+distinct_more [] (Some e) d f = ((λ h. has_none e h), tt)
+distinct_more (x ∷ xs) o d f = (
+  λ h. elim (has_either xs (replies_of o) x h) [ inl a ↦ d.0 a | inr b ↦ f x (new_one o x b) (0, refl) ],
+  distinct_more xs o d.1 (λ e q h. f e q (has_later x xs e h)),
+)
+
+none_some : (pass : Passage) → None ≡ Some pass → {A : Type 0} → A
+none_some pass e = cc
+
+back_ahead : (v : Stage) → v ≡ Ahead → IsBack v → ⊥
+back_ahead Ahead q b = b
+back_ahead Under q b = b
+back_ahead (Back end calls) q b = cc
+
+under_is_ahead : (v : Stage) → v ≡ Under → v ≡ Ahead → ⊥
+under_is_ahead v a b = cc
+
+three : (k s : ℕ) → k < s + 1 → (k ≡ s) ⊎ (k < s)
+three k s l = grind arith
+
+made_none : (p : Plan) (o : ObjectNo) (x : TxnId) (v : Option Passage) → v ≡ None → (n : ℕ) → made_by (visits o x v) n ≡ 0
+made_none p (Hop h) x None q n = refl
+made_none p (Pool h) x None q n = refl
+made_none p (Memory h) x None q n = refl
+made_none p o x (Some pass) q n = cc
+
+module _ (p : Plan) (i : Initiator) (port : Port) (known more : List Event) (seen after : ℕ) (left rest : ObjectNo → ℕ) (reply : Option Entry)
+    (u : IsUnderWay p i port known seen left) (knows : Knows known more) (below : AreBelow more after) (quiet : HasSettled port)
+    (o : IsDebugOp (op_of port.engine)) (c : HasRead p i port more seen reply left rest) where
+  abbrev s : ℕ
+  s = port.engine.seq
+
+  abbrev op : Op
+  op = op_of port.engine
+
+  abbrev q : Request
+  q = request_of (op_of port.engine) (payload_of port.engine 4096) u.asking.blocking u.step
+
+  abbrev made_d : List Request
+  made_d = u.made ++ q ∷ []
+
+  abbrev stage_d : ℕ → Stage
+  stage_d = moved u.stage s (Back 0 (λ k. 0))
+
+  abbrev mine_d : List Entry
+  mine_d = u.mine ++ replies_of reply
+
+  count : length u.made ≡ s
+  count = made_count p i port known seen left u quiet.free
+
+  ahead_now : u.stage s ≡ Ahead
+  ahead_now = u.staged.ahead s (let c = count in omega arith)
+
+  within : s < count_of i
+  within = let l = more_numbers port.engine (debug_asks op o) in let c = u.asking.numbers in omega arith
+
+  stage_is : q.stage ≡ u.step + 1
+  stage_is = debug_stage (op_of port.engine) (payload_of port.engine 4096) u.asking.blocking u.step o
+
+  back_kept : (k : ℕ) → IsBack (u.stage k) → stage_d k ≡ u.stage k
+  back_kept k b = elim (same_or_not k s) [
+    | inl e ↦ absurd (back_ahead (u.stage k) (ap u.stage e ∙ ahead_now) b)
+    | inr d ↦ moved_other u.stage s (Back 0 (λ k. 0)) k d
+  ]
+
+  grows_d : Grows known more u.made made_d u.mine mine_d u.stage stage_d (u.step + 1)
+  grows_d = record {
+    knows = knows;
+    kept = λ j r e. get_kept u.made (q ∷ []) j r e;
+    new = λ j r e. elim (get_new u.made q j r e) [ inl a ↦ inl a | inr b ↦ inr (let c : q.stage ≡ r.stage = ap (λ (d : Request). d.stage) b.1 in let z = stage_is in omega arith) ];
+    has = λ e m. has_left u.mine (replies_of reply) e m;
+    back = back_kept;
+    low = λ j r e. (let l = low_made p i port known seen left u quiet.free j r e in omega arith);
+  }
+
+  agrees_d : (end : ℕ → ℕ) → Agrees stage_d end → Agrees u.stage end
+  agrees_d = agrees_less p i known more u.made made_d u.mine mine_d u.stage stage_d (u.step + 1) grows_d
+
+  issues_d : (end : ℕ → ℕ) → Agrees u.stage end → issues_at end port.time port.engine ≡ port.time ∷ issues_at end port.time (passed_by port.engine)
+  issues_d end a =
+      in_order.waiting end port.time port.engine [] (debug_waits op o) (settled_here p i port known seen left u quiet.none quiet.free quiet.settled end a)
+      ∙ (ap (λ (l : List ℕ). l ++ issues_at end (time_after op port.time) (engine_after port.engine [])) (debug_issue op port.time o)
+      ∙ (ap (λ (t : ℕ). port.time ∷ issues_at end t (engine_after port.engine [])) (debug_time op port.time o)
+      ∙ ap (λ (b : Bool). port.time ∷ issues_at end port.time (cond b (told_by port.engine []) (passed_by port.engine))) (debug_free op o)))
+
+  current_d : (end : ℕ → ℕ) → Agrees u.stage end → current_at end port.time port.engine ≡ current_at end port.time (passed_by port.engine)
+  current_d end a =
+      in_order.waiting_current end port.time port.engine [] (debug_waits op o) (settled_here p i port known seen left u quiet.none quiet.free quiet.settled end a)
+      ∙ (ap (λ (t : ℕ). current_at end t (engine_after port.engine [])) (debug_time op port.time o)
+      ∙ ap (λ (b : Bool). current_at end port.time (cond b (told_by port.engine []) (passed_by port.engine))) (debug_free op o))
+
+  is_time : IsTimeOf i u.stage s port.time
+  is_time end a = next_time p i port known seen left u port.time end a (issues_at end port.time (passed_by port.engine)) (issues_d end a)
+
+  backs : (j : ℕ) (r : Request) → slice_get u.made j ≡ Some r → IsBack (u.stage j)
+  backs j r e = all_back p i port known seen left u quiet.none quiet.free j (slice_get_within u.made j r e)
+
+  back_now : IsBack (stage_d s)
+  back_now = subst IsBack (sym (moved_here u.stage s (Back 0 (λ k. 0)))) tt
+
+  asked_here : slice_get made_d s ≡ Some q
+  asked_here = subst (λ (n : ℕ). slice_get made_d n ≡ Some q) count (get_last u.made q)
+
+  fresh : (e : Entry) → Has u.mine e → e.txn ≡ txn_of i.number s → ⊥
+  fresh e m f = back_ahead (u.stage e.txn.seq) (ap (λ (k : ℕ). u.stage k) (ap (λ (x : TxnId). x.seq) f) ∙ ahead_now) (u.has.back e m)
+
+  data Owner (e : Entry) : Type 0 where
+    Old : Has u.mine e → Owner e
+    New : reply ≡ Some e → Owner e
+
+  owner : (e : Entry) → Has mine_d e → Owner e
+  owner e m = elim (has_either u.mine (replies_of reply) e m) [ inl a ↦ Old a | inr b ↦ New (new_one reply e b) ]
+
+  within_d : (e : Entry) → Owner e → Finds (Among more) (λ f. f.entry ≡ e)
+  within_d e (Old m) = let f = u.has.within e m in record { event = f.event; known = knows f.event f.known; is = f.is }
+  within_d e (New f) = (c.entry e f).stands
+
+  own_d : (e : Entry) → Owner e → e.txn.initiator ≡ i.number
+  own_d e (Old m) = u.has.own e m
+  own_d e (New f) = ap (λ (x : TxnId). x.initiator) (c.entry e f).txn
+
+  once_d : (e f : Entry) → Owner e → Owner f → e.txn ≡ f.txn → e ≡ f
+  once_d e f (Old m) (Old n) g = u.has.once e f m n g
+  once_d e f (Old m) (New r) g = absurd (fresh e m (g ∙ (c.entry f r).txn))
+  once_d e f (New r) (Old n) g = absurd (fresh f n (sym g ∙ (c.entry e r).txn))
+  once_d e f (New r) (New t) g = same_entry reply e f r t
+
+  entry_back : (e : Entry) → Owner e → IsBack (stage_d e.txn.seq)
+  entry_back e (Old m) = let b = u.has.back e m in subst IsBack (sym (back_kept e.txn.seq b)) b
+  entry_back e (New f) = subst (λ (k : ℕ). IsBack (stage_d k)) (sym (ap (λ (x : TxnId). x.seq) (c.entry e f).txn)) back_now
+
+  served_d : (e : Entry) → Owner e → IsReply p i more e
+  served_d e (Old m) = served_more p i known more u.made made_d u.mine mine_d u.stage stage_d (u.step + 1) grows_d e (u.has.served e m)
+  served_d e (New f) = (c.entry e f).reply
+
+  reads_d : (e : Entry) → Owner e → passage_of p e.txn ≡ None → IsReading p i more made_d mine_d stage_d e
+  reads_d e (Old m) none = reading_more p i known more u.made made_d u.mine mine_d u.stage stage_d (u.step + 1) grows_d e (u.has.reads e m none)
+  reads_d e (New f) none =
+      let n : e.txn.seq ≡ s = ap (λ (x : TxnId). x.seq) (c.entry e f).txn in
+      record {
+        request = q;
+        asked = ap (slice_get made_d) n ∙ asked_here;
+        is_issued = λ end a. ap (λ (k : ℕ). get_or (issues_from end 0 0 i.script) k 0) n ∙ (is_time end (agrees_d end a) ∙ sym (c.time e f));
+        waited = waited_more p i known more u.made made_d u.mine mine_d u.stage stage_d (u.step + 1) grows_d q.stage e.position (let z = stage_is in omega arith)
+            (waited_at p i port known seen left u q.stage e.position (c.later e f) (λ j r g less. backs j r g));
+      }
+
+  entries_d : HasEntries p i more made_d mine_d stage_d
+  entries_d = record {
+    within = λ e m. within_d e (owner e m);
+    distinct = distinct_more u.mine reply u.has.distinct (λ e f m. fresh e m (c.entry e f).txn);
+    own = λ e m. own_d e (owner e m);
+    once = λ e f m n g. once_d e f (owner e m) (owner f n) g;
+    back = λ e m. entry_back e (owner e m);
+    served = λ e m. served_d e (owner e m);
+    reads = λ e m none. reads_d e (owner e m) none;
+  }
+
+  long_d : length made_d ≡ s + 1
+  long_d = let c = count in let l : length made_d ≡ length u.made + 1 = length-append u.made (q ∷ []) in omega arith
+
+  no_pass : (k : ℕ) (pass : Passage) → k ≡ s → passage_of p (txn_of i.number k) ≡ Some pass → {A : Type 0} → A
+  no_pass k pass e passes = none_some pass (sym c.no_access ∙ (ap (λ (m : ℕ). passage_of p (txn_of i.number m)) (sym e) ∙ passes))
+
+  reply_here : IsSome (route_of p.platform i q.address) → Replied mine_d (txn_of i.number s)
+  reply_here some =
+      let f = some_of reply (c.routed (subst (λ (a : ℕ). IsSome (route_of p.platform i a)) (address_same (op_of port.engine) (payload_of port.engine 4096) u.asking.blocking u.step o) some)) in
+      record { entry = f.0; has = has_right u.mine (replies_of reply) f.0 (has_reply reply f.0 f.1); of = (c.entry f.0 f.1).txn }
+
+  accesses_d : HasAccesses p i more made_d mine_d stage_d
+  accesses_d = record {
+    begun = λ k pass less passes. elim (three k s (let l = long_d in omega arith)) [
+      | inl e ↦ no_pass k pass e passes
+      | inr l ↦ begun_more p i known more u.made made_d u.mine mine_d u.stage stage_d (u.step + 1) grows_d k (u.accesses.begun k pass (let c = count in omega arith) passes)
+    ];
+    returned = λ k pass end calls b passes. elim (same_or_not k s) [
+      | inl e ↦ no_pass k pass e passes
+      | inr d ↦ returned_more p i known more u.made made_d u.mine mine_d u.stage stage_d (u.step + 1) grows_d k pass end calls (u.accesses.returned k pass end calls (sym (moved_other u.stage s (Back 0 (λ k. 0)) k d) ∙ b) passes)
+    ];
+    no_end = λ k none. elim (same_or_not k s) [
+      | inl e ↦ ap (λ (m : ℕ). end_by (stage_d m)) e ∙ ap end_by (moved_here u.stage s (Back 0 (λ k. 0)))
+      | inr d ↦ ap end_by (moved_other u.stage s (Back 0 (λ k. 0)) k d) ∙ u.accesses.no_end k none
+    ];
+    replied = λ k r e b some. elim (get_new u.made q k r e) [
+      | inl a ↦ (let l = slice_get_within u.made k r a in let t = count in
+          let g = u.accesses.replied k r a (backs k r a) some in record { entry = g.entry; has = has_left u.mine (replies_of reply) g.entry g.has; of = g.of })
+      | inr f ↦ subst (λ (m : ℕ). Replied mine_d (txn_of i.number m)) (sym (f.0 ∙ count)) (reply_here (subst (λ (d : Request). IsSome (route_of p.platform i d.address)) (sym f.1) some))
+    ];
+  }
+
+  tickets_d : HasTickets p i stage_d mine_d rest
+  tickets_d = record {
+    paid = λ b. (
+        let m : sum_below (λ k. charged p i b k (stage_d k)) (count_of i) + charged p i b s (u.stage s) ≡ sum_below (λ k. charged p i b k (u.stage k)) (count_of i) + made_at p b (txn_of i.number s) (λ k. 0) = sum_moved (λ k v. charged p i b k v) u.stage s (Back 0 (λ k. 0)) (count_of i) within in
+        let z : charged p i b s (u.stage s) ≡ 0 = ap (charged p i b s) ahead_now in
+        let w : made_at p b (txn_of i.number s) (λ k. 0) ≡ 0 = made_none p b (txn_of i.number s) (passage_of p (txn_of i.number s)) c.no_access (entries_of p (λ y k. 0) b (txn_of i.number s)) in
+        let n : length (entries_at b mine_d) ≡ length (entries_at b u.mine) + length (entries_at b (replies_of reply)) =
+        ap length (filter-append (λ (e : Entry). is_object b e.object) u.mine (replies_of reply)) ∙ length-append (entries_at b u.mine) (entries_at b (replies_of reply)) in
+        let old = u.tickets.paid b in
+        let pay = c.pays b in
+        omega arith);
+    enough = λ b. (
+        let m : sum_below (λ k. ahead p i b k (stage_d k)) (count_of i) + ahead p i b s (u.stage s) ≡ sum_below (λ k. ahead p i b k (u.stage k)) (count_of i) + 0 = sum_moved (λ k v. ahead p i b k v) u.stage s (Back 0 (λ k. 0)) (count_of i) within in
+        let z : ahead p i b s (u.stage s) ≡ price p i b s = ap (ahead p i b s) ahead_now in
+        let old = u.tickets.enough b in
+        let f = c.keeps b in
+        omega arith);
+  }
+
+  outstanding_d : length port.away ≡ outstanding_by i stage_d
+  outstanding_d =
+      let m : sum_below (λ k. under_by (stage_d k)) (count_of i) + under_by (u.stage s) ≡ sum_below (λ k. under_by (u.stage k)) (count_of i) + 0 = sum_moved (λ k v. under_by v) u.stage s (Back 0 (λ k. 0)) (count_of i) within in
+      let z : under_by (u.stage s) ≡ 0 = ap under_by ahead_now in
+      let old = u.staged.outstanding in
+      omega arith
+
+  under_d : (k : ℕ) → Among port.away k → stage_d k ≡ Under
+  under_d k m = elim (same_or_not k s) [
+    | inl e ↦ absurd (under_is_ahead (u.stage s) (ap u.stage (sym e) ∙ u.staged.under k m) ahead_now)
+    | inr d ↦ moved_other u.stage s (Back 0 (λ k. 0)) k d ∙ u.staged.under k m
+  ]
+
+  back_not_ahead : Back 0 (λ k. 0) ≡ Ahead → ⊥
+  back_not_ahead e = cc
+
+  begun_d : (k : ℕ) → k < length made_d → stage_d k ≡ Ahead → ⊥
+  begun_d k less e = elim (same_or_not k s) [
+    | inl f ↦ back_not_ahead (sym (moved_here u.stage s (Back 0 (λ k. 0))) ∙ (ap stage_d (sym f) ∙ e))
+    | inr d ↦ elim (three k s (let l = long_d in omega arith)) [
+      | inl f ↦ false_is_true (nat_eq k s) d (eq-eqb k s f)
+      | inr l ↦ u.staged.begun k (let c = count in omega arith) (sym (moved_other u.stage s (Back 0 (λ k. 0)) k d) ∙ e)
+    ]
+  ]
+
+  ahead_d : (k : ℕ) → length made_d ≤ k → stage_d k ≡ Ahead
+  ahead_d k l = let g = long_d in let c = count in moved_other u.stage s (Back 0 (λ k. 0)) k (more_differs k s (omega arith)) ∙ u.staged.ahead k (omega arith)
+
+  latest_d : port.latest ≡ settled (λ k. end_by (stage_d k)) (count_of i) 0
+  latest_d =
+      let m : settled (λ k. end_by (stage_d k)) (count_of i) 0 ≡ max (settled (λ k. end_by (u.stage k)) (count_of i) 0) 0 = ends_moved u.stage s (Back 0 (λ k. 0)) (count_of i) within (ap end_by ahead_now) in
+      let l = u.issuing.latest in
+      omega arith
+
+  refused_d : (end : ℕ → ℕ) → Agrees stage_d end → port.refused ++ refused_for p i (next_request port) port.time ≡ refused_in p i end made_d
+  refused_d end a =
+      let old : port.refused ≡ map (λ (r : Request). refused_at r (get_or (issues_from end 0 0 i.script) r.seq 0)) (filter (λ (r : Request). has_no_route p.platform i r r.asked) u.made) = u.refused end (agrees_d end a) in
+      let when : get_or (issues_from end 0 0 i.script) q.seq 0 ≡ port.time =
+      ap (λ (n : ℕ). get_or (issues_from end 0 0 i.script) n 0) (seq_of port.engine (payload_of port.engine 4096) u.asking.blocking u.step (debug_asks (op_of port.engine) o)) ∙ is_time end (agrees_d end a) in
+      let same : refused_for p i (next_request port) port.time ≡ refused_for p i q port.time = refused_same p i (op_of port.engine) (payload_of port.engine 4096) u.asking.blocking u.step port.time (debug_asks (op_of port.engine) o) in
+      ap (λ (l : List RefusedItem). l ++ refused_for p i (next_request port) port.time) old
+      ∙ (ap (λ (l : List RefusedItem). map (λ (r : Request). refused_at r (get_or (issues_from end 0 0 i.script) r.seq 0)) (filter (λ (r : Request). has_no_route p.platform i r r.asked) u.made) ++ l) (same ∙ one (has_no_route p.platform i q q.asked) port.time (sym when))
+      ∙ (sym (map-append (λ (r : Request). refused_at r (get_or (issues_from end 0 0 i.script) r.seq 0)) (filter (λ (r : Request). has_no_route p.platform i r r.asked) u.made) (filter (λ (r : Request). has_no_route p.platform i r r.asked) (q ∷ [])))
+      ∙ ap (map (λ (r : Request). refused_at r (get_or (issues_from end 0 0 i.script) r.seq 0))) (sym (filter-append (λ (r : Request). has_no_route p.platform i r r.asked) u.made (q ∷ [])))))
+    where
+      one : (b : Bool) (x : ℕ) → x ≡ get_or (issues_from end 0 0 i.script) q.seq 0 → cond b (refused_at q x ∷ []) [] ≡ map (λ (r : Request). refused_at r (get_or (issues_from end 0 0 i.script) r.seq 0)) (cond b (q ∷ []) [])
+      one false x e = refl
+      one true x e = ap (λ (n : ℕ). refused_at q n ∷ []) e
+
+  asks_d : asked_by op (payload_of port.engine 4096) u.asking.blocking u.step ≡ q ∷ []
+  asks_d = asks_one (op_of port.engine) (payload_of port.engine 4096) u.asking.blocking u.step (debug_asks op o)
+
+  seq_d : (passed_by port.engine).seq ≡ port.engine.seq + 1
+  seq_d = passes.seq port.engine 4096 u.asking.blocking u.step (debug_free op o) ∙ ap (λ (l : List Request). port.engine.seq + length l) asks_d
+
+  all_back_d : (j : ℕ) (r : Request) → slice_get made_d j ≡ Some r → IsBack (stage_d j)
+  all_back_d j r e = elim (get_new u.made q j r e) [
+    | inl a ↦ (let b = backs j r a in subst IsBack (sym (back_kept j b)) b)
+    | inr f ↦ subst (λ (m : ℕ). IsBack (stage_d m)) (sym (f.0 ∙ count)) back_now
+  ]
+
+  reads_debug : IsUnderWay p i (record port { engine = passed_by port.engine; refused = port.refused ++ refused_for p i (next_request port) port.time }) more after rest
+  reads_debug = record {
+    made = made_d;
+    mine = mine_d;
+    stage = stage_d;
+    step = stage_after (op_of port.engine) u.step;
+    below = below;
+    asking = record {
+      blocking = time_after_op p.platform i u.asking.blocking (op_of port.engine);
+      passed = u.asking.passed ++ q ∷ [];
+      is_made = ap (λ (l : List Request). l ++ q ∷ []) (made_passed p i port known seen left u quiet.free)
+          ∙ (sym (append-nil (u.asking.passed ++ q ∷ [])) ∙ ap (λ (l : List Request). (u.asking.passed ++ q ∷ []) ++ l) (sym (ap (λ (b : Bool). pending b (passed_by port.engine) (time_after_op p.platform i u.asking.blocking (op_of port.engine)) (stage_after (op_of port.engine) u.step)) quiet.free)));
+      asked = λ m. ap (requests_of p.platform i) (append_assoc u.mine (replies_of reply) m)
+          ∙ (u.asking.asked (replies_of reply ++ m)
+          ∙ (ap (λ (l : List Entry). u.asking.passed ++ requests_at p.platform i l u.asking.blocking u.step port.engine) (sym (append_assoc u.mine (replies_of reply) m))
+          ∙ (ap (λ (l : List Request). u.asking.passed ++ l) (passes.requests p.platform i ((u.mine ++ replies_of reply) ++ m) u.asking.blocking u.step 4096 port.engine (debug_free op o)
+          ∙ ap (λ (l : List Request). l ++ requests_at p.platform i ((u.mine ++ replies_of reply) ++ m) (time_after_op p.platform i u.asking.blocking (op_of port.engine)) (stage_after (op_of port.engine) u.step) (passed_by port.engine)) asks_d)
+          ∙ sym (append_assoc u.asking.passed (q ∷ []) (requests_at p.platform i ((u.mine ++ replies_of reply) ++ m) (time_after_op p.platform i u.asking.blocking (op_of port.engine)) (stage_after (op_of port.engine) u.step) (passed_by port.engine))))));
+      count = length-append u.asking.passed (q ∷ []) ∙ (ap (λ (n : ℕ). n + 1) u.asking.count ∙ sym seq_d);
+      fenced = λ w. false_is_true port.waiting quiet.free w;
+      numbers = passes.numbers port.engine (debug_free op o) ∙ u.asking.numbers;
+      low = λ j r e. (
+          let z : top port.waiting (stage_after (op_of port.engine) u.step) ≡ stage_after (op_of port.engine) u.step = ap (λ (b : Bool). top b (stage_after (op_of port.engine) u.step)) quiet.free in
+          let f = debug_after op u.step o in
+          elim (get_new u.made q j r e) [
+            | inl a ↦ (let l = low_made p i port known seen left u quiet.free j r a in omega arith)
+            | inr b ↦ (let d : q.stage ≡ r.stage = ap (λ (g : Request). g.stage) b.1 in let st = stage_is in omega arith)
+          ]);
+    };
+    issuing = record {
+      issues = λ end a k. (
+          let one : port.engine.seq + 1 + k ≡ port.engine.seq + suc k = omega arith in
+          ap (λ (n : ℕ). get_or (issues_from end 0 0 i.script) (n + k) 0) seq_d
+          ∙ (ap (λ (n : ℕ). get_or (issues_from end 0 0 i.script) n 0) one
+          ∙ (u.issuing.issues end (agrees_d end a) (suc k)
+          ∙ get_tail (issues_at end port.time port.engine) (issues_at end port.time (passed_by port.engine)) port.time k (issues_d end (agrees_d end a)))));
+      current = λ end a. u.issuing.current end (agrees_d end a) ∙ current_d end (agrees_d end a);
+      latest = latest_d;
+      settled = λ w. false_is_true port.waiting quiet.free w;
+    };
+    staged = record {
+      begun = begun_d;
+      ahead = ahead_d;
+      waits = λ w. false_is_true port.waiting quiet.free w;
+      back = λ j r e less. all_back_d j r e;
+      alone = λ w. false_is_true port.waiting quiet.free w;
+      under = under_d;
+      outstanding = outstanding_d;
+    };
+    has = entries_d;
+    accesses = accesses_d;
+    tickets = tickets_d;
+    refused = refused_d;
+  }
+
+pub debug_read : ReadsDebug
+debug_read p i port known more seen after left rest reply u knows below quiet o c = reads_debug p i port known more seen after left rest reply u knows below quiet o c

@@ -1,0 +1,295 @@
+// Accesses along the routes of a net.
+ghost use Rattle.std.specs.Prelude.{◌≡◌, ◌<◌, Some, true, false, length, slice_get, slice_set};
+ghost use Rattle.std.specs.Option.{ForSome};
+ghost use Rattle.tlm_types.specs.declared.words.Command.TheVariants.{Read};
+ghost use Rattle.tlm_model.specs.Store.{zeros};
+ghost use Rattle.plat_build.specs.Calls.{CanPay, route_at};
+ghost use Rattle.run_tests.specs.Bag.{IsBag};
+
+use crate::bench::plan_of;
+use blocking_path::{b_transport, transport_dbg};
+use generic_payload::Payload;
+use plat_build::{Built, Carried, Kept, Net, Opened, PlatNote, Start, TlmLaw, build};
+use route_plan::Plan;
+use shared_object::Naming;
+use std::alloc::Global;
+use std::marker::Brand;
+use std::process::Abort;
+use std::sync::Wait;
+use std::test::Fail;
+use std::thread::{Threads, join};
+use tlm_types::{Ps, Response, TxnId};
+use token_book::Wallet;
+
+/// Two initiators before a router of 5 ps with two memories of 10 and 20 ps; nothing is at 0x200.
+const BUS: &str = "version = 1\n\
+                   [[initiator]]\nname = 'one'\nstyle = 'blocking'\nscript = 'a'\nbind = 'bus'\n\
+                   [[initiator]]\nname = 'two'\nstyle = 'blocking'\nscript = 'a'\nbind = 'bus'\n\
+                   [[router]]\nname = 'bus'\nlatency = 5\n\
+                   [[router.window]]\nfirst = 0\nlast = 0xff\nto = 'ram'\n\
+                   [[router.window]]\nfirst = 0x100\nlast = 0x1ff\nto = 'far'\n\
+                   [[memory]]\nname = 'ram'\nsize = 16\nlatency = 10\n\
+                   [[memory]]\nname = 'far'\nsize = 16\nlatency = 20\n";
+
+/// What each of them asks for.
+const SCRIPT: &str = "write 0x104 aabb\nread 0x104 2\ndebug 0x105 2\nread 0x200 2\n";
+
+/// What an initiator goes about with.
+#[derive(Drop)]
+struct Bag {
+    payload: Payload,
+    note: PlatNote,
+    wallet: Wallet,
+    seq: u64,
+    at: Ps,
+}
+
+// The wallet has a ticket for it, where it has a route.
+fn can_pay<N: Naming<Plan, TlmLaw>>(
+    rt: &impl Abort,
+    net: &Net<N>,
+    who: u32,
+    payload: &Payload,
+    wallet: &Wallet,
+)
+    requires { who < length net.now.platform.initiators }
+    ensures { ForSome (route_at net.now who payload.now.address) (CanPay payload.now wallet.now) }
+{
+    if let Some(route) = net.plan().route(who, payload.address()) {
+        let bytes = payload.bytes().len() + payload.enables().len();
+        assert!(rt; wallet.left(route.memory) > 0);
+        assert!(rt; wallet.bytes(route.memory) >= bytes as u64);
+    }
+}
+
+// Makes the access of the payload.
+fn access<N: Naming<Plan, TlmLaw>, R: Wait + Abort>(rt: &R, net: &Net<N>, who: u32, bag: Bag) -> Bag
+    requires who { who < length net.now.platform.initiators }
+    requires bag { IsBag N.table N.tokens bag.payload bag.note bag.wallet }
+    requires buffer { bag.payload.command ≡ Read → bag.payload.bytes ≡ zeros (length bag.payload.bytes) }
+    ensures { IsBag N.table N.tokens result.payload result.note result.wallet }
+{
+    let Bag {
+        payload,
+        note,
+        mut wallet,
+        seq,
+        at,
+    } = bag;
+    can_pay::<N>(rt, net, who, &payload, &wallet);
+    let txn = TxnId {
+        initiator: who,
+        seq,
+    };
+    let Carried { payload, note, at } = b_transport(
+        net,
+        rt,
+        who,
+        payload,
+        note,
+        &mut wallet,
+        txn,
+        at,
+    );
+    Bag {
+        payload,
+        note,
+        wallet,
+        seq: seq.saturating_add(1),
+        at,
+    }
+}
+
+// Makes the debug read of the payload.
+fn look<N: Naming<Plan, TlmLaw>, R: Wait + Abort>(rt: &R, net: &Net<N>, who: u32, bag: Bag) -> Bag
+    requires who { who < length net.now.platform.initiators }
+    requires bag { IsBag N.table N.tokens bag.payload bag.note bag.wallet }
+    requires read { bag.payload.command ≡ Read }
+    ensures { IsBag N.table N.tokens result.payload result.note result.wallet }
+{
+    let Bag {
+        payload,
+        note,
+        mut wallet,
+        seq,
+        at,
+    } = bag;
+    can_pay::<N>(rt, net, who, &payload, &wallet);
+    let txn = TxnId {
+        initiator: who,
+        seq,
+    };
+    let Carried { payload, note, at } = transport_dbg(
+        net,
+        rt,
+        who,
+        payload,
+        note,
+        &mut wallet,
+        txn,
+        at,
+    );
+    Bag {
+        payload,
+        note,
+        wallet,
+        seq: seq.saturating_add(1),
+        at,
+    }
+}
+
+// A write of two bytes.
+fn write<N: Naming<Plan, TlmLaw>, R: Wait + Abort>(
+    rt: &R,
+    net: &Net<N>,
+    who: u32,
+    mut bag: Bag,
+    address: u64,
+) -> Bag
+    requires who { who < length net.now.platform.initiators }
+    requires bag { IsBag N.table N.tokens bag.payload bag.note bag.wallet }
+    ensures { IsBag N.table N.tokens result.payload result.note result.wallet }
+{
+    bag.payload.set_write(address, &[0xaa, 0xbb], 2);
+    access::<N, R>(rt, net, who, bag)
+}
+
+// A read of two bytes.
+fn read<N: Naming<Plan, TlmLaw>, R: Wait + Abort>(
+    rt: &R,
+    net: &Net<N>,
+    who: u32,
+    mut bag: Bag,
+    address: u64,
+) -> Bag
+    requires who { who < length net.now.platform.initiators }
+    requires bag { IsBag N.table N.tokens bag.payload bag.note bag.wallet }
+    ensures { IsBag N.table N.tokens result.payload result.note result.wallet }
+{
+    bag.payload.set_read(address, 2, 2);
+    access::<N, R>(rt, net, who, bag)
+}
+
+// A debug read of two bytes.
+fn debug<N: Naming<Plan, TlmLaw>, R: Wait + Abort>(
+    rt: &R,
+    net: &Net<N>,
+    who: u32,
+    mut bag: Bag,
+    address: u64,
+) -> Bag
+    requires who { who < length net.now.platform.initiators }
+    requires bag { IsBag N.table N.tokens bag.payload bag.note bag.wallet }
+    ensures { IsBag N.table N.tokens result.payload result.note result.wallet }
+{
+    bag.payload.set_read(address, 2, 2);
+    look::<N, R>(rt, net, who, bag)
+}
+
+// A write, a read of what was written, a debug read from its second byte on, and a read of what no window
+// has.
+fn tour<N: Naming<Plan, TlmLaw>, R: Wait + Abort>(rt: &R, net: &Net<N>, who: u32, bag: Bag) -> Bag
+    requires who { who < length net.now.platform.initiators }
+    requires bag { IsBag N.table N.tokens bag.payload bag.note bag.wallet }
+    ensures { IsBag N.table N.tokens result.payload result.note result.wallet }
+{
+    let bag = write::<N, R>(rt, net, who, bag, 0x104);
+    assert_eq!(rt; (bag.payload.status(), bag.at), (Response::Ok, 25));
+    let bag = read::<N, R>(rt, net, who, bag, 0x104);
+    assert_eq!(rt; (bag.payload.status(), bag.at), (Response::Ok, 50));
+    assert_eq!(rt; bag.payload.bytes(), [0xaa, 0xbb].as_slice());
+    let bag = debug::<N, R>(rt, net, who, bag, 0x105);
+    assert_eq!(rt; (bag.payload.status(), bag.at), (Response::Ok, 50));
+    assert_eq!(rt; bag.payload.bytes(), [0xbb, 0].as_slice());
+    let bag = read::<N, R>(rt, net, who, bag, 0x200);
+    assert_eq!(rt;
+        (bag.payload.status(), bag.at),
+        (Response::AddressError, 55)
+    );
+    assert_eq!(rt; (bag.wallet.left(0), bag.wallet.left(1)), (0, 0));
+    bag
+}
+
+// What an initiator of the two starts with.
+fn bag_of<N: Naming<Plan, TlmLaw>>(kept: &mut Kept<N>, who: u32) -> Bag
+    requires { slice_get kept.old.starts who ≡ Some true }
+    ensures bag { IsBag N.table N.tokens result.payload result.note result.wallet }
+    ensures kept { kept.new ≡ record kept.old { starts = slice_set kept.old.starts who false } }
+{
+    let Start {
+        engine: _,
+        payload,
+        note,
+        wallet,
+    } = kept.start(who);
+    Bag {
+        payload,
+        note,
+        wallet,
+        seq: 0,
+        at: 0,
+    }
+}
+
+// One initiator goes about alone. The call picks N.
+fn alone<N: Naming<Plan, TlmLaw>, R: Wait + Abort>(
+    rt: &R,
+    alloc: Global,
+    plan: &Plan,
+    opened: Opened,
+) -> Result<(), Fail>
+    requires history { (opened.table ≡ N.table) × (opened.frame ≡ N.frame) }
+    requires tickets { opened.tokens ≡ N.tokens }
+    requires plan { plan.now ≡ N.frame.world }
+    requires two { length plan.now.platform.initiators ≡ 2 }
+{
+    let Built {
+        net,
+        mut kept,
+        seats: _,
+    } = build::<N>(alloc, opened, plan)?;
+    let bag = bag_of::<N>(&mut kept, 0);
+    let _ = tour::<N, R>(rt, &net, 0, bag);
+    Ok(())
+}
+
+// Both go about at once, each on a thread of its own. The call picks N.
+fn both<N: Naming<Plan, TlmLaw> + Send + Sync, R: Threads + Wait + Abort + Sync>(
+    rt: &R,
+    alloc: Global,
+    plan: &Plan,
+    opened: Opened,
+) -> Result<(), Fail>
+    requires history { (opened.table ≡ N.table) × (opened.frame ≡ N.frame) }
+    requires tickets { opened.tokens ≡ N.tokens }
+    requires plan { plan.now ≡ N.frame.world }
+    requires two { length plan.now.platform.initiators ≡ 2 }
+{
+    let Built {
+        net,
+        mut kept,
+        seats: _,
+    } = build::<N>(alloc, opened, plan)?;
+    let one = bag_of::<N>(&mut kept, 0);
+    let two = bag_of::<N>(&mut kept, 1);
+    let _ = join(
+        rt,
+        || tour::<N, R>(rt, &net, 0, one),
+        || tour::<N, R>(rt, &net, 1, two),
+    );
+    Ok(())
+}
+
+#[test]
+fn an_initiator_makes_its_accesses(rt: HostRuntime) -> Result<(), Fail> {
+    let plan = plan_of(&rt, rt.alloc(), BUS, &[SCRIPT, SCRIPT])?;
+    let opened = Opened::new(rt.alloc(), &plan)?;
+    alone::<Brand, HostRuntime>(&rt, rt.alloc(), &plan, opened)
+}
+
+#[test]
+fn two_threads_transport_at_once(rt: HostRuntime) -> Result<(), Fail> {
+    let plan = plan_of(&rt, rt.alloc(), BUS, &[SCRIPT, SCRIPT])?;
+    let opened = Opened::new(rt.alloc(), &plan)?;
+    both::<Brand, HostRuntime>(&rt, rt.alloc(), &plan, opened)
+}

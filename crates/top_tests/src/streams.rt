@@ -1,0 +1,151 @@
+// What the program writes to its two streams.
+ghost use Rattle.std.specs.Prelude.{false};
+
+use crate::bench::{library, words_of};
+use outside::{MapLibrary, NoPace, Stream, StreamSink};
+use std::alloc::Global;
+use std::io;
+use std::io::Write;
+use std::sync::Wait;
+use std::test::Fail;
+use std::thread::Threads;
+use tlm_top::serve;
+
+// The number of an answer, and what the second stream holds; and the first stream.
+#[derive(Drop)]
+struct Served<O: Drop> {
+    number: u8,
+    out: O,
+    diag: Vec<u8>,
+}
+
+fn serve_over<R: AllocGlobal + Threads + Wait + Sync, O: Stream + Drop>(
+    rt: &R,
+    words: &str,
+    mut lib: MapLibrary,
+    out: O,
+) -> Result<Served<O>, Fail> {
+    let alloc = rt.alloc();
+    let words = words_of(alloc, words)?;
+    let mut out = StreamSink::new(alloc, out)?;
+    let mut diag = StreamSink::new(alloc, Vec::new(alloc))?;
+    let exit = serve(rt, alloc, &words, &mut lib, &mut out, &mut diag, &NoPace);
+    Ok(Served {
+        number: exit.number(),
+        out: out.into_inner(),
+        diag: diag.into_inner(),
+    })
+}
+
+const OVERLAP: &str = "version = 1
+[[initiator]]
+name = 'cpu'
+style = 'blocking'
+script = 'a.txt'
+bind = 'bus'
+[[router]]
+name = 'bus'
+[[router.window]]
+first = 0
+last = 0xfff
+to = 'ram'
+[[router.window]]
+first = 0x800
+last = 0x8ff
+to = 'ram'
+[[memory]]
+name = 'ram'
+size = 16
+";
+
+const REPORT: &str =
+    "tlm-report 1\n0 0 cpu.0 ram blocking write 0x10 4 be=- sw=4 deadbeef ok\n1 10 cpu.1 ram blocking read 0x10 4 be=- sw=4 deadbeef ok\ninitiator cpu blocking transactions 2 refused 0 syncs 2 end 20\nmemory ram 256\n00000010 deadbeef000000000000000000000000\nend 2\n";
+
+const USAGE: &str =
+    "usage: tlmrun run FILE [--workers N] [--trace all|accesses|none]; tlmrun gen SEED [--workers N]; tlmrun script FILE\n";
+
+// Words, the number of the answer, and what the two streams hold.
+static ANSWERS: [(&str, u8, &str, &str); 5] = [
+    ("script a.txt", 0, REPORT, ""),
+    ("script", 1, "", USAGE),
+    (
+        "run p.toml",
+        2,
+        "",
+        "platform refused: overlap router[0].window[1] window[0]\n",
+    ),
+    (
+        "script b.txt",
+        3,
+        "",
+        "script refused: cpu line 1: bad_hex\n",
+    ),
+    ("script c.txt", 4, "", "read fault: c.txt\n"),
+];
+
+// A library with a script, one that is refused, and a platform that is.
+fn files(alloc: Global) -> Result<MapLibrary, Fail> {
+    let files = [
+        ("a.txt", "write 0x10 deadbeef\nread 0x10 4\n"),
+        ("b.txt", "write 0x0 abc\n"),
+        ("p.toml", OVERLAP),
+    ];
+    library(alloc, &files, Vec::new(alloc))
+}
+
+#[test]
+fn streams_hold_the_report_or_the_line(rt: HostRuntime) -> Result<(), Fail> {
+    let alloc = rt.alloc();
+    for (words, number, out, diag) in ANSWERS {
+        let came = serve_over(&rt, words, files(alloc)?, Vec::new(alloc))?;
+        assert_eq!(rt; came.number, number, "{words}");
+        assert_eq!(rt; came.out.as_slice(), out.as_bytes());
+        assert_eq!(rt; came.diag.as_slice(), diag.as_bytes());
+    }
+    Ok(())
+}
+
+#[test]
+fn a_file_too_long_is_told_on_the_stream(rt: HostRuntime) -> Result<(), Fail> {
+    let alloc = rt.alloc();
+    let feeds = vec![in alloc; b'\n'; 4_194_305]?;
+    let lib = library(
+        alloc,
+        &[("a.txt", str::from_utf8(&feeds)?)],
+        Vec::new(alloc),
+    )?;
+    let came = serve_over(&rt, "script a.txt", lib, Vec::new(alloc))?;
+    assert_eq!(rt; came.number, 7);
+    assert_eq!(rt; came.out.len(), 0);
+    assert_eq!(rt; came.diag.as_slice(), b"too long: a.txt\n".as_slice());
+    Ok(())
+}
+
+// A stream that takes all, and whose flush fails.
+#[derive(Drop)]
+struct Closed;
+
+impl Write for Closed {
+    fn write(&mut self, buf: &[u8]) -> io::Result<usize> {
+        Ok(buf.len())
+    }
+
+    fn flush(&mut self) -> io::Result<()> {
+        Err(io::Error::from(io::ErrorKind::Other))
+    }
+}
+
+impl Stream for Closed {
+    ghost tells = { false };
+
+    ghost told = { λ _. tt };
+}
+
+// The report was collected whole, and is lost when it is written in the end.
+#[test]
+fn a_lost_report_is_a_write_fault(rt: HostRuntime) -> Result<(), Fail> {
+    let came = serve_over(&rt, "script a.txt", files(rt.alloc())?, Closed)?;
+    assert_eq!(rt; came.number, 5);
+    assert_eq!(rt; came.diag.as_slice(), b"write fault\n".as_slice());
+    Ok(())
+}

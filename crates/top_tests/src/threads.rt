@@ -1,0 +1,157 @@
+// Runs by two worker threads.
+use crate::bench::{Came, call, calm, library};
+use outside::Pace;
+use std::process::Abort;
+use std::sync::atomic::{AtomicU64, Ordering};
+use std::test::Fail;
+
+// Two initiators that raise one counter far ahead of one another.
+const COUNTER: &str = "version = 1
+quantum = 1000000
+[[initiator]]
+name = 'i0'
+style = 'blocking'
+script = 'a.txt'
+bind = 'ram'
+[[initiator]]
+name = 'i1'
+style = 'blocking'
+script = 'a.txt'
+bind = 'ram'
+[[memory]]
+name = 'ram'
+size = 4096
+latency = 10
+";
+
+// What stands at 0 by the last write of a report, and by its memory, as little-endian numbers.
+fn counters(report: &str) -> Option<(u32, u32)> {
+    let mut written = None;
+    let mut kept = None;
+    for line in report.lines() {
+        if line.contains(" write ") {
+            written = little_endian(line.split(' ').nth(10)?);
+        }
+        if let Some(row) = line.strip_prefix("00000000 ") {
+            kept = little_endian(row.get(..8)?);
+        }
+    }
+    Some((written?, kept?))
+}
+
+fn little_endian(digits: &str) -> Option<u32> {
+    let number = u32::from_str_radix(digits, 16).ok()?;
+    Some(number.swap_bytes())
+}
+
+// The lines of the initiators and the first ones of the memory.
+const COUNTER_ENDS: &str =
+    "\ninitiator i0 blocking transactions 2000 refused 0 syncs 0 end 20000\ninitiator i1 blocking transactions 2000 refused 0 syncs 0 end 20000\nmemory ram 4096\n00000000 ";
+
+#[test]
+fn two_initiators_raise_one_counter(rt: HostRuntime) -> Result<(), Fail> {
+    let files = [
+        ("p.toml", COUNTER),
+        ("a.txt", "repeat 1000\nadd 0x0 1\nend\n"),
+    ];
+    let came = calm(&rt, "run p.toml --workers 2", &files)?;
+    assert_eq!(rt; came.number, 0);
+    let report = str::from_utf8(came.out.bytes())?;
+    assert!(rt; report.contains(COUNTER_ENDS));
+    assert!(rt; report.ends_with("\nend 4000\n"));
+    assert_eq!(rt; report.lines().count(), 4006);
+    let (written, kept) = counters(report).ok_or("no counter")?;
+    assert_eq!(rt; written, kept);
+    assert!(rt; 2 <= kept);
+    assert!(rt; kept <= 2000);
+    Ok(())
+}
+
+// How often a held initiator looks whether it may go on.
+const LOOKS: u32 = 1_000_000_000;
+
+// Holds an initiator before its first access until the other one has announced its second.
+#[derive(Drop)]
+struct Holding {
+    held: u32,
+    announced: AtomicU64,
+    gave_up: AtomicU64,
+}
+
+impl Holding {
+    fn hold(&self) {
+        for _look in 0..LOOKS {
+            if self.announced.load(Ordering::SeqCst) == 1 {
+                return;
+            }
+        }
+        self.gave_up.store(1, Ordering::SeqCst);
+    }
+}
+
+impl Pace for Holding {
+    fn before(&self, initiator: u32, seq: u64) {
+        if initiator != self.held && seq == 1 {
+            self.announced.store(1, Ordering::SeqCst);
+        }
+        if initiator == self.held && seq == 0 {
+            self.hold();
+        }
+    }
+}
+
+// Two initiators on one memory that run far ahead of one another.
+const TWO: &str = "version = 1
+quantum = 1000000
+[[initiator]]
+name = 'one'
+style = 'blocking'
+script = 'one.txt'
+bind = 'ram'
+[[initiator]]
+name = 'two'
+style = 'blocking'
+script = 'two.txt'
+bind = 'ram'
+[[memory]]
+name = 'ram'
+size = 16
+";
+
+static TWO_FILES: [(&str, &str); 3] = [
+    ("p.toml", TWO),
+    ("one.txt", "write 0x0 aa\nfence\nread 0x1 1\n"),
+    ("two.txt", "write 0x1 bb\nfence\nread 0x0 1\n"),
+];
+
+// The first entry of the report is this one, and there are four.
+fn begins_with(rt: &impl Abort, came: &Came, entry: &str) -> Result<(), Fail> {
+    assert_eq!(rt; came.number, 0);
+    let report = str::from_utf8(came.out.bytes())?;
+    assert_eq!(rt; report.lines().nth(1), Some(entry));
+    assert!(rt; report.ends_with("\nend 4\n"));
+    Ok(())
+}
+
+// With two workers, each initiator can be held while the other one goes on: then the other one's first
+// access comes first.
+#[test]
+fn two_at_once(rt: HostRuntime) -> Result<(), Fail> {
+    let alloc = rt.alloc();
+    let entries = [
+        "0 0 two.0 ram blocking write 0x1 1 be=- sw=1 bb ok",
+        "0 0 one.0 ram blocking write 0x0 1 be=- sw=1 aa ok",
+    ];
+    for (held, entry) in entries.iter().enumerate() {
+        let pace = Holding {
+            held: held as u32,
+            announced: AtomicU64::new(0),
+            gave_up: AtomicU64::new(0),
+        };
+        let lib = library(alloc, &TWO_FILES, Vec::new(alloc))?;
+        let came = call(&rt, "run p.toml --workers 2", lib, Vec::new(alloc), &pace)?;
+        assert_eq!(rt; pace.gave_up.load(Ordering::SeqCst), 0);
+        begins_with(&rt, &came, entry)?;
+    }
+    Ok(())
+}
