@@ -1,4 +1,4 @@
-//! The windows of a router.
+//! The windows of a router, which is an interconnect component (IEEE 1666-2011, clause 10.4).
 //!
 //! - `Window` is one window: a range of addresses that leads to a port, whose target sees it from a
 //!   base on.

@@ -21,11 +21,12 @@ use std::sync::Wait;
 use tlm_types::{Ps, Response, TxnId, Way};
 use token_book::Wallet;
 
-/// Makes an access of an initiator by blocking transport, issued at `at`, in picoseconds. Along its route
-/// it passes the routers, each of which adds its latency and translates the address, and arrives at a
-/// memory, where it is one entry, at the time of arrival. The time that comes back is `at` and the
-/// latency of the whole route. Where a router on the way has no window for the address, the status is
-/// ADDRESS_ERROR, there is no entry, and the latency of that router counts too.
+/// The standard's `b_transport` (clause 11.1.1): makes an access of an initiator by blocking transport,
+/// issued at `at`, in picoseconds. Along its route it passes the routers, each of which adds its
+/// latency and translates the address, and arrives at a memory, where it is one entry, at the time of
+/// arrival. The time that comes back is `at` and the latency of the whole route. Where a router on the
+/// way has no window for the address, the status is ADDRESS_ERROR, there is no entry, and the latency
+/// of that router counts too.
 pub fn b_transport<N: Naming<Plan, TlmLaw>, R: Wait>(
     net: &Net<N>,
     rt: &R,
@@ -38,14 +39,20 @@ pub fn b_transport<N: Naming<Plan, TlmLaw>, R: Wait>(
 ) -> Carried
     requires who { who < length net.now.platform.initiators }
     requires buffer { payload.command ≡ Read → payload.bytes ≡ zeros (length payload.bytes) }
+
+    // Who pays for it.
     requires note { IsNote N.table note }
     requires wallet { IsOf N.tokens wallet.old }
     requires ticket { ForSome (route_at net.now who payload.address) (CanPay payload wallet.old) }
+
+    // What happened at the memory, where there is a route.
     ensures entry { IfSome (route_at net.now who payload.address) (λ route. IsCalled net.now route.memory
         (Access txn (later at route.before) Blocking (record payload { address = route.offset }))
         note.knows result.note.knows result.payload) }
     ensures no_entry { IfNone (route_at net.now who payload.address)
         ((result.payload ≡ record payload { status = AddressError }) × (result.note ≡ note)) }
+
+    // What comes back.
     ensures room { result.payload.room ≡ payload.room }
     ensures time { result.at ≡ later at (walk_at net.now who payload.address).latency }
     ensures note { IsNote N.table result.note }
@@ -82,12 +89,18 @@ pub fn b_transport_along<N: Naming<Plan, TlmLaw>, B: Reach<N>, R: Wait>(
 ) -> Carried
     requires memory { route.now.memory < length N.frame.world.platform.memories }
     requires buffer { payload.command ≡ Read → payload.bytes ≡ zeros (length payload.bytes) }
+
+    // Who pays for it.
     requires note { IsNote N.table note }
     requires wallet { IsOf N.tokens wallet.old }
     requires ticket { CanPay payload wallet.old route.now }
+
+    // What happened at the memory.
     ensures entry { IsCalled N.frame.world route.now.memory
         (Access txn (later at route.now.before) Blocking (record payload { address = route.now.offset }))
         note.knows result.note.knows result.payload }
+
+    // What comes back.
     ensures room { result.payload.room ≡ payload.room }
     ensures time { result.at ≡ later at route.now.latency }
     ensures note { IsNote N.table result.note }
@@ -124,13 +137,19 @@ pub fn transport_dbg<N: Naming<Plan, TlmLaw>, R: Wait>(
 ) -> Carried
     requires who { who < length net.now.platform.initiators }
     requires read { payload.command ≡ Read }
+
+    // Who pays for it.
     requires note { IsNote N.table note }
     requires wallet { IsOf N.tokens wallet.old }
     requires ticket { ForSome (route_at net.now who payload.address) (CanPay payload wallet.old) }
+
+    // What happened at the memory, where there is a route.
     ensures entry { IfSome (route_at net.now who payload.address) (λ route. IsCalled net.now route.memory
         (Debug txn at (record payload { address = route.offset })) note.knows result.note.knows result.payload) }
     ensures no_entry { IfNone (route_at net.now who payload.address)
         ((result.payload ≡ record payload { status = AddressError }) × (result.note ≡ note)) }
+
+    // What comes back.
     ensures room { result.payload.room ≡ payload.room }
     ensures time { result.at ≡ at }
     ensures note { IsNote N.table result.note }

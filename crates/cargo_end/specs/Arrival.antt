@@ -5,6 +5,7 @@ use Rattle.tlm_types.specs.declared.words.ObjectNo.{ObjectNo}
 use Rattle.tlm_types.specs.declared.words.ObjectNo.TheVariants.{Memory, Hop, Pool}
 use Rattle.tlm_types.specs.declared.entry.Entry.{Entry}
 use Rattle.tlm_model.specs.declared.platform.Style.TheVariants.{FourPhase}
+use Rattle.tlm_model.specs.declared.ask.Ask.TheVariants.{Access as AnAccess}
 use Rattle.tlm_model.specs.History.{entries_at}
 use Rattle.tlm_model.specs.Plan.{Plan, Initiator}
 use Rattle.tlm_model.specs.Requests.{got_in}
@@ -14,7 +15,6 @@ use Rattle.flow_model.specs.World.{IsPassage, hop_count}
 use Rattle.flow_model.specs.Events.{Event, Finds, FindsAt, IsTake}
 use Rattle.flow_model.specs.Platform.{passage_of, world_of}
 use Rattle.route_plan.specs.Planned.{at_hop, at_memory, at_pool}
-use Rattle.route_plan.specs.Planned.Ask.{AnAccess}
 use Rattle.cargo_model.specs.Known.{number_of}
 use Rattle.cargo_model.specs.Laws.{Case, HasEnded, LeftAtEnd, knows}
 use Rattle.cargo_model.specs.Origins.{AreThere}

@@ -1,5 +1,5 @@
 -- The way of a request, and the numbers of objects.
-use Rattle.std.proofs.Common.{◌≡◌, ℕ, zero, suc, ◌+◌, ◌<◌, List, [], ◌∷◌, cond, not, Bool, true, false, Option, Some, None, refl, sym, ◌∙◌, ap, arith, subst, inl, inr}
+use Rattle.std.proofs.Common.{◌≡◌, ℕ, suc, ◌+◌, ◌<◌, List, [], ◌∷◌, cond, not, Bool, true, false, Option, Some, None, refl, sym, ◌∙◌, ap, arith, subst, inl, inr}
 use Rattle.std.specs.Prelude.{slice_get, is_some, ◌≢◌}
 use Rattle.std.specs.List.{position_or_len}
 use Rattle.std.proofs.lemmas.Bool.{eq-eqb, eqb-true}
@@ -7,77 +7,29 @@ use Rattle.tlm_types.specs.declared.words.ObjectNo.{ObjectNo}
 use Rattle.tlm_types.specs.declared.words.ObjectNo.TheVariants.{Memory, Hop, Pool}
 use Rattle.tlm_types.specs.declared.entry.Access.{Access}
 use Rattle.tlm_types.specs.declared.entry.Entry.{Entry}
-use Rattle.tlm_model.specs.declared.operation.Operation.{Operation}
-use Rattle.tlm_model.specs.declared.operation.Operation.TheVariants.{Write, Read, Ignore, Debug, Copy, Add, Wait, Sync, Fence, Invalidate}
 use Rattle.tlm_model.specs.declared.platform.Platform.{Platform}
 use Rattle.tlm_model.specs.declared.platform.Style.{Style}
 use Rattle.tlm_model.specs.declared.platform.Style.TheVariants.{Blocking, Direct, FourPhase}
 use Rattle.tlm_model.specs.History.{is_object}
+use Rattle.tlm_model.specs.Actions.{ask_for}
 use Rattle.tlm_model.specs.Plan.{Initiator}
-use Rattle.tlm_model.specs.Requests.{DebugRead, Invalidation, Request, Transport, added, buffer_of, debug_of, requests_from, using, write_of}
-use Rattle.tlm_model.specs.Route.{Route, hops_of, later, latency_of, route_of}
+use Rattle.tlm_model.specs.Requests.{Asked, Request, Transport, requests_of}
+use Rattle.tlm_model.specs.Route.{Route, hops_of, route_of}
+use Rattle.tlm_model.proofs.RequestLemmas.{ask_at}
 use Rattle.flow_model.specs.World.{Passage, hop_at, hop_count}
 use Rattle.flow_model.specs.Events.{Among}
-use Rattle.flow_model.specs.Platform.{addresses_of, passage_by, passage_to}
+use Rattle.flow_model.specs.Platform.{accessed, addresses_of, passage_by, passage_to}
 use Rattle.cargo_model.specs.Known.{number_of, objects_of}
 use Rattle.cargo_model.specs.Origins.{ApartLaw, AskedLaw}
 use Rattle.cargo_model.specs.Travel.{memory_number}
 
-same_request : (q r : Request) → Some q ≡ Some r → q ≡ r
-same_request q r e = cc
-
-address_of : (q r : Request) → Some q ≡ Some r → ◌≡◌ {A = Option (Option ℕ)} (Some (Some q.address)) (Some (Some r.address))
-address_of q r e = ap (λ (d : Request). Some (Some d.address)) (same_request q r e)
-
-not_debug : (q r : Request) (a b : Access) → Some q ≡ Some r → q.asked ≡ DebugRead b → r.asked ≡ Transport a → ⊥
-not_debug q r a b e d t = let f : DebugRead b ≡ Transport a = sym d ∙ (ap (λ (z : Request). z.asked) (same_request q r e) ∙ t) in cc
-
-not_invalidation : (q r : Request) (a : Access) (n : ℕ) → Some q ≡ Some r → q.asked ≡ Invalidation n → r.asked ≡ Transport a → ⊥
-not_invalidation q r a n e d t = let f : Invalidation n ≡ Transport a = sym d ∙ (ap (λ (z : Request). z.asked) (same_request q r e) ∙ t) in cc
-
 -- an access that is asked for has the address of its operation
-module _ (p : Platform) (i : Initiator) (h : List Entry) (r : Request) (a : Access) (transport : r.asked ≡ Transport a) where
-  asked_at : (s t g : ℕ) (ops : List Operation) (k : ℕ) → slice_get (requests_from p i h s t g ops) k ≡ Some r → slice_get (addresses_of ops) k ≡ Some (Some r.address)
-  asked_at s t g [] k q = cc
-  asked_at s t g (Write b bytes enables width ∷ ops) zero q = address_of _ r q
-  asked_at s t g (Write b bytes enables width ∷ ops) (suc k) q = asked_at (s + 1) (later t (latency_of p i b)) g ops k q
-  asked_at s t g (Read b n enables width ∷ ops) zero q = address_of _ r q
-  asked_at s t g (Read b n enables width ∷ ops) (suc k) q = asked_at (s + 1) (later t (latency_of p i b)) g ops k q
-  asked_at s t g (Ignore b ∷ ops) zero q = address_of _ r q
-  asked_at s t g (Ignore b ∷ ops) (suc k) q = asked_at (s + 1) (later t (latency_of p i b)) g ops k q
-  asked_at s t g (Debug b n ∷ ops) zero q = absurd (not_debug _ r a (debug_of n) q refl transport)
-  asked_at s t g (Debug b n ∷ ops) (suc k) q = asked_at (s + 1) t (g + 2) ops k q
-  asked_at s t g (Copy from to n ∷ ops) zero q = address_of _ r q
-  asked_at s t g (Copy from to n ∷ ops) (suc k) q =
-      second (λ j m. asked_at (s + 2) (later (later t (latency_of p i from)) (latency_of p i to)) (g + 3) ops j m) (buffer_of p i h s from n) k q
-    where
-      second : ((j : ℕ) → slice_get (requests_from p i h (s + 2) (later (later t (latency_of p i from)) (latency_of p i to)) (g + 3) ops) j ≡ Some r → slice_get (addresses_of ops) j ≡ Some (Some r.address))
-          → (buffer : Option (List ℕ)) (j : ℕ)
-          → slice_get (using buffer (λ got. record { seq = s + 1; address = to; asked = Transport (write_of got [] n); time = later t (latency_of p i from); stage = g + 2 } ∷ requests_from p i h (s + 2) (later (later t (latency_of p i from)) (latency_of p i to)) (g + 3) ops)) j ≡ Some r
-          → slice_get (Some to ∷ addresses_of ops) j ≡ Some (Some r.address)
-      second more None j m = cc
-      second more (Some got) zero m = address_of _ r m
-      second more (Some got) (suc j) m = more j m
-  asked_at s t g (Add b n ∷ ops) zero q = address_of _ r q
-  asked_at s t g (Add b n ∷ ops) (suc k) q =
-      second (λ j m. asked_at (s + 2) (later (later t (latency_of p i b)) (latency_of p i b)) (g + 3) ops j m) (buffer_of p i h s b 4) k q
-    where
-      second : ((j : ℕ) → slice_get (requests_from p i h (s + 2) (later (later t (latency_of p i b)) (latency_of p i b)) (g + 3) ops) j ≡ Some r → slice_get (addresses_of ops) j ≡ Some (Some r.address))
-          → (buffer : Option (List ℕ)) (j : ℕ)
-          → slice_get (using buffer (λ got. record { seq = s + 1; address = b; asked = Transport (write_of (added got n) [] 4); time = later t (latency_of p i b); stage = g + 2 } ∷ requests_from p i h (s + 2) (later (later t (latency_of p i b)) (latency_of p i b)) (g + 3) ops)) j ≡ Some r
-          → slice_get (Some b ∷ addresses_of ops) j ≡ Some (Some r.address)
-      second more None j m = cc
-      second more (Some got) zero m = address_of _ r m
-      second more (Some got) (suc j) m = more j m
-  asked_at s t g (Wait n ∷ ops) k q = asked_at s (later t n) (g + 1) ops k q
-  asked_at s t g (Sync ∷ ops) k q = asked_at s t (g + 1) ops k q
-  asked_at s t g (Fence ∷ ops) k q = asked_at s t (g + 1) ops k q
-  asked_at s t g (Invalidate b n ∷ ops) zero q = absurd (not_invalidation _ r a n q refl transport)
-  asked_at s t g (Invalidate b n ∷ ops) (suc k) q = asked_at (s + 1) t (g + 2) ops k q
+asked_at : (p : Platform) (i : Initiator) (h : List Entry) (r : Request) (a : Access) → r.asked ≡ Transport a → (k : ℕ) → slice_get (requests_of p i h) k ≡ Some r → slice_get (addresses_of i.script) k ≡ Some (Some r.address)
+asked_at p i h r a transport k q = ask_at accessed (λ a n. refl) p i h r 0 0 0 i.script k q ∙ ap (λ (d : Asked). Some (accessed (ask_for r.address d))) transport
 
 pub asked_law : AskedLaw
 asked_law p h x pass i r a passes is asked transport =
-    by_style i.row.style (asked_at p.platform i h r a transport 0 0 0 i.script x.seq asked) (subst (λ (j : Option Initiator). passage_by p.platform j x.seq ≡ Some pass) is passes)
+    by_style i.row.style (asked_at p.platform i h r a transport x.seq asked) (subst (λ (j : Option Initiator). passage_by p.platform j x.seq ≡ Some pass) is passes)
   where
     by_style : (s : Style) → slice_get (addresses_of i.script) x.seq ≡ Some (Some r.address) → passage_to p.platform i s (slice_get (addresses_of i.script) x.seq) ≡ Some pass
         → pass ≡ record { hops = hops_of p.platform i r.address; routed = is_some (route_of p.platform i r.address) }

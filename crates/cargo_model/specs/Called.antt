@@ -1,5 +1,5 @@
 -- What is known of the calls of an access on one hop, and how many of its tickets there are left.
-use Rattle.std.specs.Prelude.{ℕ, ◌≡◌, ◌≢◌, ◌+◌, ◌⊎◌, List, [], ◌∷◌, length}
+use Rattle.std.specs.Prelude.{ℕ, ◌≡◌, ◌+◌, ◌⊎◌, List, [], ◌∷◌}
 use Rattle.tlm_types.specs.declared.words.Phase.{Phase}
 use Rattle.tlm_types.specs.declared.words.Phase.TheVariants.{BeginReq, EndReq, BeginResp, EndResp}
 use Rattle.tlm_types.specs.declared.words.TlmSync.{TlmSync}
@@ -8,9 +8,8 @@ use Rattle.tlm_types.specs.declared.words.ReqMode.{ReqMode}
 use Rattle.tlm_types.specs.declared.words.ReqMode.TheVariants as Req
 use Rattle.tlm_types.specs.declared.words.TxnId.{TxnId}
 use Rattle.base_phases.specs.Sequences.{Call}
-use Rattle.hop_model.specs.Table.{sequences_of}
 use Rattle.flow_model.specs.World.{Passage, World, hop_at, row_of}
-use Rattle.flow_model.specs.Events.{Among, Event, Finds, IsCall}
+use Rattle.flow_model.specs.Events.{Event, Finds, IsCall}
 use Rattle.flow_model.specs.Called.{HasCalled}
 use Rattle.cargo_model.specs.Counts.{calls_up, responses}
 

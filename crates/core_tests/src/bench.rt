@@ -1,73 +1,50 @@
 // Plans, and rows to compare outcomes with.
-use plat_core::Outcome;
 use platform_file::read_platform;
 use route_plan::{Plan, plan, shape};
+use run_outcome::{LogReader, Outcome};
 use std::alloc::Global;
 use std::process::Abort;
-use std::test::Fail;
-use tlm_types::{EndOf, ObjectNo, TxnId};
-use traffic_script::{Script, read_script};
+use tlm_types::{EndOf, ObjectNo};
+use traffic_script::read_script;
 
-/// One initiator on the memory, without a quantum.
-pub(crate) const ONE_ON_RAM: &str = "version = 1\nquantum = 0\n\
-    [[initiator]]\nname = 'one'\nstyle = 'blocking'\nscript = 'a'\nbind = 'ram'\n";
-
-/// The plan of the platform that these two texts make, with these scripts.
-pub(crate) fn plan_of(
-    rt: &impl Abort,
-    alloc: Global,
-    initiators: &str,
-    rest: &str,
-    scripts: &[&str],
-) -> Result<Plan, Fail> {
-    let mut text = String::new(alloc);
-    text.push_str(initiators)?;
-    text.push_str(rest)?;
-    let mut read: Vec<Script> = Vec::new(alloc);
-    for script in scripts {
-        read.push(read_script(alloc, script.as_bytes())?)?;
-    }
-    let shape = shape(alloc, &read_platform(alloc, text.as_bytes())?)?;
-    assert!(rt; read.len() == shape.platform().initiators.as_slice().len());
-    Ok(plan(alloc, shape, read.as_slice())?)
+/// The plan of a platform of one initiator with this script.
+pub(crate) fn plan_of(rt: &impl Abort, alloc: Global, platform: &str, script: &str) -> Plan {
+    let script = read_script(alloc, script.as_bytes()).expect(rt, "a script");
+    let scripts = vec![in alloc; script].expect(rt, "room");
+    let platform = read_platform(alloc, platform.as_bytes()).expect(rt, "a platform");
+    let shape = shape(alloc, &platform).expect(rt, "a shape");
+    assert!(rt; scripts.len() == shape.platform().initiators.as_slice().len());
+    plan(alloc, shape, scripts.as_slice()).expect(rt, "a plan")
 }
 
 /// An entry: its time, its initiator, its number there, and its memory.
 pub(crate) type Row = (u64, u32, u64, u32);
 
-/// The history has just these entries.
-pub(crate) fn expect_entries(
-    rt: &impl Abort,
-    alloc: Global,
-    outcome: &Outcome,
-    want: &[Row],
-) -> Result<(), Fail> {
-    assert!(rt; outcome.history.len() == want.len() as u64);
-    let mut reader = outcome.history.reader(alloc)?;
-    for (position, (time, initiator, seq, memory)) in want.iter().enumerate() {
-        assert!(rt; (position as u64) < reader.len());
-        let (log, place) = reader.at(position as u64);
-        let head = log.head(place);
-        assert!(rt; head.time == *time, "the time at {position}");
-        let ObjectNo::Memory(at) = head.object else {
-            panic!(rt; "no memory at {position}");
-        };
-        let TxnId {
-            initiator: who,
-            seq: number,
-        } = head.txn;
-        assert!(rt;
-            who == *initiator && number == *seq && at == *memory,
-            "at {position}"
-        );
-    }
-    Ok(())
+// The entry at this position, which is a memory's.
+fn row_at(rt: &impl Abort, reader: &mut LogReader<'_>, position: u64) -> Row {
+    assert!(rt; position < reader.len());
+    let (log, place) = reader.at(position);
+    let head = log.head(place);
+    let ObjectNo::Memory(memory) = head.object else {
+        panic!(rt; "no memory");
+    };
+    (head.time, head.txn.initiator, head.txn.seq, memory)
 }
 
-/// An end has these transactions, syncs and end time, and so many refused requests.
-pub(crate) fn expect_end(rt: &impl Abort, end: Option<&EndOf>, want: (u64, u64, u64, u32)) {
-    let Some(end) = end else {
-        panic!(rt; "no end");
+/// The history has just these entries.
+pub(crate) fn expect_entries(rt: &impl Abort, alloc: Global, outcome: &Outcome, want: &[Row]) {
+    assert!(rt; outcome.history.len() == want.len() as u64);
+    let mut reader = outcome.history.reader(alloc).expect(rt, "a reader");
+    for (position, row) in want.iter().enumerate() {
+        let found = row_at(rt, &mut reader, position as u64);
+        assert!(rt; found == *row, "at {position}");
+    }
+}
+
+/// The only end has these transactions, syncs and end time, and so many refused requests.
+pub(crate) fn expect_end(rt: &impl Abort, ends: &[EndOf], want: (u64, u64, u64, u32)) {
+    let [end] = ends else {
+        panic!(rt; "not one end");
     };
     assert!(rt; end.transactions == want.0 && end.syncs == want.1);
     assert!(rt; end.end == want.2 && end.refused.len() == want.3);

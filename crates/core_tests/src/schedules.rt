@@ -1,24 +1,37 @@
 // Runs by a schedule.
-use crate::bench::{ONE_ON_RAM, Row, expect_end, expect_entries, plan_of};
+use crate::bench::{Row, expect_end, expect_entries, plan_of};
 use plat_core::run_schedule;
-use std::test::Fail;
+use run_outcome::Outcome;
+use std::alloc::Global;
+use std::process::Abort;
 
-/// One initiator on a memory of 256 bytes and 10 ps.
-const BUILT_IN: &str = "[[memory]]\nname = 'ram'\nsize = 256\nlatency = 10\n";
+/// One initiator on a memory of 256 bytes and 10 ps, without a quantum.
+const ONE_ON_RAM: &str = "version = 1\nquantum = 0\n\
+    [[initiator]]\nname = 'one'\nstyle = 'blocking'\nscript = 'a'\nbind = 'ram'\n\
+    [[memory]]\nname = 'ram'\nsize = 256\nlatency = 10\n";
+
+const SCRIPT: &str = "write 0x10 deadbeef\nread 0x10 4\n";
 
 const TWO_ENTRIES: [Row; 2] = [(0, 0, 0, 0), (10, 0, 1, 0)];
 
-/// Three steps of the only initiator are its two accesses and its end; one step is the first of them.
+fn run_of(rt: &impl Abort, alloc: Global, schedule: &[u32]) -> Outcome {
+    let plan = plan_of(rt, alloc, ONE_ON_RAM, SCRIPT);
+    run_schedule(alloc, &plan, schedule).expect(rt, "a run")
+}
+
+/// Three steps of the only initiator are its two accesses and its end.
 #[test]
-fn a_run_is_complete_once_its_end_was_found(rt: HostRuntime) -> Result<(), Fail> {
-    let alloc = rt.alloc();
-    let script = "write 0x10 deadbeef\nread 0x10 4\n";
-    let plan = plan_of(&rt, alloc, ONE_ON_RAM, BUILT_IN, &[script])?;
-    let whole = run_schedule(alloc, &plan, &[0, 0, 0])?;
+fn a_run_is_complete_once_its_end_was_found(rt: HostRuntime) {
+    let whole = run_of(&rt, rt.alloc(), &[0, 0, 0]);
     assert!(rt; whole.complete);
-    expect_entries(&rt, alloc, &whole, &TWO_ENTRIES)?;
-    expect_end(&rt, whole.ends.as_slice().first(), (2, 2, 20, 0));
-    let begun = run_schedule(alloc, &plan, &[0])?;
+    expect_entries(&rt, rt.alloc(), &whole, &TWO_ENTRIES);
+    expect_end(&rt, whole.ends.as_slice(), (2, 2, 20, 0));
+}
+
+/// One step is the first of them.
+#[test]
+fn a_run_is_not_complete_before_its_end(rt: HostRuntime) {
+    let begun = run_of(&rt, rt.alloc(), &[0]);
     assert!(rt; !begun.complete);
-    expect_entries(&rt, alloc, &begun, &TWO_ENTRIES[..1])
+    expect_entries(&rt, rt.alloc(), &begun, &TWO_ENTRIES[..1]);
 }

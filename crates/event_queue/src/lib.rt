@@ -1,4 +1,5 @@
-//! A queue of events by their times, as the payload event queue of IEEE 1666-2011, clause 16.3.
+//! A queue of events by their times: the payload event queue `peq_with_get` of IEEE 1666-2011, clause
+//! 16.3, with absolute times.
 //!
 //! - `EventQueue<T>` holds items, each with a time in picoseconds. Contracts see it as its entries, in
 //!   the order in which they are given, and its room.
@@ -10,7 +11,5 @@
 #![tactic(auto)]
 
 mod queue;
-#[cfg(test)]
-mod tests;
 
 pub use queue::EventQueue;

@@ -6,7 +6,8 @@ use std::alloc::Global;
 use std::marker::Model;
 use tlm_types::Memory;
 
-/// Items that wait for their times, which are picoseconds.
+/// Items that wait for their times, as in the standard's `peq_with_get` (clause 16.3). Times are
+/// absolute, in picoseconds.
 #[derive(Drop)]
 pub struct EventQueue<T> {
     entries: Vec<(u64, T)>,

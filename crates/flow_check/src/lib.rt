@@ -14,7 +14,5 @@ pub mod checks;
 pub mod counted;
 pub mod reported;
 pub mod silent;
-#[cfg(test)]
-mod tests;
 pub mod worked;
 pub mod wrong;

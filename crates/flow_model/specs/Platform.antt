@@ -1,12 +1,11 @@
 -- The world of a plan: its hops in order, and the passages of its four-phase accesses.
-use Rattle.std.specs.Prelude.{ℕ, List, [], ◌∷◌, ◌++◌, map, get_or, slice_get, Option, Some, None, true, false, is_some}
+use Rattle.std.specs.Prelude.{ℕ, List, ◌++◌, map, get_or, slice_get, Option, Some, None, true, false, is_some}
 use Rattle.std.specs.List.{flat_map}
 use Rattle.tlm_types.specs.declared.words.ReqMode.TheVariants.{Accept}
 use Rattle.tlm_types.specs.declared.words.RespMode.{RespMode}
 use Rattle.tlm_types.specs.declared.words.RespMode.TheVariants.{Accept as accept_response}
 use Rattle.tlm_types.specs.declared.words.TxnId.{TxnId}
 use Rattle.tlm_model.specs.declared.operation.Operation.{Operation}
-use Rattle.tlm_model.specs.declared.operation.Operation.TheVariants.{Write, Read, Ignore, Debug, Copy, Add, Wait, Sync, Fence, Invalidate}
 use Rattle.tlm_model.specs.declared.platform.InitiatorRow.{InitiatorRow}
 use Rattle.tlm_model.specs.declared.platform.MemoryRow.{MemoryRow}
 use Rattle.tlm_model.specs.declared.platform.Platform.{Platform}
@@ -16,6 +15,9 @@ use Rattle.tlm_model.specs.declared.platform.Style.TheVariants.{Blocking, Direct
 use Rattle.tlm_model.specs.declared.platform.Target.{Target}
 use Rattle.tlm_model.specs.declared.platform.Target.TheVariants.{Router, Memory}
 use Rattle.tlm_model.specs.declared.platform.WindowRow.{WindowRow}
+use Rattle.tlm_model.specs.declared.ask.Ask.{Ask}
+use Rattle.tlm_model.specs.declared.ask.Ask.TheVariants.{Access as AnAccess, DebugRead as ADebugRead, Invalidation as AnInvalidation}
+use Rattle.tlm_model.specs.Actions.{asks_of}
 use Rattle.tlm_model.specs.Plan.{Plan, Initiator, initiators_of}
 use Rattle.tlm_model.specs.Route.{hops_of, route_of}
 use Rattle.flow_model.specs.World.{HopEnds, Passage, World}
@@ -47,21 +49,15 @@ all_hops p = map (λ (i : InitiatorRow). hop_to p i.response i.bind) p.initiator
 abbrev pub hop_in : Platform → ℕ → HopEnds
 hop_in p o = get_or (all_hops p) o no_hop
 
--- for each sequence number that an operation takes: the address of its access, or none for a debug read or an invalidation
-abbrev pub addresses_in : Operation → List (Option ℕ)
-addresses_in (Write a bytes enables width) = Some a ∷ []
-addresses_in (Read a n enables width) = Some a ∷ []
-addresses_in (Ignore a) = Some a ∷ []
-addresses_in (Debug a n) = None ∷ []
-addresses_in (Copy from to n) = Some from ∷ Some to ∷ []
-addresses_in (Add a n) = Some a ∷ Some a ∷ []
-addresses_in (Wait n) = []
-addresses_in Sync = []
-addresses_in Fence = []
-addresses_in (Invalidate a n) = None ∷ []
+-- the address of an access, or none for a debug read or an invalidation
+abbrev pub accessed : Ask → Option ℕ
+accessed (AnAccess a n) = Some a
+accessed (ADebugRead a n) = None
+accessed (AnInvalidation a) = None
 
+-- for each sequence number that a script takes: the address of its access
 abbrev pub addresses_of : List Operation → List (Option ℕ)
-addresses_of script = flat_map addresses_in script
+addresses_of script = map accessed (flat_map asks_of script)
 
 abbrev pub passage_to : Platform → Initiator → Style → Option (Option ℕ) → Option Passage
 passage_to p i FourPhase (Some (Some a)) = Some (record { hops = hops_of p i a; routed = is_some (route_of p i a) })

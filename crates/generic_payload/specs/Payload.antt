@@ -35,10 +35,6 @@ access_of p = record { command = p.command; offset = p.address; length = length 
 abbrev pub access_from_start : List ℕ → List ℕ → ℕ → Access
 access_from_start bytes enables width = record { command = Write; offset = 0; length = length bytes; sent = bytes; enables = enables; width = width }
 
--- an element of byte enables: disabled or enabled
-abbrev pub is_enable : ℕ → Bool
-is_enable element = (element == 0x00) || (element == 0xff)
-
 -- a read or a write finds its places among this many bytes
 pub record HasPlaces (a : Access) (size : ℕ) : Type 0 where
   pub inside : a.offset + span_of a ≤ size

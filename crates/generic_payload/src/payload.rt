@@ -1,7 +1,8 @@
 // A payload, and what it asks of a memory.
 ghost use Rattle.std.specs.Prelude.{◌≡◌, ◌≢◌, ◌↔◌, ◌+◌, ◌<◌, ◌≤◌, [], ◌++◌, length, take, drop, IsTrue, IfOk, true, false, vec_len, vec_capacity};
 ghost use Rattle.std.specs.List.{list_all};
-ghost use Rattle.generic_payload.specs.Payload.{PayloadView, new_payload, access_of, is_enable, moved_by, HasPlaces};
+ghost use Rattle.generic_payload.specs.Payload.{PayloadView, new_payload, access_of, moved_by, HasPlaces};
+ghost use Rattle.tlm_types.specs.Enables.{is_enable};
 ghost use Rattle.tlm_model.specs.Store.{zeros, span_of, is_allowed, checked, status_by, stored_by, got_by};
 
 use crate::stream::{stream_from, stream_into};
@@ -10,7 +11,7 @@ use std::alloc::Global;
 use std::marker::Model;
 use tlm_types::{Command, Memory, MemoryTraits, Response};
 
-/// A transaction's attributes. Addresses, lengths and the streaming width are in bytes.
+/// A transaction's attributes: the standard's `tlm_generic_payload` (clause 14). Addresses, lengths and the streaming width are in bytes.
 // They are in a box, so that handing a payload on moves no more than a pointer.
 #[derive(Drop)]
 pub struct Payload {

@@ -1,20 +1,20 @@
 // A bench on which a hop is asked one step after another.
-ghost use Rattle.std.specs.Prelude.{◌≡◌, ℕ, ◌+◌, ◌<◌, ◌≤◌, ◌⊎◌, true, false, length, All, IfSome};
-ghost use Rattle.base_phases.specs.declared.phases.LaneState.TheVariants.{Requested, Waiting, Responding};
+ghost use Rattle.std.specs.Prelude.{◌≡◌, ℕ, ◌+◌, ◌<◌, ◌≤◌, ◌⊎◌, true, false, length, All};
+ghost use Rattle.base_phases.specs.declared.phases.LaneState.TheVariants.{Requested, Waiting};
 ghost use Rattle.flow_model.specs.Events.{Event};
-ghost use Rattle.hop_object.specs.Laws.{BegunFits, IsHeld, IsOwed, LegsFit, RespondedFits};
+ghost use Rattle.hop_object.specs.Laws.{IsHeld, IsOwed, LegsFit, RespondedFits};
 ghost use Rattle.hop_object.specs.Hops.{IsLegOf};
 ghost use Rattle.hop_object.specs.Objects.{is_admitted, IsFit};
 
 use base_phases::LaneState;
 use hop_object::{Begun, Hop, HopCall, HopReply, Leg, Responded};
 use shared_object::Object;
-use std::alloc::{AllocError, Global};
+use std::alloc::Global;
+use std::process::Abort;
 use tlm_types::{Memory, Ps, ReqMode, RespMode, TlmSync, TxnId};
 use token_book::Tokens;
 
 /// A step of a row: the number of the transaction, and the time.
-#[derive(Clone, Copy)]
 pub enum Step {
     BeginReq(u64, Ps),
     FetchDown,
@@ -22,27 +22,10 @@ pub enum Step {
     BeginResp(u64, Ps),
     FetchUp,
     EndResp(u64, Ps),
-    Ended(u64),
 }
 
-/// What the hop told, with transactions by their numbers. A leg that came is kept on the bench.
-#[derive(Clone, Copy, Debug, PartialEq, Eq)]
-pub enum Told {
-    Left(TlmSync, Ps),
-    Now(TlmSync, Ps, bool),
-    Busy(Option<u64>, u32),
-    Down(u64, LaneState, Ps),
-    NoneDown,
-    EndedReq(Ps),
-    Sent(TlmSync, Ps),
-    HeldBy(u64),
-    Up(u64, Ps, bool),
-    NoneUp,
-    EndedResp(Ps),
-    Ended(bool),
-    /// The bench has no leg for the step, or no room.
-    Nothing,
-}
+/// What the hop told: a word, the number of a transaction, and the time, or how many lanes are live.
+pub type Told = (&'static str, u64, Ps);
 
 // A leg that is out, with the number of its transaction.
 #[derive(Drop)]
@@ -71,15 +54,20 @@ fn txn(seq: u64) -> TxnId {
     TxnId { initiator: 3, seq }
 }
 
-// The number of a step's transaction.
-fn seq_of(step: Step) -> u64 {
-    match step {
-        Step::BeginReq(seq, _)
-        | Step::EndReq(seq, _)
-        | Step::BeginResp(seq, _)
-        | Step::EndResp(seq, _)
-        | Step::Ended(seq) => seq,
-        Step::FetchDown | Step::FetchUp => 0,
+fn answer_word(answer: TlmSync) -> &'static str {
+    match answer {
+        TlmSync::Accepted => "accepted",
+        TlmSync::Updated(_) => "updated",
+        TlmSync::Completed => "completed",
+    }
+}
+
+fn state_word(state: LaneState) -> &'static str {
+    match state {
+        LaneState::Free => "free",
+        LaneState::Requested => "requested",
+        LaneState::Waiting => "waiting",
+        LaneState::Responding => "responding",
     }
 }
 
@@ -94,22 +82,119 @@ impl Bench {
         Ok(Bench {
             hop: Hop::new(alloc, 7, lanes, req, resp, 80, book)?,
             tokens,
-            legs: Vec::with_capacity(alloc, 16)?,
+            legs: Vec::new(alloc),
             position: 0,
             left: 80,
         })
     }
 
-    /// Asks the hop, and tells what it answers.
-    pub fn ask(&mut self, step: Step) -> Result<Told, AllocError> {
-        let Some(call) = self.call_for(step) else {
-            return Ok(Told::Nothing);
-        };
-        if self.left == 0 {
-            return Ok(Told::Nothing);
+    /// Asks the hop, and tells what it answers. A leg that comes is kept on the bench.
+    pub fn ask(&mut self, rt: &impl Abort, step: &Step) -> Told {
+        match *step {
+            Step::BeginReq(seq, at) => self.begin_req(rt, seq, at),
+            Step::FetchDown => self.fetch_down(rt),
+            Step::EndReq(seq, at) => self.end_req(rt, seq, at),
+            Step::BeginResp(seq, at) => self.begin_resp(rt, seq, at),
+            Step::FetchUp => self.fetch_up(rt),
+            Step::EndResp(seq, at) => self.end_resp(rt, seq, at),
         }
-        let reply = self.call(call);
-        self.tell(seq_of(step), reply)
+    }
+
+    // Where the hop has begun a call, or who holds it, or that no lane is free.
+    fn begin_req(&mut self, rt: &impl Abort, seq: u64, at: Ps) -> Told {
+        let call = HopCall::BeginReq {
+            txn: txn(seq),
+            at,
+            item: seq,
+        };
+        match self.ask_hop(rt, call) {
+            HopReply::Begun(Begun::Left { answer, at }) => (answer_word(answer), seq, at),
+            HopReply::Begun(
+                Begun::Busy {
+                    holder: Some(holder),
+                    live,
+                    item: _,
+                },
+            ) => ("held", holder.seq, u64::from(live)),
+            HopReply::Begun(
+                Begun::Busy {
+                    holder: None,
+                    live,
+                    item: _,
+                },
+            ) => ("full", seq, u64::from(live)),
+            _ => panic!(rt; "another answer"),
+        }
+    }
+
+    fn fetch_down(&mut self, rt: &impl Abort) -> Told {
+        match self.ask_hop(rt, HopCall::FetchDown) {
+            HopReply::Down(Some((leg, state, txn, at, item))) => {
+                self.keep(rt, item, leg);
+                (state_word(state), txn.seq, at)
+            }
+            _ => panic!(rt; "nothing came down"),
+        }
+    }
+
+    fn end_req(&mut self, rt: &impl Abort, seq: u64, at: Ps) -> Told {
+        let leg = self.take_in(rt, seq, LaneState::Requested);
+        match self.ask_hop(rt, HopCall::EndReq { leg, at }) {
+            HopReply::EndedReq(leg, at) => {
+                self.keep(rt, seq, leg);
+                ("ended", seq, at)
+            }
+            _ => panic!(rt; "another answer"),
+        }
+    }
+
+    fn begin_resp(&mut self, rt: &impl Abort, seq: u64, at: Ps) -> Told {
+        let leg = self.take_early(rt, seq);
+        match self.ask_hop(rt, HopCall::BeginResp { leg, at, item: seq }) {
+            HopReply::Responded(responded) => self.tell_responded(rt, seq, responded),
+            _ => panic!(rt; "another answer"),
+        }
+    }
+
+    // The answer to a response. The leg of a refused one is kept.
+    fn tell_responded(&mut self, rt: &impl Abort, seq: u64, responded: Responded<u64>) -> Told
+        requires { RespondedFits self.old.hop responded }
+    {
+        match responded {
+            Responded::Sent { answer, at } => (answer_word(answer), seq, at),
+            Responded::Busy { holder, leg, item } => {
+                self.keep_early(rt, item, leg);
+                ("held", holder.seq, 0)
+            }
+        }
+    }
+
+    // The leg of END_RESP, which is owed, is kept.
+    fn fetch_up(&mut self, rt: &impl Abort) -> Told {
+        match self.ask_hop(rt, HopCall::FetchUp) {
+            HopReply::Up(Some((leg, txn, at, item))) => {
+                self.keep_owed(rt, item, leg);
+                ("owed", txn.seq, at)
+            }
+            _ => panic!(rt; "nothing came up"),
+        }
+    }
+
+    fn end_resp(&mut self, rt: &impl Abort, seq: u64, at: Ps) -> Told {
+        let leg = self.take_in(rt, seq, LaneState::Responding);
+        match self.ask_hop(rt, HopCall::EndResp { leg, at }) {
+            HopReply::EndedResp(at) => ("ended", seq, at),
+            _ => panic!(rt; "another answer"),
+        }
+    }
+
+    // Makes a call, for which there is room.
+    fn ask_hop(&mut self, rt: &impl Abort, call: HopCall<u64>) -> HopReply<u64>
+        requires { IsFit self.old.hop call }
+        ensures { LegsFit self.new.hop result }
+    {
+        assert!(rt; self.left > 0);
+        self.call(call)
     }
 
     // Makes a call at the next position.
@@ -137,151 +222,60 @@ impl Bench {
         }
     }
 
-    // The call of a step, if there is a leg for it.
-    fn call_for(&mut self, step: Step) -> Option<HopCall<u64>>
-        ensures { IfSome result (IsFit self.new.hop) }
-    {
-        match step {
-            Step::BeginReq(seq, at) => Some(HopCall::BeginReq {
-                txn: txn(seq),
-                at,
-                item: seq,
-            }),
-            Step::FetchDown => Some(HopCall::FetchDown),
-            Step::EndReq(seq, at) => {
-                let leg = self.take_in(seq, LaneState::Requested)?;
-                Some(HopCall::EndReq { leg, at })
-            }
-            Step::BeginResp(seq, at) => {
-                let leg = self.take_early(seq)?;
-                Some(HopCall::BeginResp { leg, at, item: seq })
-            }
-            Step::FetchUp => Some(HopCall::FetchUp),
-            Step::EndResp(seq, at) => {
-                let leg = self.take_in(seq, LaneState::Responding)?;
-                Some(HopCall::EndResp { leg, at })
-            }
-            Step::Ended(seq) => Some(HopCall::Ended { txn: txn(seq) }),
-        }
-    }
-
     // The leg of a transaction.
-    fn take(&mut self, seq: u64) -> Option<Leg>
-        ensures { IfSome result (λ l. IsHeld self.new.hop.book l) }
+    fn take(&mut self, rt: &impl Abort, seq: u64) -> Leg
+        ensures { IsHeld self.new.hop.book result }
     {
-        let index = self.legs.iter().position(|held| held.seq == seq)?;
+        let Some(index) = self.legs.iter().position(|held| held.seq == seq) else {
+            panic!(rt; "no leg");
+        };
         let Held { seq: _, leg } = self.legs.remove(index);
-        Some(leg)
+        leg
     }
 
-    // The leg of a transaction whose lane is in this state.
-    fn take_in(&mut self, seq: u64, state: LaneState) -> Option<Leg>
-        ensures { IfSome result (λ l. IsLegOf self.new.hop l state) }
+    // The leg of a transaction, whose lane is in this state.
+    fn take_in(&mut self, rt: &impl Abort, seq: u64, state: LaneState) -> Leg
+        ensures { IsLegOf self.new.hop result state }
     {
-        let leg = self.take(seq)?;
-        if leg.state() == state {
-            Some(leg)
-        } else {
-            None
-        }
+        let leg = self.take(rt, seq);
+        assert!(rt; leg.state() == state);
+        leg
     }
 
-    // The leg of a transaction whose response hasn't begun.
-    fn take_early(&mut self, seq: u64) -> Option<Leg>
-        ensures { IfSome result (λ l. IsLegOf self.new.hop l Requested ⊎ IsLegOf self.new.hop l Waiting) }
+    // The leg of a transaction, whose response hasn't begun.
+    fn take_early(&mut self, rt: &impl Abort, seq: u64) -> Leg
+        ensures { IsLegOf self.new.hop result Requested ⊎ IsLegOf self.new.hop result Waiting }
     {
-        let leg = self.take(seq)?;
+        let leg = self.take(rt, seq);
         match leg.state() {
-            LaneState::Requested | LaneState::Waiting => Some(leg),
-            LaneState::Free | LaneState::Responding => None,
+            LaneState::Requested | LaneState::Waiting => leg,
+            LaneState::Free | LaneState::Responding => panic!(rt; "another leg"),
         }
     }
 
     // Keeps a leg that came.
-    fn keep(&mut self, seq: u64, leg: Leg) -> Result<(), AllocError>
+    fn keep(&mut self, rt: &impl Abort, seq: u64, leg: Leg)
         requires { IsHeld self.old.hop.book leg }
     {
-        self.legs.push(Held { seq, leg })?;
-        Ok(())
+        if self.legs.push(Held { seq, leg }).is_err() {
+            panic!(rt; "memory");
+        }
     }
 
     // Keeps a leg that came back with a refused response.
-    fn keep_early(&mut self, seq: u64, leg: Leg) -> Result<(), AllocError>
+    fn keep_early(&mut self, rt: &impl Abort, seq: u64, leg: Leg)
         requires { IsLegOf self.old.hop leg Requested ⊎ IsLegOf self.old.hop leg Waiting }
     {
-        self.keep(seq, leg)
+        self.keep(rt, seq, leg);
     }
 
-    // Keeps the leg that came, if one did, and tells the rest of the reply.
-    fn tell(&mut self, seq: u64, reply: HopReply<u64>) -> Result<Told, AllocError>
-        requires { LegsFit self.old.hop reply }
-    {
-        match reply {
-            HopReply::Begun(begun) => self.tell_begun(begun),
-            HopReply::Down(None) => Ok(Told::NoneDown),
-            HopReply::Down(Some((leg, state, txn, at, item))) => {
-                self.keep(item, leg)?;
-                Ok(Told::Down(txn.seq, state, at))
-            }
-            HopReply::EndedReq(leg, at) => {
-                self.keep(seq, leg)?;
-                Ok(Told::EndedReq(at))
-            }
-            HopReply::Responded(responded) => self.tell_responded(responded),
-            HopReply::Up(None) => Ok(Told::NoneUp),
-            HopReply::Up(Some((leg, txn, at, item))) => {
-                let owed = self.keep_some(item, leg)?;
-                Ok(Told::Up(txn.seq, at, owed))
-            }
-            HopReply::EndedResp(at) => Ok(Told::EndedResp(at)),
-            HopReply::Ended(ended) => Ok(Told::Ended(ended)),
-        }
-    }
-
-    // Keeps the leg of END_RESP, if it is owed, and tells whether it is.
-    fn keep_some(&mut self, seq: u64, leg: Option<Leg>) -> Result<bool, AllocError>
+    // Keeps the leg of END_RESP.
+    fn keep_owed(&mut self, rt: &impl Abort, seq: u64, leg: Option<Leg>)
         requires { IsOwed self.old.hop leg }
     {
         match leg {
-            None => Ok(false),
-            Some(leg) => {
-                self.keep(seq, leg)?;
-                Ok(true)
-            }
-        }
-    }
-
-    fn tell_begun(&mut self, begun: Begun<u64>) -> Result<Told, AllocError>
-        requires { BegunFits self.old.hop begun }
-    {
-        match begun {
-            Begun::Left { answer, at } => Ok(Told::Left(answer, at)),
-            Begun::Now {
-                answer,
-                at,
-                leg,
-                item,
-            } => {
-                let owed = self.keep_some(item, leg)?;
-                Ok(Told::Now(answer, at, owed))
-            }
-            Begun::Busy {
-                holder,
-                live,
-                item: _,
-            } => Ok(Told::Busy(holder.map(|txn| txn.seq), live)),
-        }
-    }
-
-    fn tell_responded(&mut self, responded: Responded<u64>) -> Result<Told, AllocError>
-        requires { RespondedFits self.old.hop responded }
-    {
-        match responded {
-            Responded::Sent { answer, at } => Ok(Told::Sent(answer, at)),
-            Responded::Busy { holder, leg, item } => {
-                self.keep_early(item, leg)?;
-                Ok(Told::HeldBy(holder.seq))
-            }
+            None => panic!(rt; "no END_RESP is owed"),
+            Some(leg) => self.keep(rt, seq, leg),
         }
     }
 }

@@ -1,5 +1,5 @@
 // A hop under its lock, behind a memory: a request, its fetch, and the response with what was fetched.
-ghost use Rattle.std.specs.Prelude.{◌≡◌, ℕ, ◌≤◌, [], ◌∷◌, length, map, true, IfOk, IfSome};
+ghost use Rattle.std.specs.Prelude.{◌≡◌, ℕ, ◌≤◌, [], ◌∷◌, length, map, true, IfOk};
 ghost use Rattle.one_history.specs.Moves.{fresh, number_of, own_of};
 ghost use Rattle.one_history.specs.Lists.{entries_at};
 ghost use Rattle.token_book.specs.Ticket.{IsTicket};
@@ -21,8 +21,8 @@ use one_history::Law;
 use shared_object::{Naming, Shared, Stepped, Unstepped, World};
 use std::alloc::Global;
 use std::marker::Brand;
+use std::process::Abort;
 use std::sync::Wait;
-use std::test::Fail;
 use tlm_types::{
     Content, Head, Memory, ObjectNo, Phase, Ps, ReqMode, RespMode, TlmSync, TxnId, What,
 };
@@ -119,19 +119,19 @@ fn ask<N: Naming<(), ByNumber>, R: Wait>(
 }
 
 // BEGIN_REQ: its answer and its time.
-fn request<N: Naming<(), ByNumber>, R: Wait>(
+fn request<N: Naming<(), ByNumber>, R: Wait + Abort>(
     rt: &R,
     past: &Past,
     tokens: &Tokens,
     place: &Place<N>,
     note: Leaf,
     ticket: Ticket,
-) -> Option<(TlmSync, Ps, Leaf)>
+) -> (TlmSync, Ps, Leaf)
     requires past { (past.now.table ≡ N.table) × (past.now.frame ≡ N.frame) }
     requires tokens { tokens.now ≡ N.tokens }
     requires note { IsNote N.table note }
     requires ticket { IsTicket N.tokens place.now.number ticket }
-    ensures { IfSome result (λ r. IsNote N.table r.2) }
+    ensures { IsNote N.table result.2 }
 {
     let call = HopCall::BeginReq {
         txn: TXN,
@@ -140,40 +140,40 @@ fn request<N: Naming<(), ByNumber>, R: Wait>(
     };
     let Answered { reply, note } = ask(rt, past, tokens, place, note, Some(ticket), call);
     match reply {
-        HopReply::Begun(Begun::Left { answer, at }) => Some((answer, at, note)),
-        _ => None,
+        HopReply::Begun(Begun::Left { answer, at }) => (answer, at, note),
+        _ => panic!(rt; "another answer"),
     }
 }
 
 // The request is fetched: its transaction, its item and its time, and the leg, which is known to be the
 // transaction's.
-fn fetch<N: Naming<(), ByNumber>, R: Wait>(
+fn fetch<N: Naming<(), ByNumber>, R: Wait + Abort>(
     rt: &R,
     past: &Past,
     tokens: &Tokens,
     place: &Place<N>,
     note: Leaf,
-) -> Option<(TxnId, u64, Ps, Leg, Leaf)>
+) -> (TxnId, u64, Ps, Leg, Leaf)
     requires past { (past.now.table ≡ N.table) × (past.now.frame ≡ N.frame) }
     requires tokens { tokens.now ≡ N.tokens }
     requires note { IsNote N.table note }
-    ensures note { IfSome result (λ r. IsNote N.table r.4) }
-    ensures leg { IfSome result (λ r. IsLegThere N.frame N.tokens place.now.number r.3 Waiting) }
-    ensures known { IfSome result (λ r. IsKnownLeg place.now.number r.3 r.0 r.4.knows.known) }
-    ensures own { IfSome result (λ r. r.1 ≡ r.0.seq) }
+    ensures note { IsNote N.table result.4 }
+    ensures leg { IsLegThere N.frame N.tokens place.now.number result.3 Waiting }
+    ensures known { IsKnownLeg place.now.number result.3 result.0 result.4.knows.known }
+    ensures own { result.1 ≡ result.0.seq }
 {
     let call = HopCall::FetchDown;
     let Answered { reply, note } = ask(rt, past, tokens, place, note, None, call);
     match reply {
         HopReply::Down(Some((leg, LaneState::Waiting, txn, at, item))) => {
-            Some((txn, item, at, leg, note))
+            (txn, item, at, leg, note)
         }
-        _ => None,
+        _ => panic!(rt; "nothing came down"),
     }
 }
 
 // BEGIN_RESP with the item that was fetched: its answer and its time.
-fn respond<N: Naming<(), ByNumber>, R: Wait>(
+fn respond<N: Naming<(), ByNumber>, R: Wait + Abort>(
     rt: &R,
     past: &Past,
     tokens: &Tokens,
@@ -183,7 +183,7 @@ fn respond<N: Naming<(), ByNumber>, R: Wait>(
     leg: Leg,
     txn: TxnId,
     item: u64,
-) -> Option<(TlmSync, Ps)>
+) -> (TlmSync, Ps)
     requires past { (past.now.table ≡ N.table) × (past.now.frame ≡ N.frame) }
     requires tokens { tokens.now ≡ N.tokens }
     requires note { IsNote N.table note }
@@ -195,8 +195,8 @@ fn respond<N: Naming<(), ByNumber>, R: Wait>(
     let call = HopCall::BeginResp { leg, at: 1, item };
     let Answered { reply, note: _ } = ask(rt, past, tokens, place, note, Some(ticket), call);
     match reply {
-        HopReply::Responded(Responded::Sent { answer, at }) => Some((answer, at)),
-        _ => None,
+        HopReply::Responded(Responded::Sent { answer, at }) => (answer, at),
+        _ => panic!(rt; "another answer"),
     }
 }
 
@@ -208,39 +208,39 @@ struct Exchanged {
     response: (TlmSync, Ps),
 }
 
-fn exchange<N: Naming<(), ByNumber>, R: Wait>(
+fn exchange<N: Naming<(), ByNumber>, R: Wait + Abort>(
     rt: &R,
     past: &Past,
     tokens: &Tokens,
     place: &Place<N>,
     note: Leaf,
     tickets: (Ticket, Ticket),
-) -> Option<Exchanged>
+) -> Exchanged
     requires past { (past.now.table ≡ N.table) × (past.now.frame ≡ N.frame) }
     requires tokens { tokens.now ≡ N.tokens }
     requires note { IsNote N.table note }
     requires tickets { IsTicket N.tokens place.now.number tickets.0 × IsTicket N.tokens place.now.number tickets.1 }
 {
     let (first, second) = tickets;
-    let (answer, at, note) = request(rt, past, tokens, place, note, first)?;
-    let (txn, item, time, leg, note) = fetch(rt, past, tokens, place, note)?;
-    let response = respond(rt, past, tokens, place, note, second, leg, txn, item)?;
-    Some(Exchanged {
+    let (answer, at, note) = request(rt, past, tokens, place, note, first);
+    let (txn, item, time, leg, note) = fetch(rt, past, tokens, place, note);
+    let response = respond(rt, past, tokens, place, note, second, leg, txn, item);
+    Exchanged {
         request: (answer, at),
         fetched: (item, time),
         response,
-    })
+    }
 }
 
 // A request and its response on the hop, under its lock, and then the hop and its seat. The call
 // picks N.
-fn opened<N: Naming<(), ByNumber>, R: Wait>(
+fn opened<N: Naming<(), ByNumber>, R: Wait + Abort>(
     rt: &R,
     past: &Past,
     tokens: &Tokens,
     desk: Desk,
     note: Leaf,
-) -> Option<(Exchanged, Hop<u64>, Chair)>
+) -> (Exchanged, Hop<u64>, Chair)
     requires past { (past.now.table ≡ N.table) × (past.now.frame ≡ N.frame) }
     requires frame { (N.frame.planned ≡ 3 ∷ 2 ∷ []) × (N.frame.gates ≡ 4 ∷ 0 ∷ []) }
     requires tokens { tokens.now ≡ N.tokens }
@@ -250,7 +250,7 @@ fn opened<N: Naming<(), ByNumber>, R: Wait>(
     requires rights { (desk.entries ≡ rights N.tokens 1 0 2) × (desk.bytes ≡ rights N.tokens 1 1 0) }
     requires hop { (desk.object.log.events ≡ []) × (desk.object.log.room ≡ 2) × (desk.object.lanes ≡ []) }
     requires legs { HasLegs N.frame N.tokens 1 desk.object }
-    ensures { IfSome result (λ r. IsSeat N.table N.frame 1 (map written_by r.1.log.events) r.2) }
+    ensures { IsSeat N.table N.frame 1 (map written_by result.1.log.events) result.2 }
 {
     let object_bench::Desk {
         object,
@@ -262,9 +262,9 @@ fn opened<N: Naming<(), ByNumber>, R: Wait>(
     let place: Place<N> = Shared::new(object, seat, book);
     let first = ticket_of(tokens, &mut entries, &mut bytes, 0);
     let second = ticket_of(tokens, &mut entries, &mut bytes, 0);
-    let exchanged = exchange(rt, past, tokens, &place, note, (first, second))?;
+    let exchanged = exchange(rt, past, tokens, &place, note, (first, second));
     let (hop, seat, _book) = place.into_parts(rt);
-    Some((exchanged, hop, seat))
+    (exchanged, hop, seat)
 }
 
 // A memory with four gates, of which only the seat is there, and behind it a hop of one lane with the
@@ -324,25 +324,40 @@ fn said(hop: &Hop<u64>, index: u64) -> Option<(Head, Phase, TlmSync)> {
     }
 }
 
+const ENDED: TlmSync = TlmSync::Updated(Phase::EndReq);
+
+const DONE: TlmSync = TlmSync::Updated(Phase::EndResp);
+
+fn has_answers(exchanged: &Exchanged) -> bool {
+    exchanged.request == (ENDED, 2)
+        && exchanged.fetched == (5, 2)
+        && exchanged.response == (DONE, 2)
+}
+
+fn has_entries(hop: &Hop<u64>) -> bool {
+    said(hop, 0) == Some((head(0, 2), Phase::BeginReq, ENDED))
+        && said(hop, 1) == Some((head(1, 2), Phase::BeginResp, DONE))
+        && hop.log().len() == 2
+}
+
 #[test]
-fn a_hop_steps_behind_a_memory(rt: HostRuntime) -> Result<(), Fail> {
-    let Start {
-        past,
-        tokens,
-        memory,
-        desk,
-        note,
-    } = behind_a_memory(rt.alloc())?;
+fn a_hop_steps_behind_a_memory(rt: HostRuntime) {
+    let Ok(
+        Start {
+            past,
+            tokens,
+            memory,
+            desk,
+            note,
+        },
+    ) = behind_a_memory(rt.alloc())
+    else {
+        panic!(rt; "memory");
+    };
     let opened = opened::<Brand, HostRuntime>(&rt, &past, &tokens, desk, note);
-    let (exchanged, hop, seat) = opened.ok_or("a step was refused")?;
-    let ended = TlmSync::Updated(Phase::EndReq);
-    let done = TlmSync::Updated(Phase::EndResp);
-    assert_eq!(rt; exchanged.request, (ended, 2));
-    assert_eq!(rt; exchanged.fetched, (5, 2));
-    assert_eq!(rt; exchanged.response, (done, 2));
-    assert_eq!(rt; said(&hop, 0), Some((head(0, 2), Phase::BeginReq, ended)));
-    assert_eq!(rt; said(&hop, 1), Some((head(1, 2), Phase::BeginResp, done)));
-    assert_eq!(rt; hop.log().len(), 2);
-    assert_eq!(rt; end(rt.alloc(), past, memory, seat)?.len(), 2);
-    Ok(())
+    let (exchanged, hop, seat) = opened;
+    assert!(rt; has_answers(&exchanged));
+    assert!(rt; has_entries(&hop));
+    let sealed = end(rt.alloc(), past, memory, seat).expect(&rt, "memory");
+    assert!(rt; sealed.len() == 2);
 }

@@ -1,5 +1,5 @@
 // A pool under its lock, behind a memory: the life of a payload.
-ghost use Rattle.std.specs.Prelude.{◌≡◌, ℕ, ◌≤◌, [], ◌∷◌, length, map, IfOk, IfSome};
+ghost use Rattle.std.specs.Prelude.{◌≡◌, ℕ, ◌≤◌, [], ◌∷◌, length, map, IfOk};
 ghost use Rattle.one_history.specs.Moves.{fresh, number_of, own_of};
 ghost use Rattle.one_history.specs.Lists.{entries_at};
 ghost use Rattle.token_book.specs.Ticket.{IsTicket};
@@ -19,8 +19,8 @@ use payload_pool::{Baton, Hold, Pool, PoolCall, PoolReply};
 use shared_object::{Naming, Shared, Stepped, Unstepped};
 use std::alloc::Global;
 use std::marker::Brand;
+use std::process::Abort;
 use std::sync::Wait;
-use std::test::Fail;
 use tlm_types::{Head, Memory, ObjectNo, Ps, TxnId, What};
 use token_book::{Ticket, Tokens};
 
@@ -83,31 +83,31 @@ fn ask<N: Naming<(), NoLaw>, R: Wait>(
     }
 }
 
-fn take<N: Naming<(), NoLaw>, R: Wait>(
+fn take<N: Naming<(), NoLaw>, R: Wait + Abort>(
     rt: &R,
     past: &Past,
     tokens: &Tokens,
     place: &Place<N>,
     note: Leaf,
     ticket: Ticket,
-) -> Option<(Baton, Leaf)>
+) -> (Baton, Leaf)
     requires past { (past.now.table ≡ N.table) × (past.now.frame ≡ N.frame) }
     requires tokens { tokens.now ≡ N.tokens }
     requires note { IsNote N.table note }
     requires ticket { IsTicket N.tokens place.now.number ticket }
-    ensures note { IfSome result (λ r. IsNote N.table r.1) }
-    ensures baton { IfSome result (λ r. IsOutThere N.frame N.tokens place.now.number r.0.own) }
-    ensures fresh { IfSome result (λ r. acquired_of r.0.own.name ≡ 0) }
+    ensures note { IsNote N.table result.1 }
+    ensures baton { IsOutThere N.frame N.tokens place.now.number result.0.own }
+    ensures fresh { acquired_of result.0.own.name ≡ 0 }
 {
     let call = PoolCall::Take { txn: TXN, at: 4 };
     let Answered { reply, note } = ask(rt, past, tokens, place, note, ticket, call);
     match reply {
-        PoolReply::Took(Some(baton)) => Some((baton, note)),
-        _ => None,
+        PoolReply::Took(Some(baton)) => (baton, note),
+        _ => panic!(rt; "nothing was taken"),
     }
 }
 
-fn acquire<N: Naming<(), NoLaw>, R: Wait>(
+fn acquire<N: Naming<(), NoLaw>, R: Wait + Abort>(
     rt: &R,
     past: &Past,
     tokens: &Tokens,
@@ -115,26 +115,26 @@ fn acquire<N: Naming<(), NoLaw>, R: Wait>(
     note: Leaf,
     ticket: Ticket,
     baton: Baton,
-) -> Option<(Baton, Hold, Leaf)>
+) -> (Baton, Hold, Leaf)
     requires past { (past.now.table ≡ N.table) × (past.now.frame ≡ N.frame) }
     requires tokens { tokens.now ≡ N.tokens }
     requires note { IsNote N.table note }
     requires ticket { IsTicket N.tokens place.now.number ticket }
     requires baton { IsOutThere N.frame N.tokens place.now.number baton.own }
     requires fresh { acquired_of baton.own.name ≡ 0 }
-    ensures note { IfSome result (λ r. IsNote N.table r.2) }
-    ensures hold { IfSome result (λ r. IsOutThere N.frame N.tokens place.now.number r.1) }
+    ensures note { IsNote N.table result.2 }
+    ensures hold { IsOutThere N.frame N.tokens place.now.number result.1 }
 {
     let call = PoolCall::Acquire { baton, at: 6 };
     let Answered { reply, note } = ask(rt, past, tokens, place, note, ticket, call);
     match reply {
-        PoolReply::Acquired(baton, hold) => Some((baton, hold, note)),
-        _ => None,
+        PoolReply::Acquired(baton, hold) => (baton, hold, note),
+        _ => panic!(rt; "another answer"),
     }
 }
 
 // Whether the reference was the last one.
-fn release<N: Naming<(), NoLaw>, R: Wait>(
+fn release<N: Naming<(), NoLaw>, R: Wait + Abort>(
     rt: &R,
     past: &Past,
     tokens: &Tokens,
@@ -142,7 +142,7 @@ fn release<N: Naming<(), NoLaw>, R: Wait>(
     note: Leaf,
     ticket: Ticket,
     hold: Hold,
-) -> Option<bool>
+) -> bool
     requires past { (past.now.table ≡ N.table) × (past.now.frame ≡ N.frame) }
     requires tokens { tokens.now ≡ N.tokens }
     requires note { IsNote N.table note }
@@ -152,8 +152,8 @@ fn release<N: Naming<(), NoLaw>, R: Wait>(
     let call = PoolCall::Release { hold, at: 9 };
     let Answered { reply, note: _ } = ask(rt, past, tokens, place, note, ticket, call);
     match reply {
-        PoolReply::Released { freed } => Some(freed),
-        _ => None,
+        PoolReply::Released { freed } => freed,
+        _ => panic!(rt; "another answer"),
     }
 }
 
@@ -168,42 +168,42 @@ struct Lived {
 }
 
 // A payload is taken, a reference acquired, and given back.
-fn live<N: Naming<(), NoLaw>, R: Wait>(
+fn live<N: Naming<(), NoLaw>, R: Wait + Abort>(
     rt: &R,
     past: &Past,
     tokens: &Tokens,
     place: &Place<N>,
     note: Leaf,
     tickets: (Ticket, Ticket, Ticket),
-) -> Option<Lived>
+) -> Lived
     requires past { (past.now.table ≡ N.table) × (past.now.frame ≡ N.frame) }
     requires tokens { tokens.now ≡ N.tokens }
     requires note { IsNote N.table note }
     requires tickets { IsTicket N.tokens place.now.number tickets.0 × IsTicket N.tokens place.now.number tickets.1 × IsTicket N.tokens place.now.number tickets.2 }
 {
     let (first, second, third) = tickets;
-    let (baton, note) = take(rt, past, tokens, place, note, first)?;
+    let (baton, note) = take(rt, past, tokens, place, note, first);
     let slot = baton.slot();
-    let (baton, hold, note) = acquire(rt, past, tokens, place, note, second, baton)?;
+    let (baton, hold, note) = acquire(rt, past, tokens, place, note, second, baton);
     let number = hold.number();
     let acquired = baton.acquired();
-    let freed = release(rt, past, tokens, place, note, third, hold)?;
-    Some(Lived {
+    let freed = release(rt, past, tokens, place, note, third, hold);
+    Lived {
         slot,
         number,
         acquired,
         freed,
-    })
+    }
 }
 
 // The life of a payload of the pool, under its lock, and then the pool and its seat. The call picks N.
-fn opened<N: Naming<(), NoLaw>, R: Wait>(
+fn opened<N: Naming<(), NoLaw>, R: Wait + Abort>(
     rt: &R,
     past: &Past,
     tokens: &Tokens,
     desk: Desk,
     note: Leaf,
-) -> Option<(Lived, Pool, Chair)>
+) -> (Lived, Pool, Chair)
     requires past { (past.now.table ≡ N.table) × (past.now.frame ≡ N.frame) }
     requires frame { (N.frame.planned ≡ 3 ∷ 3 ∷ []) × (N.frame.gates ≡ 4 ∷ 0 ∷ []) }
     requires tokens { tokens.now ≡ N.tokens }
@@ -213,7 +213,7 @@ fn opened<N: Naming<(), NoLaw>, R: Wait>(
     requires rights { (desk.entries ≡ rights N.tokens 1 0 3) × (desk.bytes ≡ rights N.tokens 1 1 0) }
     requires pool { (desk.object.log.events ≡ []) × (desk.object.log.room ≡ 3) }
     requires references { HasReferences N.frame N.tokens 1 desk.object }
-    ensures { IfSome result (λ r. IsSeat N.table N.frame 1 (map written_by r.1.log.events) r.2) }
+    ensures { IsSeat N.table N.frame 1 (map written_by result.1.log.events) result.2 }
 {
     let object_bench::Desk {
         object,
@@ -226,9 +226,9 @@ fn opened<N: Naming<(), NoLaw>, R: Wait>(
     let first = ticket_of(tokens, &mut entries, &mut bytes, 0);
     let second = ticket_of(tokens, &mut entries, &mut bytes, 0);
     let third = ticket_of(tokens, &mut entries, &mut bytes, 0);
-    let lived = live(rt, past, tokens, &place, note, (first, second, third))?;
+    let lived = live(rt, past, tokens, &place, note, (first, second, third));
     let (pool, seat, _book) = place.into_parts(rt);
-    Some((lived, pool, seat))
+    (lived, pool, seat)
 }
 
 // A memory with four gates, of which only the seat is there, and behind it a pool of two slots with
@@ -266,14 +266,6 @@ fn behind_a_memory(alloc: Global) -> Result<Start, Memory>
     })
 }
 
-// What an entry of a pool says, with its slot.
-#[derive(Clone, Copy, Debug, PartialEq, Eq)]
-enum Said {
-    Take(u32),
-    Acquire(u32),
-    Release(u32, bool),
-}
-
 // The head of an entry of the pool.
 fn head(position: u64, time: Ps) -> Head {
     Head {
@@ -284,40 +276,51 @@ fn head(position: u64, time: Ps) -> Head {
     }
 }
 
-fn entry_of(pool: &Pool, index: u64) -> Option<(Head, Said)> {
+// The head of an entry, and what it says of its slot.
+fn said(pool: &Pool, index: u64) -> Option<(Head, &'static str, u32)> {
     let log = pool.log();
     if index >= log.len() {
         return None;
     }
-    let said = match log.what(index)? {
-        What::Take { slot } => Said::Take(slot),
-        What::Acquire { slot } => Said::Acquire(slot),
-        What::Release { slot, freed } => Said::Release(slot, freed),
+    let (word, slot) = match log.what(index) {
+        Some(What::Take { slot }) => ("take", slot),
+        Some(What::Acquire { slot }) => ("acquire", slot),
+        Some(What::Release { slot, freed: false }) => ("release", slot),
         _ => return None,
     };
-    Some((log.head(index), said))
+    Some((log.head(index), word, slot))
+}
+
+fn has_answers(lived: &Lived) -> bool {
+    lived.slot == 0 && lived.number == 0 && lived.acquired == 1 && !lived.freed
+}
+
+fn has_entries(pool: &Pool) -> bool {
+    said(pool, 0) == Some((head(0, 4), "take", 0))
+        && said(pool, 1) == Some((head(1, 6), "acquire", 0))
+        && said(pool, 2) == Some((head(2, 9), "release", 0))
+        && pool.log().len() == 3
+        && pool.live() == 1
 }
 
 #[test]
-fn a_pool_steps_behind_a_memory(rt: HostRuntime) -> Result<(), Fail> {
-    let Start {
-        past,
-        tokens,
-        memory,
-        desk,
-        note,
-    } = behind_a_memory(rt.alloc())?;
+fn a_pool_steps_behind_a_memory(rt: HostRuntime) {
+    let Ok(
+        Start {
+            past,
+            tokens,
+            memory,
+            desk,
+            note,
+        },
+    ) = behind_a_memory(rt.alloc())
+    else {
+        panic!(rt; "memory");
+    };
     let opened = opened::<Brand, HostRuntime>(&rt, &past, &tokens, desk, note);
-    let (lived, pool, seat) = opened.ok_or("a step was refused")?;
-    assert_eq!(rt; (lived.slot, lived.number), (0, 0));
-    assert_eq!(rt; (lived.acquired, lived.freed), (1, false));
-    assert_eq!(rt; entry_of(&pool, 0), Some((head(0, 4), Said::Take(0))));
-    assert_eq!(rt; entry_of(&pool, 1), Some((head(1, 6), Said::Acquire(0))));
-    assert_eq!(rt;
-        entry_of(&pool, 2),
-        Some((head(2, 9), Said::Release(0, false)))
-    );
-    assert_eq!(rt; (pool.live(), pool.log().len()), (1, 3));
-    assert_eq!(rt; end(rt.alloc(), past, memory, seat)?.len(), 3);
-    Ok(())
+    let (lived, pool, seat) = opened;
+    assert!(rt; has_answers(&lived));
+    assert!(rt; has_entries(&pool));
+    let sealed = end(rt.alloc(), past, memory, seat).expect(&rt, "memory");
+    assert!(rt; sealed.len() == 3);
 }

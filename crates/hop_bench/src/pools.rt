@@ -3,9 +3,10 @@ ghost use Rattle.std.specs.Prelude.{◌≡◌, ◌+◌, ◌<◌, ◌≤◌, [], 
 ghost use Rattle.payload_pool.specs.Slots.{acquired_of};
 ghost use Rattle.hop_bench.specs.Ready.{IsReady, IsMine, IsBaton};
 
+use object_bench::two_books;
 use payload_pool::{Baton, Hold, Pool};
 use std::alloc::Global;
-use std::test::Fail;
+use std::process::Abort;
 use tlm_types::{Memory, Ps, TxnId, What};
 use token_book::Tokens;
 
@@ -27,10 +28,7 @@ fn make_pool(alloc: Global, slots: u32, entries: u64) -> Result<(Tokens, Pool), 
     ensures bytes { IfOk result (λ r. r.1.room ≡ 16) }
     ensures log { IfOk result (λ r. r.1.log ≡ record { events = []; room = entries }) }
 {
-    let (tokens, mut books) = Tokens::new(alloc, 2)?;
-    let Some(book) = books.pop() else {
-        unreachable!()
-    };
+    let (tokens, _other, book) = two_books(alloc)?;
     let pool = Pool::new(alloc, 3, slots, 16, entries, book)?;
     Ok((tokens, pool))
 }
@@ -56,17 +54,33 @@ fn txn(seq: u64) -> TxnId {
 }
 
 impl Bench {
-    fn take(&mut self, seq: u64, at: Ps) -> Result<Baton, &'static str>
+    // Takes a slot, which is there.
+    fn take(&mut self, rt: &impl Abort, seq: u64, at: Ps) -> Baton
         requires { 0 < self.old.left }
         ensures left { self.new.left + 1 ≡ self.old.left }
         ensures tokens { self.new.tokens ≡ self.old.tokens }
-        ensures baton { IfOk result (λ b. IsBaton self.old.tokens b) }
-        ensures fresh { IfOk result (λ b. acquired_of b.own.name ≡ 0) }
+        ensures baton { IsBaton self.old.tokens result }
+        ensures fresh { acquired_of result.own.name ≡ 0 }
     {
         let baton = self.pool.take(&self.tokens, self.position, txn(seq), at);
         self.position += 1;
         self.left -= 1;
-        baton.ok_or("all slots are live")
+        match baton {
+            Some(baton) => baton,
+            None => panic!(rt; "all slots are live"),
+        }
+    }
+
+    // Whether there is no slot to be taken.
+    fn is_full(&mut self, seq: u64, at: Ps) -> bool
+        requires { 0 < self.old.left }
+        ensures left { self.new.left + 1 ≡ self.old.left }
+        ensures tokens { self.new.tokens ≡ self.old.tokens }
+    {
+        let baton = self.pool.take(&self.tokens, self.position, txn(seq), at);
+        self.position += 1;
+        self.left -= 1;
+        baton.is_none()
     }
 
     fn acquire(&mut self, baton: Baton, at: Ps) -> (Baton, Hold)
@@ -109,43 +123,38 @@ impl Bench {
         freed
     }
 
-    // The entry at this index in few words: 100 is an Acquire, 200 a Release and 300 one that frees, and
-    // the slot is added.
-    fn said(&self, index: u64) -> Option<u32> {
+    // What the entry at this index says, and its slot.
+    fn said(&self, index: u64) -> (&'static str, u32) {
         let log = self.pool.log();
         if index >= log.len() {
-            return None;
+            return ("nothing", 0);
         }
         match log.what(index) {
-            Some(What::Take { slot }) => Some(slot),
-            Some(What::Acquire { slot }) => slot.checked_add(100),
-            Some(What::Release { slot, freed }) => {
-                slot.checked_add(if freed { 300 } else { 200 })
-            }
-            _ => None,
+            Some(What::Take { slot }) => ("take", slot),
+            Some(What::Acquire { slot }) => ("acquire", slot),
+            Some(What::Release { slot, freed: false }) => ("release", slot),
+            Some(What::Release { slot, freed: true }) => ("free", slot),
+            _ => ("another", 0),
         }
     }
 }
 
 #[test]
-fn a_slot_is_free_after_its_last_reference(rt: HostRuntime) -> Result<(), Fail> {
-    let mut bench = make_bench(rt.alloc(), 2, 8)?;
-    let x = bench.take(0, 0)?;
-    assert_eq!(rt; (x.slot(), x.acquired()), (0, 0));
-    let y = bench.take(1, 0)?;
-    assert_eq!(rt; y.slot(), 1);
-    assert!(rt; bench.take(2, 0).is_err());
+fn a_slot_is_free_after_its_last_reference(rt: HostRuntime) {
+    let Ok(mut bench) = make_bench(rt.alloc(), 2, 8) else {
+        panic!(rt; "memory");
+    };
+    let x = bench.take(&rt, 0, 0);
+    let y = bench.take(&rt, 1, 0);
+    assert!(rt; x.slot() == 0 && x.acquired() == 0 && y.slot() == 1);
+    assert!(rt; bench.is_full(2, 0));
     let (x, hold) = bench.acquire(x, 0);
-    assert_eq!(rt; (hold.number(), x.acquired()), (0, 1));
-    assert!(rt; !bench.stow(x, 10));
-    assert_eq!(rt; bench.pool.live(), 2);
-    assert!(rt; bench.release(hold, 12));
-    assert_eq!(rt; bench.pool.live(), 1);
-    let z = bench.take(2, 12)?;
-    assert_eq!(rt; (z.slot(), z.txn()), (0, txn(2)));
-    let said = [0, 1, 100, 200, 300, 0];
-    for index in 0..6 {
-        assert_eq!(rt; bench.said(index as u64), Some(said[index]));
-    }
-    Ok(())
+    assert!(rt; hold.number() == 0 && x.acquired() == 1);
+    assert!(rt; !bench.stow(x, 10) && bench.pool.live() == 2);
+    assert!(rt; bench.release(hold, 12) && bench.pool.live() == 1);
+    let z = bench.take(&rt, 2, 12);
+    assert!(rt; z.slot() == 0 && z.txn() == txn(2));
+    assert!(rt; bench.said(0) == ("take", 0) && bench.said(1) == ("take", 1));
+    assert!(rt; bench.said(2) == ("acquire", 0) && bench.said(3) == ("release", 0));
+    assert!(rt; bench.said(4) == ("free", 0) && bench.said(5) == ("take", 0));
 }

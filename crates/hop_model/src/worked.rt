@@ -12,7 +12,7 @@ pub fn transactions_take_turns()
     ensures { Passes two_lanes start taking_turns turns }
 {}
 
-/// The same log keeps the rules; its last request ended at 6 ps, and its last response at 7 ps.
+/// The log of three transactions that take turns keeps the rules; its last request ended at 6 ps, and its last response at 7 ps.
 pub fn turns_keep_rules()
     ensures rules { KeepsRules two_lanes taking_turns }
     ensures request { request_end taking_turns ≡ 6 }

@@ -16,8 +16,9 @@ use std::marker::Model;
 use tlm_types::{Head, Log, Memory, ObjectNo, Phase, Ps, ReqMode, RespMode, TlmSync, TxnId, What};
 use token_book::Book;
 
-/// A hop with its lanes in use, the time of the last call that ended a request, the greatest time of a
-/// call that ended a response, its log with the marks of its calls, and the book of its legs.
+/// A bound pair of sockets (clause 11.1.2) with its lanes in use, the time of the last call that ended
+/// a request, the greatest time of a call that ended a response, its log with the marks of its calls,
+/// and the book of its legs.
 #[derive(Drop)]
 pub struct Hop<T> {
     pub(crate) number: u32,

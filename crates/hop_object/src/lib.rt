@@ -1,5 +1,5 @@
-//! A hop: one binding of an upstream socket to a downstream component, with the phases of the base
-//! protocol (IEEE 1666-2011, clause 15.2).
+//! A hop: a bound pair of sockets, whose calls are those of `nb_transport_fw` and `nb_transport_bw` (IEEE
+//! 1666-2011, clause 11.1.2), with the phases of the base protocol (clause 15.2).
 //!
 //! - `Hop` has up to 16 lanes, one for each transaction under way, and a log of the calls on it. A lane
 //!   carries an item while a request or a response waits to be fetched.

@@ -1,11 +1,10 @@
 -- Own lists that are as many as the whole list has are all of it.
-use Rattle.std.proofs.Common.{◌≡◌, ◌⊎◌, ℕ, zero, suc, ◌+◌, ◌<◌, ◌≤◌, Bool, true, false, cond, List, [], ◌∷◌, ◌++◌, length, refl, sym, ap, ◌∙◌, subst, inl, inr, ⊎_elim, arith, length-append}
+use Rattle.std.proofs.Common.{◌≡◌, ◌⊎◌, ℕ, zero, suc, ◌+◌, ◌<◌, Bool, true, false, cond, List, [], ◌∷◌, ◌++◌, length, refl, sym, ap, ◌∙◌, subst, inl, inr, ⊎_elim, arith, length-append}
 use Rattle.std.specs.List.{filter}
 use mathlib.Core.Option.{some, some-injective}
-use lib.ListN.{get_elem?}
 use Rattle.view_lists.specs.Lists.{AreDistinct, Has, Within}
 use Rattle.view_lists.proofs.Distinct.{within-distinct}
-use Rattle.view_lists.proofs.Members.{has_either, has_later, has_left, has_none, has_right}
+use Rattle.view_lists.proofs.Members.{has_either, has_later, has_none}
 use Rattle.joined_runs.specs.Counting.{AreAll, IsRising, lengths_of}
 
 module _ {A : Type 0} where

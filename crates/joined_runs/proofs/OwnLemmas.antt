@@ -1,16 +1,16 @@
 -- What an initiator is told stands in its own entries.
 use std.Path.{fun_ext}
-use Rattle.std.proofs.Common.{◌≡◌, ℕ, ◌+◌, List, [], ◌∷◌, ◌++◌, Option, Some, None, Bool, true, false, ◌||◌, ◌&&◌, cond, nat_eq, is_none, refl, ap, sym, ◌∙◌}
+use Rattle.std.proofs.Common.{◌≡◌, ℕ, List, [], ◌∷◌, ◌++◌, Option, Some, None, Bool, true, false, ◌||◌, ◌&&◌, cond, nat_eq, is_none, refl, ap, sym, ◌∙◌}
 use Rattle.std.specs.List.{filter, list_all}
 use Rattle.std.proofs.lemmas.List.Elements.{filter-append}
 use Rattle.tlm_types.specs.declared.entry.Entry.{Entry}
 use Rattle.tlm_model.specs.declared.operation.Operation.{Operation}
-use Rattle.tlm_model.specs.declared.operation.Operation.TheVariants.{Write, Read, Ignore, Debug, Copy, Add, Wait, Sync, Fence, Invalidate}
 use Rattle.tlm_model.specs.declared.platform.Platform.{Platform}
 use Rattle.tlm_model.specs.Plan.{Initiator}
-use Rattle.tlm_model.specs.Requests.{Request, answered, buffer_by, buffer_of, first_of_two, got_in, is_txn, requests_from, requests_of, using, has_no_route}
-use Rattle.tlm_model.specs.Route.{Route, later, latency_of, route_of}
+use Rattle.tlm_model.specs.Requests.{Request, answered, buffer_by, buffer_of, first_of_two, got_in, is_txn, requests_from, requests_of, has_no_route}
+use Rattle.tlm_model.specs.Route.{Route, route_of}
 use Rattle.tlm_model.specs.Scripts.{has_answer, is_answer, is_settled}
+use Rattle.tlm_model.proofs.RequestLemmas.{same_requests}
 use Rattle.joined_runs.specs.Own.{own}
 use Rattle.joined_runs.specs.Laws.{OwnIsEnough, OwnRequestsStand}
 
@@ -47,32 +47,8 @@ module _ (p : Platform) (i : Initiator) (h : List Entry) where
   all_settled-own : (rs : List Request) → list_all (is_settled p i h) rs ≡ list_all (is_settled p i (own i.number h)) rs
   all_settled-own rs = ap (λ (test : Request → Bool). list_all test rs) (fun_ext is_settled-own)
 
-  one_more : (r : Request) (xs ys : List Request) → xs ≡ ys → r ∷ xs ≡ r ∷ ys
-  one_more r xs ys same = ap (λ (rs : List Request). r ∷ rs) same
-
-  using-same : (x y : Option (List ℕ)) (f g : List ℕ → List Request) → x ≡ y → ((got : List ℕ) → f got ≡ g got) → using x f ≡ using y g
-  using-same x y f g same each = ap (λ (o : Option (List ℕ)). using o f) same ∙ by_reply y
-    where
-      by_reply : (o : Option (List ℕ)) → using o f ≡ using o g
-      by_reply None = refl
-      by_reply (Some got) = each got
-
   requests_from-own : (s t g : ℕ) (ops : List Operation) → requests_from p i h s t g ops ≡ requests_from p i (own i.number h) s t g ops
-  requests_from-own s t g [] = refl
-  requests_from-own s t g (Write a bytes enables width ∷ ops) = one_more _ _ _ (requests_from-own (s + 1) (later t (latency_of p i a)) g ops)
-  requests_from-own s t g (Read a n enables width ∷ ops) = one_more _ _ _ (requests_from-own (s + 1) (later t (latency_of p i a)) g ops)
-  requests_from-own s t g (Ignore a ∷ ops) = one_more _ _ _ (requests_from-own (s + 1) (later t (latency_of p i a)) g ops)
-  requests_from-own s t g (Debug a n ∷ ops) = one_more _ _ _ (requests_from-own (s + 1) t (g + 2) ops)
-  requests_from-own s t g (Copy from to n ∷ ops) =
-      one_more _ _ _ (using-same _ _ _ _ (buffer_of-own s from n) (λ got.
-      one_more _ _ _ (requests_from-own (s + 2) (later (later t (latency_of p i from)) (latency_of p i to)) (g + 3) ops)))
-  requests_from-own s t g (Add a n ∷ ops) =
-      one_more _ _ _ (using-same _ _ _ _ (buffer_of-own s a 4) (λ got.
-      one_more _ _ _ (requests_from-own (s + 2) (later (later t (latency_of p i a)) (latency_of p i a)) (g + 3) ops)))
-  requests_from-own s t g (Wait n ∷ ops) = requests_from-own s (later t n) (g + 1) ops
-  requests_from-own s t g (Sync ∷ ops) = requests_from-own s t (g + 1) ops
-  requests_from-own s t g (Fence ∷ ops) = requests_from-own s t (g + 1) ops
-  requests_from-own s t g (Invalidate a n ∷ ops) = one_more _ _ _ (requests_from-own (s + 1) t (g + 2) ops)
+  requests_from-own s t g ops = same_requests p i h (own i.number h) buffer_of-own s t g ops
 
   pub requests_of-own : requests_of p i h ≡ requests_of p i (own i.number h)
   requests_of-own = requests_from-own 0 0 0 i.script

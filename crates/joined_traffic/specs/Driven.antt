@@ -1,19 +1,14 @@
 -- What an initiator that has finished knows of its own entries, and what its wallet has left.
-use Rattle.std.specs.Prelude.{ℕ, ◌≡◌, ◌≢◌, ◌+◌, ◌<◌, ◌≤◌, List, length, sum_by, IsTrue, Some}
+use Rattle.std.specs.Prelude.{ℕ, ◌≡◌, ◌+◌, ◌<◌, ◌≤◌, List, length, sum_by, IsTrue, Some}
 use Rattle.view_lists.specs.Lists.{AreDistinct, Has, Within}
 use Rattle.tlm_types.specs.declared.words.ObjectNo.{ObjectNo}
 use Rattle.tlm_types.specs.declared.words.ObjectNo.TheVariants.{Memory, Hop, Pool}
-use Rattle.tlm_types.specs.declared.words.Phase.{Phase}
-use Rattle.tlm_types.specs.declared.words.Phase.TheVariants.{EndResp}
-use Rattle.tlm_types.specs.declared.words.TlmSync.{TlmSync}
 use Rattle.tlm_types.specs.declared.words.TxnId.{TxnId}
 use Rattle.tlm_types.specs.declared.entry.Entry.{Entry}
 use Rattle.tlm_model.specs.History.{entries_at}
 use Rattle.tlm_model.specs.Plan.{Plan, Initiator}
-use Rattle.base_phases.specs.Sequences.{Call}
-use Rattle.hop_model.specs.Table.{sequences_of}
-use Rattle.flow_model.specs.World.{World, Passage, hop_at, hop_count, row_of}
-use Rattle.flow_model.specs.Events.{Among, Event, Finds, FindsAt, IsCall, IsTake, entries}
+use Rattle.flow_model.specs.World.{World, Passage, hop_at, hop_count}
+use Rattle.flow_model.specs.Events.{Among, Event, FindsAt, IsTake, entries}
 use Rattle.flow_model.specs.Called.{HasCalled}
 use Rattle.flow_model.specs.Platform.{passage_of, world_of}
 use Rattle.joined_runs.specs.Counting.{IsRising}

@@ -1,5 +1,6 @@
 // Masked copies, as plain loops.
 ghost use Rattle.std.specs.Prelude.{◌≡◌, ℕ, ◌<◌, ◌↔◌, IsTrue, All, length, slice_index};
+ghost use Rattle.tlm_types.specs.Enables.{is_lane_enabled};
 ghost use Rattle.lane_copy.specs.Lanes as lanes;
 
 /// The element of byte enables that lets its byte through (`TLM_BYTE_ENABLED`).
@@ -7,7 +8,7 @@ const ENABLED: u8 = 0xff;
 
 /// Whether byte `index` is enabled.
 pub fn is_enabled(enables: &[u8], index: usize) -> bool
-    ensures { result ≡ lanes.is_enabled enables.now index }
+    ensures { result ≡ is_lane_enabled enables.now index }
 {
     enables.is_empty() || enables[index % enables.len()] == ENABLED
 }

@@ -11,7 +11,5 @@
 #![tactic(auto)]
 
 mod lanes;
-#[cfg(test)]
-mod tests;
 
 pub use lanes::{expand, is_enabled, is_zero, merge};

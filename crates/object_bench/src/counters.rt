@@ -1,5 +1,5 @@
 // Counters under locks: steps of two threads, and the ways of one call.
-ghost use Rattle.std.specs.Prelude.{◌≡◌, ◌<◌, ◌≤◌, [], ◌∷◌, slice_index_or, IfOk, IfSome};
+ghost use Rattle.std.specs.Prelude.{◌≡◌, ◌<◌, ◌≤◌, [], ◌∷◌, slice_index_or, IfOk};
 ghost use Rattle.one_history.specs.Moves.{fresh};
 ghost use Rattle.token_book.specs.Ticket.{IsTicket};
 ghost use Rattle.shared_object.specs.Standing.{HasGates, IsBook};
@@ -9,11 +9,11 @@ ghost use Rattle.object_bench.specs.Rights.{rights};
 use crate::bench::{desk_of, pair, ticket_of, two_books};
 use crate::counter::Counter;
 use one_history::NoLaw;
-use shared_object::{Naming, Shared, Stepped, Unstepped};
+use shared_object::{Naming, Shared, Stepped};
 use std::alloc::Global;
 use std::marker::Brand;
+use std::process::Abort;
 use std::sync::Wait;
-use std::test::Fail;
 use std::thread::{Threads, join};
 use tlm_types::Memory;
 use token_book::{Ticket, Token, Tokens};
@@ -27,20 +27,20 @@ type Desk = crate::bench::Desk<Counter, NoLaw>;
 type Place<N> = crate::bench::Place<Counter, NoLaw, N>;
 
 // Adds 3, and answers the position of the entry.
-fn visit<N: Naming<(), NoLaw>, R: Wait>(
+fn visit<N: Naming<(), NoLaw>, R: Wait + Abort>(
     rt: &R,
     past: &Past,
     tokens: &Tokens,
     place: &Place<N>,
     note: Leaf,
     ticket: Ticket,
-) -> Option<(u64, Leaf)>
+) -> (u64, Leaf)
     requires past { (past.now.table ≡ N.table) × (past.now.frame ≡ N.frame) }
     requires tokens { tokens.now ≡ N.tokens }
     requires note { IsNote N.table note }
     requires ticket { IsTicket N.tokens place.now.number ticket }
-    ensures note { IfSome result (λ r. IsNote N.table r.1) }
-    ensures late { IfSome result (λ r. (note.knows.seen ≤ r.0) × (r.0 < r.1.knows.seen)) }
+    ensures note { IsNote N.table result.1 }
+    ensures late { (note.knows.seen ≤ result.0) × (result.0 < result.1.knows.seen) }
 {
     match place.step(rt, past, tokens, note, Some(ticket), Some(3)) {
         Ok(
@@ -50,39 +50,25 @@ fn visit<N: Naming<(), NoLaw>, R: Wait>(
                 note,
                 ticket: _,
             },
-        ) => Some((position, note)),
-        Ok(
-            Stepped {
-                reply: _,
-                position: None,
-                note: _,
-                ticket: _,
-            },
-        ) => None,
-        Err(
-            Unstepped {
-                note: _,
-                ticket: _,
-                call: _,
-            },
-        ) => None,
+        ) => (position, note),
+        _ => panic!(rt; "nothing was added"),
     }
 }
 
 // Adds more than the counter can take: the ticket comes back, and no entry is added.
-fn over<N: Naming<(), NoLaw>, R: Wait>(
+fn over<N: Naming<(), NoLaw>, R: Wait + Abort>(
     rt: &R,
     past: &Past,
     tokens: &Tokens,
     place: &Place<N>,
     note: Leaf,
     ticket: Ticket,
-) -> Option<(Leaf, Ticket)>
+) -> (Leaf, Ticket)
     requires past { (past.now.table ≡ N.table) × (past.now.frame ≡ N.frame) }
     requires tokens { tokens.now ≡ N.tokens }
     requires note { IsNote N.table note }
     requires ticket { IsTicket N.tokens place.now.number ticket }
-    ensures { IfSome result (λ r. IsNote N.table r.0 × IsTicket N.tokens place.now.number r.1) }
+    ensures { IsNote N.table result.0 × IsTicket N.tokens place.now.number result.1 }
 {
     match place.step(rt, past, tokens, note, Some(ticket), Some(11)) {
         Ok(
@@ -92,40 +78,23 @@ fn over<N: Naming<(), NoLaw>, R: Wait>(
                 note,
                 ticket,
             },
-        ) => {
-            let ticket = ticket?;
-            Some((note, ticket))
-        }
-        Ok(
-            Stepped {
-                reply: _,
-                position: _,
-                note: _,
-                ticket: _,
-            },
-        ) => None,
-        Err(
-            Unstepped {
-                note: _,
-                ticket: _,
-                call: _,
-            },
-        ) => None,
+        ) => (note, ticket.expect(rt, "no ticket")),
+        _ => panic!(rt; "too much was added"),
     }
 }
 
 // Asks for the total, which needs no ticket.
-fn ask<N: Naming<(), NoLaw>, R: Wait>(
+fn ask<N: Naming<(), NoLaw>, R: Wait + Abort>(
     rt: &R,
     past: &Past,
     tokens: &Tokens,
     place: &Place<N>,
     note: Leaf,
-) -> Option<(u64, Leaf)>
+) -> (u64, Leaf)
     requires past { (past.now.table ≡ N.table) × (past.now.frame ≡ N.frame) }
     requires tokens { tokens.now ≡ N.tokens }
     requires note { IsNote N.table note }
-    ensures { IfSome result (λ r. IsNote N.table r.1) }
+    ensures { IsNote N.table result.1 }
 {
     match place.step(rt, past, tokens, note, None, None) {
         Ok(
@@ -135,34 +104,20 @@ fn ask<N: Naming<(), NoLaw>, R: Wait>(
                 note,
                 ticket: None,
             },
-        ) => Some((total, note)),
-        Ok(
-            Stepped {
-                reply: _,
-                position: _,
-                note: _,
-                ticket: _,
-            },
-        ) => None,
-        Err(
-            Unstepped {
-                note: _,
-                ticket: _,
-                call: _,
-            },
-        ) => None,
+        ) => (total, note),
+        _ => panic!(rt; "no total"),
     }
 }
 
 // Adds 3 without the lock, and answers the position of the entry.
-fn visit_alone<N: Naming<(), NoLaw>, R: Wait>(
+fn visit_alone<N: Naming<(), NoLaw>, R: Wait + Abort>(
     rt: &R,
     past: &Past,
     tokens: &Tokens,
     place: &mut Place<N>,
     note: Leaf,
     ticket: Ticket,
-) -> Option<u64>
+) -> u64
     requires past { (past.now.table ≡ N.table) × (past.now.frame ≡ N.frame) }
     requires tokens { tokens.now ≡ N.tokens }
     requires note { IsNote N.table note }
@@ -172,18 +127,12 @@ fn visit_alone<N: Naming<(), NoLaw>, R: Wait>(
         Ok(
             Stepped {
                 reply: _,
-                position,
+                position: Some(position),
                 note: _,
                 ticket: _,
             },
         ) => position,
-        Err(
-            Unstepped {
-                note: _,
-                ticket: _,
-                call: _,
-            },
-        ) => None,
+        _ => panic!(rt; "nothing was added"),
     }
 }
 
@@ -218,20 +167,20 @@ fn seated<N: Naming<(), NoLaw>>(desk: Desk) -> (Place<N>, Token, Token)
 
 // Two threads add to two counters. Then the note of the first goes to the second counter: what is
 // added there stands after what it has seen.
-fn walk<N: Naming<(), NoLaw> + Send + Sync, R: Threads + Wait + Sync>(
+fn walk<N: Naming<(), NoLaw> + Send + Sync, R: Threads + Wait + Abort + Sync>(
     rt: &R,
     past: &Past,
     tokens: &Tokens,
     places: (&Place<N>, &Place<N>),
     notes: (Leaf, Leaf),
     tickets: (Ticket, Ticket, Ticket),
-) -> Option<(u64, u64, u64)>
+) -> (u64, u64, u64)
     requires past { (past.now.table ≡ N.table) × (past.now.frame ≡ N.frame) }
     requires tokens { tokens.now ≡ N.tokens }
     requires notes { IsNote N.table notes.0 × IsNote N.table notes.1 }
     requires first { IsTicket N.tokens places.0.now.number tickets.0 }
     requires second { IsTicket N.tokens places.1.now.number tickets.1 × IsTicket N.tokens places.1.now.number tickets.2 }
-    ensures { IfSome result (λ r. r.0 < r.2) }
+    ensures { result.0 < result.2 }
 {
     let (first, second) = places;
     let (one, two) = notes;
@@ -241,10 +190,10 @@ fn walk<N: Naming<(), NoLaw> + Send + Sync, R: Threads + Wait + Sync>(
         || visit(rt, past, tokens, first, one, mine),
         || visit(rt, past, tokens, second, two, yours),
     );
-    let (position, note) = a?;
-    let (other, _note) = b?;
-    let (later, _note) = visit(rt, past, tokens, second, note, last)?;
-    Some((position, other, later))
+    let (position, note) = a;
+    let (other, _note) = b;
+    let (later, _note) = visit(rt, past, tokens, second, note, last);
+    (position, other, later)
 }
 
 // What a counter has added at the end.
@@ -254,13 +203,13 @@ fn total<N: Naming<(), NoLaw>, R: Wait>(rt: &R, place: Place<N>) -> u64 {
 }
 
 // Two counters under locks, two threads, and a walk from one to the other. The call picks N.
-fn opened<N: Naming<(), NoLaw> + Send + Sync, R: Threads + Wait + Sync>(
+fn opened<N: Naming<(), NoLaw> + Send + Sync, R: Threads + Wait + Abort + Sync>(
     rt: &R,
     past: &Past,
     tokens: &Tokens,
     desks: (Desk, Desk),
     mut note: Leaf,
-) -> Option<Walked>
+) -> Walked
     requires past { (past.now.table ≡ N.table) × (past.now.frame ≡ N.frame) }
     requires frame { (N.frame.planned ≡ 2 ∷ 2 ∷ []) × (N.frame.gates ≡ 0 ∷ 0 ∷ []) }
     requires tokens { tokens.now ≡ N.tokens }
@@ -270,7 +219,7 @@ fn opened<N: Naming<(), NoLaw> + Send + Sync, R: Threads + Wait + Sync>(
     requires counters { (desks.0.object.left ≡ 2) × (desks.0.object.log.entries ≡ []) × (desks.1.object.left ≡ 2) × (desks.1.object.log.entries ≡ []) }
     requires first { (desks.0.entries ≡ rights N.tokens 0 0 2) × (desks.0.bytes ≡ rights N.tokens 0 1 0) }
     requires second { (desks.1.entries ≡ rights N.tokens 1 0 2) × (desks.1.bytes ≡ rights N.tokens 1 1 0) }
-    ensures { IfSome result (λ w. w.one < w.later) }
+    ensures { result.one < result.later }
 {
     let (left, right) = desks;
     let (first, mut entries, mut bytes) = seated::<N>(left);
@@ -286,25 +235,25 @@ fn opened<N: Naming<(), NoLaw> + Send + Sync, R: Threads + Wait + Sync>(
         (&first, &second),
         (note, part),
         (mine, yours, last),
-    )?;
+    );
     let totals = (total(rt, first), total(rt, second));
-    Some(Walked {
+    Walked {
         one,
         two,
         later,
         totals,
-    })
+    }
 }
 
 // One counter, which refuses an amount, then takes another, and takes it once more without the lock. The
 // call picks N.
-fn alone<N: Naming<(), NoLaw>, R: Wait>(
+fn alone<N: Naming<(), NoLaw>, R: Wait + Abort>(
     rt: &R,
     past: &Past,
     tokens: &Tokens,
     desk: Desk,
     note: Leaf,
-) -> Option<(u64, u64, u64, u64)>
+) -> (u64, u64, u64, u64)
     requires past { (past.now.table ≡ N.table) × (past.now.frame ≡ N.frame) }
     requires frame { (N.frame.planned ≡ 2 ∷ 2 ∷ []) × (N.frame.gates ≡ 0 ∷ 0 ∷ []) }
     requires tokens { tokens.now ≡ N.tokens }
@@ -316,12 +265,12 @@ fn alone<N: Naming<(), NoLaw>, R: Wait>(
 {
     let (mut place, mut entries, mut bytes) = seated::<N>(desk);
     let ticket = ticket_of(tokens, &mut entries, &mut bytes, 0);
-    let (note, ticket) = over(rt, past, tokens, &place, note, ticket)?;
-    let (first, note) = visit(rt, past, tokens, &place, note, ticket)?;
-    let (told, note) = ask(rt, past, tokens, &place, note)?;
+    let (note, ticket) = over(rt, past, tokens, &place, note, ticket);
+    let (first, note) = visit(rt, past, tokens, &place, note, ticket);
+    let (told, note) = ask(rt, past, tokens, &place, note);
     let ticket = ticket_of(tokens, &mut entries, &mut bytes, 0);
-    let second = visit_alone(rt, past, tokens, &mut place, note, ticket)?;
-    Some((first, told, second, total(rt, place)))
+    let second = visit_alone(rt, past, tokens, &mut place, note, ticket);
+    (first, told, second, total(rt, place))
 }
 
 // Two counters of one history, each with room for two entries, and a note that stands for so many.
@@ -361,35 +310,38 @@ fn two_counters(alloc: Global, notes: u32) -> Result<Start, Memory>
 }
 
 #[test]
-fn threads_step_on_two_objects(rt: HostRuntime) -> Result<(), Fail> {
-    let Start {
-        past,
-        tokens,
-        first,
-        second,
-        note,
-    } = two_counters(rt.alloc(), 2)?;
+fn threads_step_on_two_objects(rt: HostRuntime) {
+    let Ok(
+        Start {
+            past,
+            tokens,
+            first,
+            second,
+            note,
+        },
+    ) = two_counters(rt.alloc(), 2)
+    else {
+        panic!(rt; "memory");
+    };
     let walked = opened::<Brand, HostRuntime>(&rt, &past, &tokens, (first, second), note);
-    let walked = walked.ok_or("a step was refused")?;
-    assert_eq!(rt;
-        (walked.one.min(walked.two), walked.one.max(walked.two)),
-        (0, 1)
-    );
-    assert_eq!(rt; walked.later, 2);
-    assert_eq!(rt; walked.totals, (3, 6));
-    Ok(())
+    assert!(rt; walked.one.min(walked.two) == 0 && walked.one.max(walked.two) == 1);
+    assert!(rt; walked.later == 2 && walked.totals == (3, 6));
 }
 
 #[test]
-fn a_refused_call_adds_nothing(rt: HostRuntime) -> Result<(), Fail> {
-    let Start {
-        past,
-        tokens,
-        first,
-        second: _,
-        note,
-    } = two_counters(rt.alloc(), 1)?;
+fn a_refused_call_adds_nothing(rt: HostRuntime) {
+    let Ok(
+        Start {
+            past,
+            tokens,
+            first,
+            second: _,
+            note,
+        },
+    ) = two_counters(rt.alloc(), 1)
+    else {
+        panic!(rt; "memory");
+    };
     let answers = alone::<Brand, HostRuntime>(&rt, &past, &tokens, first, note);
-    assert_eq!(rt; answers, Some((0, 3, 1, 6)));
-    Ok(())
+    assert!(rt; answers == (0, 3, 1, 6));
 }

@@ -9,7 +9,6 @@ use crate::history::{Chair, Five, Leaf, Past, Seven, end};
 use one_history::{Entered, History, Sign};
 use std::alloc::Global;
 use std::sync::Wait;
-use std::test::Fail;
 use std::thread::{Threads, join};
 use tlm_types::Memory;
 
@@ -115,15 +114,17 @@ fn compete<R: Threads + Wait + Sync>(
 }
 
 #[test]
-fn a_gate_is_shut_while_a_thread_is_inside(rt: HostRuntime) -> Result<(), Fail> {
-    let alloc = rt.alloc();
-    let (past, mut keeper, visitor, mut note) = two_objects(alloc)?;
+fn a_gate_is_shut_while_a_thread_is_inside(rt: HostRuntime) {
+    let Ok((past, mut keeper, visitor, mut note)) = two_objects(rt.alloc()) else {
+        panic!(rt; "memory");
+    };
     let early = past.split(&mut note);
     let late = past.split(&mut note);
     let granted = grant(&past, &mut keeper);
-    let early = go_inside(&past, early).ok_or("the gate isn't marked yet")?;
+    let Some(early) = go_inside(&past, early) else {
+        panic!(rt; "the gate is marked too early");
+    };
     let (keeper, visitor) = compete(&rt, &past, (keeper, note, granted), (visitor, early));
     assert!(rt; go_inside(&past, late).is_none());
-    assert_eq!(rt; end(alloc, past, keeper, visitor)?, 4);
-    Ok(())
+    assert!(rt; end(rt.alloc(), past, keeper, visitor).expect(&rt, "memory") == 4);
 }

@@ -9,7 +9,6 @@ ghost use Rattle.token_book.specs.Purse.{HasPlace, IsOf, left_of};
 use crate::bench::{pair, two_books};
 use one_history::{Closed, Drawn, History, Looked, NoLaw, Note, ObjectSeat, Sign};
 use std::alloc::Global;
-use std::test::Fail;
 use std::thread::{Threads, join};
 use tlm_types::Memory;
 use token_book::{Book, Ticket, Tokens, Wallet};
@@ -117,29 +116,43 @@ fn pay(tokens: &Tokens, book: &mut Book, wallet: &mut Wallet)
     }
 }
 
+// Whether so many tickets of each owner are left.
+fn has_left(wallet: &Wallet, first: u64, second: u64) -> bool {
+    wallet.left(0) == first && wallet.left(1) == second && wallet.bytes(0) == 0
+}
+
 #[test]
-fn positions_rise(rt: HostRuntime) -> Result<(), Fail> {
-    let alloc = rt.alloc();
-    let (past, mut first, mut second, note) = two_objects(alloc, 1)?;
-    let (tokens, mut book, mut other) = two_books(alloc)?;
-    let mut wallet = two_places(alloc, &tokens)?;
+fn tickets_are_spent(rt: HostRuntime) {
+    let Ok((tokens, mut book, mut other)) = two_books(rt.alloc()) else {
+        panic!(rt; "memory");
+    };
+    let Ok(mut wallet) = two_places(rt.alloc(), &tokens) else {
+        panic!(rt; "memory");
+    };
     stock(&tokens, &mut book, &mut wallet, 0, 2);
     stock(&tokens, &mut other, &mut wallet, 0, 1);
-    past.join(&mut first, note);
-    assert!(rt; wallet.left(0) == 2 && wallet.left(1) == 1 && wallet.bytes(0) == 0);
+    assert!(rt; has_left(&wallet, 2, 1));
+    assert!(rt; wallet.left(0) > 0);
     pay(&tokens, &mut book, &mut wallet);
-    assert_eq!(rt; add(&past, &mut first), 0);
+    assert!(rt; wallet.left(1) > 0);
+    pay(&tokens, &mut other, &mut wallet);
+    assert!(rt; has_left(&wallet, 1, 0) && wallet.left(0) > 0);
+    pay(&tokens, &mut book, &mut wallet);
+    assert!(rt; has_left(&wallet, 0, 0));
+}
+
+#[test]
+fn positions_rise(rt: HostRuntime) {
+    let Ok((past, mut first, mut second, note)) = two_objects(rt.alloc(), 1) else {
+        panic!(rt; "memory");
+    };
+    past.join(&mut first, note);
+    assert!(rt; add(&past, &mut first) == 0);
     let note = past.copy::<Five>(&mut first);
     past.join(&mut second, note);
-    assert!(rt; wallet.left(1) == 1);
-    pay(&tokens, &mut other, &mut wallet);
-    assert_eq!(rt; add(&past, &mut second), 1);
-    assert!(rt; wallet.left(0) == 1);
-    pay(&tokens, &mut book, &mut wallet);
-    assert_eq!(rt; add(&past, &mut first), 2);
-    assert!(rt; wallet.left(0) == 0 && wallet.left(1) == 0);
-    assert_eq!(rt; end(alloc, past, first, second)?, 3);
-    Ok(())
+    assert!(rt; add(&past, &mut second) == 1);
+    assert!(rt; add(&past, &mut first) == 2);
+    assert!(rt; end(rt.alloc(), past, first, second).expect(&rt, "memory") == 3);
 }
 
 // Takes a note in, draws, and copies a note that has seen the entry.
@@ -204,15 +217,15 @@ fn exchange<R: Threads + Sync>(
 }
 
 #[test]
-fn threads_see_each_other_by_notes(rt: HostRuntime) -> Result<(), Fail> {
-    let alloc = rt.alloc();
-    let (past, first, second, mut note) = two_objects(alloc, 2)?;
+fn threads_see_each_other_by_notes(rt: HostRuntime) {
+    let Ok((past, first, second, mut note)) = two_objects(rt.alloc(), 2) else {
+        panic!(rt; "memory");
+    };
     may_be_shared(&past);
     may_move(&first);
     may_move(&note);
     let part = past.split(&mut note);
     let (first, second, one, two) = exchange(&rt, &past, (first, note), (second, part));
-    assert_eq!(rt; (one.min(two), one.max(two)), (0, 1));
-    assert_eq!(rt; end(alloc, past, first, second)?, 2);
-    Ok(())
+    assert!(rt; one.min(two) == 0 && one.max(two) == 1);
+    assert!(rt; end(rt.alloc(), past, first, second).expect(&rt, "memory") == 2);
 }

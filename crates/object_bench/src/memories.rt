@@ -1,5 +1,5 @@
 // Memories under locks: steps of two threads on one, and a step through a gate.
-ghost use Rattle.std.specs.Prelude.{◌≡◌, ◌<◌, ◌≤◌, [], ◌∷◌, IfOk, IfSome};
+ghost use Rattle.std.specs.Prelude.{◌≡◌, ◌<◌, ◌≤◌, [], ◌∷◌, IfOk};
 ghost use Rattle.one_history.specs.Moves.{fresh};
 ghost use Rattle.token_book.specs.Ticket.{IsTicket};
 ghost use Rattle.token_book.specs.Account.{amount_of};
@@ -12,11 +12,11 @@ use crate::bench::{desk_of, pair, ticket_of, two_books};
 use generic_payload::Payload;
 use one_history::{Entered, NoLaw};
 use region_object::{Region, RegionCall, RegionReply};
-use shared_object::{Naming, Shared, Stepped, Unstepped};
+use shared_object::{Naming, Shared, Stepped};
 use std::alloc::Global;
 use std::marker::Brand;
+use std::process::Abort;
 use std::sync::Wait;
-use std::test::Fail;
 use std::thread::{Threads, join};
 use tlm_types::{Memory, MemoryTraits, TxnId, Way};
 use token_book::{Ticket, Tokens};
@@ -64,8 +64,16 @@ fn read_call(alloc: Global) -> Result<RegionCall, Memory>
     })
 }
 
+// The payload of an access.
+fn accessed(rt: &impl Abort, reply: RegionReply) -> Payload {
+    match reply {
+        RegionReply::Accessed { payload } => payload,
+        _ => panic!(rt; "no access"),
+    }
+}
+
 // Makes an access, and answers the position of its entry, and the payload.
-fn visit<N: Naming<(), NoLaw>, R: Wait>(
+fn visit<N: Naming<(), NoLaw>, R: Wait + Abort>(
     rt: &R,
     past: &Past,
     tokens: &Tokens,
@@ -73,14 +81,14 @@ fn visit<N: Naming<(), NoLaw>, R: Wait>(
     note: Leaf,
     ticket: Ticket,
     call: RegionCall,
-) -> Option<(u64, Leaf, Payload)>
+) -> (u64, Leaf, Payload)
     requires past { (past.now.table ≡ N.table) × (past.now.frame ≡ N.frame) }
     requires tokens { tokens.now ≡ N.tokens }
     requires note { IsNote N.table note }
     requires ticket { IsTicket N.tokens place.now.number ticket × (cost_of call ≤ amount_of ticket.bytes) }
     requires fit { IsFit call }
-    ensures note { IfSome result (λ r. IsNote N.table r.1) }
-    ensures late { IfSome result (λ r. (note.knows.seen ≤ r.0) × (r.0 < r.1.knows.seen)) }
+    ensures note { IsNote N.table result.1 }
+    ensures late { (note.knows.seen ≤ result.0) × (result.0 < result.1.knows.seen) }
 {
     match place.step(rt, past, tokens, note, Some(ticket), call) {
         Ok(
@@ -90,28 +98,17 @@ fn visit<N: Naming<(), NoLaw>, R: Wait>(
                 note,
                 ticket: _,
             },
-        ) => {
-            let position = position?;
-            match reply {
-                RegionReply::Accessed { payload } => Some((position, note, payload)),
-                RegionReply::Moved {
-                    payload: _,
-                    moved: _,
-                } => None,
-            }
-        }
-        Err(
-            Unstepped {
-                note: _,
-                ticket: _,
-                call: _,
-            },
-        ) => None,
+        ) => (
+            position.expect(rt, "no position"),
+            note,
+            accessed(rt, reply),
+        ),
+        _ => panic!(rt; "nothing was added"),
     }
 }
 
 // Goes inside the first gate, makes an access there and leaves, in one step.
-fn through<N: Naming<(), NoLaw>, R: Wait>(
+fn through<N: Naming<(), NoLaw>, R: Wait + Abort>(
     rt: &R,
     past: &Past,
     tokens: &Tokens,
@@ -119,38 +116,29 @@ fn through<N: Naming<(), NoLaw>, R: Wait>(
     mut note: Leaf,
     ticket: Ticket,
     call: RegionCall,
-) -> Option<(u64, Leaf)>
+) -> (u64, Leaf)
     requires past { (past.now.table ≡ N.table) × (past.now.frame ≡ N.frame) }
     requires tokens { tokens.now ≡ N.tokens }
     requires gates { N.frame.gates ≡ 1 ∷ 1 ∷ [] }
     requires note { IsNote N.table note }
     requires ticket { IsTicket N.tokens place.now.number ticket × (cost_of call ≤ amount_of ticket.bytes) }
     requires fit { IsFit call }
-    ensures note { IfSome result (λ r. IsNote N.table r.1) }
-    ensures late { IfSome result (λ r. r.0 < r.1.knows.seen) }
+    ensures note { IsNote N.table result.1 }
+    ensures late { result.0 < result.1.knows.seen }
 {
-    match past.enter(&mut note, 0) {
-        Entered::Marked => None,
-        Entered::Inside => {
-            let stepped = place.step_leaving(rt, past, tokens, note, ticket, 0, call);
-            match stepped {
-                Ok(
-                    Stepped {
-                        reply: _,
-                        position,
-                        note,
-                        ticket: _,
-                    },
-                ) => Some((position?, note)),
-                Err(
-                    Unstepped {
-                        note: _,
-                        ticket: _,
-                        call: _,
-                    },
-                ) => None,
-            }
-        }
+    let Entered::Inside = past.enter(&mut note, 0) else {
+        panic!(rt; "the gate is marked");
+    };
+    match place.step_leaving(rt, past, tokens, note, ticket, 0, call) {
+        Ok(
+            Stepped {
+                reply: _,
+                position: Some(position),
+                note,
+                ticket: _,
+            },
+        ) => (position, note),
+        _ => panic!(rt; "no access"),
     }
 }
 
@@ -165,7 +153,7 @@ struct Walked {
 
 // Two threads make an access each. Then the note of the first makes another: it stands after what the
 // note has seen.
-fn walk<N: Naming<(), NoLaw> + Send + Sync, R: Threads + Wait + Sync>(
+fn walk<N: Naming<(), NoLaw> + Send + Sync, R: Threads + Wait + Abort + Sync>(
     rt: &R,
     past: &Past,
     tokens: &Tokens,
@@ -173,7 +161,7 @@ fn walk<N: Naming<(), NoLaw> + Send + Sync, R: Threads + Wait + Sync>(
     notes: (Leaf, Leaf),
     tickets: (Ticket, Ticket, Ticket),
     calls: (RegionCall, RegionCall, RegionCall),
-) -> Option<Walked>
+) -> Walked
     requires past { (past.now.table ≡ N.table) × (past.now.frame ≡ N.frame) }
     requires tokens { tokens.now ≡ N.tokens }
     requires notes { IsNote N.table notes.0 × IsNote N.table notes.1 }
@@ -181,7 +169,7 @@ fn walk<N: Naming<(), NoLaw> + Send + Sync, R: Threads + Wait + Sync>(
     requires second { IsTicket N.tokens place.now.number tickets.1 × (cost_of calls.1 ≤ amount_of tickets.1.bytes) }
     requires last { IsTicket N.tokens place.now.number tickets.2 × (cost_of calls.2 ≤ amount_of tickets.2.bytes) }
     requires fit { IsFit calls.0 × IsFit calls.1 × IsFit calls.2 }
-    ensures { IfSome result (λ w. w.one < w.later) }
+    ensures { result.one < result.later }
 {
     let (one, two) = notes;
     let (mine, yours, last) = tickets;
@@ -191,26 +179,26 @@ fn walk<N: Naming<(), NoLaw> + Send + Sync, R: Threads + Wait + Sync>(
         || visit(rt, past, tokens, place, one, mine, my_call),
         || visit(rt, past, tokens, place, two, yours, your_call),
     );
-    let (one, note, _payload) = a?;
-    let (two, _note, _payload) = b?;
-    let (later, _note, payload) = visit(rt, past, tokens, place, note, last, last_call)?;
-    Some(Walked {
+    let (one, note, _payload) = a;
+    let (two, _note, _payload) = b;
+    let (later, _note, payload) = visit(rt, past, tokens, place, note, last, last_call);
+    Walked {
         one,
         two,
         later,
         payload,
-    })
+    }
 }
 
 // Two threads on one memory. The call picks N.
-fn together<N: Naming<(), NoLaw> + Send + Sync, R: Threads + Wait + Sync>(
+fn together<N: Naming<(), NoLaw> + Send + Sync, R: Threads + Wait + Abort + Sync>(
     rt: &R,
     past: &Past,
     tokens: &Tokens,
     desk: Desk,
     mut note: Leaf,
     calls: (RegionCall, RegionCall, RegionCall),
-) -> Option<Walked>
+) -> Walked
     requires past { (past.now.table ≡ N.table) × (past.now.frame ≡ N.frame) }
     requires frame { (N.frame.planned ≡ 3 ∷ 3 ∷ []) × (N.frame.gates ≡ 1 ∷ 1 ∷ []) }
     requires tokens { tokens.now ≡ N.tokens }
@@ -221,7 +209,7 @@ fn together<N: Naming<(), NoLaw> + Send + Sync, R: Threads + Wait + Sync>(
     requires entries { desk.entries ≡ rights N.tokens 0 0 3 }
     requires bytes { desk.bytes ≡ rights N.tokens 0 1 8 }
     requires calls { (IsFit calls.0 × (cost_of calls.0 ≡ 1)) × (IsFit calls.1 × (cost_of calls.1 ≡ 1)) × (IsFit calls.2 × (cost_of calls.2 ≡ 2)) }
-    ensures { IfSome result (λ w. w.one < w.later) }
+    ensures { result.one < result.later }
 {
     let crate::bench::Desk {
         object,
@@ -248,14 +236,14 @@ fn together<N: Naming<(), NoLaw> + Send + Sync, R: Threads + Wait + Sync>(
 
 // An access through a gate, and then a read by the note that came back, which is inside none. The call
 // picks N.
-fn passing<N: Naming<(), NoLaw>, R: Wait>(
+fn passing<N: Naming<(), NoLaw>, R: Wait + Abort>(
     rt: &R,
     past: &Past,
     tokens: &Tokens,
     desk: Desk,
     note: Leaf,
     calls: (RegionCall, RegionCall),
-) -> Option<(u64, u64, Payload)>
+) -> (u64, u64, Payload)
     requires past { (past.now.table ≡ N.table) × (past.now.frame ≡ N.frame) }
     requires frame { (N.frame.planned ≡ 3 ∷ 3 ∷ []) × (N.frame.gates ≡ 1 ∷ 1 ∷ []) }
     requires tokens { tokens.now ≡ N.tokens }
@@ -278,9 +266,9 @@ fn passing<N: Naming<(), NoLaw>, R: Wait>(
     let place: Place<N> = Shared::new(object, seat, book);
     let mine = ticket_of(tokens, &mut entries, &mut bytes, 1);
     let last = ticket_of(tokens, &mut entries, &mut bytes, 2);
-    let (one, note) = through(rt, past, tokens, &place, note, mine, write)?;
-    let (later, _note, payload) = visit(rt, past, tokens, &place, note, last, read)?;
-    Some((one, later, payload))
+    let (one, note) = through(rt, past, tokens, &place, note, mine, write);
+    let (later, _note, payload) = visit(rt, past, tokens, &place, note, last, read);
+    (one, later, payload)
 }
 
 // A memory of eight bytes with room for three entries and eight bytes of them, and one gate.
@@ -343,37 +331,43 @@ fn three_calls(alloc: Global) -> Result<(RegionCall, RegionCall, RegionCall), Me
 }
 
 #[test]
-fn threads_step_on_one_memory(rt: HostRuntime) -> Result<(), Fail> {
-    let calls = three_calls(rt.alloc())?;
-    let Start {
-        past,
-        tokens,
-        desk,
-        note,
-    } = one_memory(rt.alloc(), 2)?;
+fn threads_step_on_one_memory(rt: HostRuntime) {
+    let Ok(calls) = three_calls(rt.alloc()) else {
+        panic!(rt; "memory");
+    };
+    let Ok(
+        Start {
+            past,
+            tokens,
+            desk,
+            note,
+        },
+    ) = one_memory(rt.alloc(), 2)
+    else {
+        panic!(rt; "memory");
+    };
     let walked = together::<Brand, HostRuntime>(&rt, &past, &tokens, desk, note, calls);
-    let walked = walked.ok_or("a step was refused")?;
-    assert_eq!(rt;
-        (walked.one.min(walked.two), walked.one.max(walked.two)),
-        (0, 1)
-    );
-    assert_eq!(rt; walked.later, 2);
-    assert_eq!(rt; walked.payload.bytes(), [7, 9].as_slice());
-    Ok(())
+    assert!(rt; walked.one.min(walked.two) == 0 && walked.one.max(walked.two) == 1);
+    assert!(rt; walked.later == 2 && walked.payload.bytes() == [7, 9].as_slice());
 }
 
 #[test]
-fn a_step_leaves_its_gate(rt: HostRuntime) -> Result<(), Fail> {
-    let (write, _other, read) = three_calls(rt.alloc())?;
-    let Start {
-        past,
-        tokens,
-        desk,
-        note,
-    } = one_memory(rt.alloc(), 1)?;
+fn a_step_leaves_its_gate(rt: HostRuntime) {
+    let Ok((write, _other, read)) = three_calls(rt.alloc()) else {
+        panic!(rt; "memory");
+    };
+    let Ok(
+        Start {
+            past,
+            tokens,
+            desk,
+            note,
+        },
+    ) = one_memory(rt.alloc(), 1)
+    else {
+        panic!(rt; "memory");
+    };
     let passed = passing::<Brand, HostRuntime>(&rt, &past, &tokens, desk, note, (write, read));
-    let (one, later, payload) = passed.ok_or("a step was refused")?;
-    assert_eq!(rt; (one, later), (0, 1));
-    assert_eq!(rt; payload.bytes(), [7, 0].as_slice());
-    Ok(())
+    let (one, later, payload) = passed;
+    assert!(rt; one == 0 && later == 1 && payload.bytes() == [7, 0].as_slice());
 }

@@ -3,7 +3,6 @@ ghost use Rattle.std.specs.Prelude.{◌≡◌, ◌+◌, ◌-◌, ◌/◌};
 ghost use Rattle.token_book.specs.Account.{out_of, with_amount};
 
 use crate::bench::two_books;
-use std::test::Fail;
 use std::thread::{Threads, join};
 use token_book::{Book, Token, Tokens};
 
@@ -64,8 +63,10 @@ fn retire_all(tokens: &Tokens, book: &mut Book, one: Token, two: Token)
 }
 
 #[test]
-fn threads_hand_tokens_to_each_other(rt: HostRuntime) -> Result<(), Fail> {
-    let (tokens, mut book, _other) = two_books(rt.alloc())?;
+fn threads_hand_tokens_to_each_other(rt: HostRuntime) {
+    let Ok((tokens, mut book, _other)) = two_books(rt.alloc()) else {
+        panic!(rt; "memory");
+    };
     let one = tokens.issue(&mut book, 3, 10);
     assert!(rt; book.owner() == 0 && one.name() == 3);
     may_be_shared(&tokens);
@@ -73,7 +74,6 @@ fn threads_hand_tokens_to_each_other(rt: HostRuntime) -> Result<(), Fail> {
     may_move(&one);
     let two = tokens.issue(&mut book, 3, 7);
     let (one, two) = exchange(&rt, &tokens, one, two);
-    assert_eq!(rt; (one.amount(), two.amount()), (8, 9));
+    assert!(rt; one.amount() == 8 && two.amount() == 9);
     retire_all(&tokens, &mut book, one, two);
-    Ok(())
 }

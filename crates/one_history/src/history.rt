@@ -158,9 +158,13 @@ impl<E, G, W: Law<E, G>> History<E, G, W> {
     /// the gate is drained to it. What it knows of its object is among its own entries.
     pub fn draw<D: Drawn<E>>(&self, seat: &mut ObjectSeat<E, G, W>, sign: Sign) -> u64
         requires seat { seat.old.table ≡ self.now.table }
+
+        // The entry may be drawn.
         requires planned { length (own_of seat.old.knows) < slice_index_or self.now.frame.planned (number_of seat.old.knows) 0 }
         requires backed { (p : ℕ) → seat.old.knows.seen ≤ p → KnowsOwn seat.old.knows → W.backs self.now.frame.world seat.old.knows.known (entry p (number_of seat.old.knows) sign D.content) }
         requires gates { KnowsOwn seat.old.knows → MayDraw self.now.frame seat.old.knows sign }
+
+        // It was drawn, past all that the seat had seen.
         ensures table { seat.new.table ≡ seat.old.table }
         ensures after { seat.old.knows.seen ≤ result }
         ensures below { result < 1000000 }
@@ -231,8 +235,8 @@ impl<E, G, W: Law<E, G>> History<E, G, W> {
         self.recall(seat);
     }
 
-    /// The same as `join`, without the look at the history that tells what the seat knows. A draw or a
-    /// look that follows tells it.
+    /// Takes a note into a seat as `join` does, but without the look at the history that tells what the seat
+    /// knows. To be called where a draw or a look follows, which tells it.
     pub fn take_in(&self, seat: &mut ObjectSeat<E, G, W>, note: Note<E, G, W>)
         requires seat { seat.old.table ≡ self.now.table }
         requires note { note.table ≡ self.now.table }

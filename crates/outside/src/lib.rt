@@ -18,8 +18,6 @@ mod libraries;
 mod sinks;
 mod stream;
 mod streams;
-#[cfg(test)]
-mod tests;
 mod traits;
 
 pub use folders::{Folder, FolderLibrary};

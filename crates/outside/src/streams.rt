@@ -26,7 +26,7 @@ pub struct Untold<W: Write + Drop> {
 }
 
 impl<W: Write + Drop> Untold<W> {
-    /// The same stream, of which nothing is told.
+    /// A stream that writes to this one, and of which nothing is told.
     pub fn new(inner: W) -> Untold<W> {
         Untold { inner }
     }

@@ -1,7 +1,9 @@
 //! Tests of parts of a platform, each over the public calls of its crate, which has the contracts: what
 //! these can't say is shown here.
 //!
-//! - `payloads` has the generic payload of `generic_payload`, `engines` the scripts of `script_engine`.
+//! - `payloads` has the generic payload of `generic_payload`, `engines` the scripts of `script_engine`,
+//!   `lanes` the masked copies of `lane_copy`, `events` the queue of `event_queue`.
+//! - `sequences` has rows of four-phase calls by the checks of `flow_check`.
 //! - `boards` has the rounds of `time_board`, `queues` the jobs of `run_queue`: by one thread, and by two at
 //!   once, which meet at their locks.
 //!
@@ -14,6 +16,12 @@ mod boards;
 #[cfg(test)]
 mod engines;
 #[cfg(test)]
+mod events;
+#[cfg(test)]
+mod lanes;
+#[cfg(test)]
 mod payloads;
 #[cfg(test)]
 mod queues;
+#[cfg(test)]
+mod sequences;

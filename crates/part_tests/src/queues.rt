@@ -1,12 +1,11 @@
 // Jobs, and the queue that threads share.
-ghost use Rattle.std.specs.Prelude.{◌==◌, IfOk};
+ghost use Rattle.std.specs.Prelude.{◌≡◌, ◌==◌, IfOk};
 ghost use Rattle.run_queue.specs.Queue.{AreNumbered};
 
 use run_queue::{Job, Jobs, RunQueue, Taken};
 use std::alloc::Global;
 use std::process::Abort;
 use std::sync::Wait;
-use std::test::Fail;
 use std::thread;
 use tlm_types::Memory;
 
@@ -46,8 +45,24 @@ fn make_jobs(alloc: Global, count: u32, turns: u32) -> Result<Vec<Countdown>, Me
     Ok(jobs)
 }
 
+fn jobs_of(rt: &impl Abort, alloc: Global, count: u32, turns: u32) -> Vec<Countdown>
+    ensures { AreNumbered (λ c. c.number) result.items }
+{
+    make_jobs(alloc, count, turns).expect(rt, "memory")
+}
+
+const fn waiting(number: u32) -> Countdown {
+    Countdown { number, left: 1 }
+}
+
+const fn finished(number: u32) -> Countdown
+    ensures { result.left ≡ 0 }
+{
+    Countdown { number, left: 0 }
+}
+
 // The number of the job that was taken, or -1 for Nothing and -2 for AllDone.
-fn told(taken: &Taken<Countdown>) -> i64 {
+fn told(taken: Taken<Countdown>) -> i64 {
     match taken {
         Taken::Took(job) => i64::from(job.number),
         Taken::Nothing => -1,
@@ -55,75 +70,65 @@ fn told(taken: &Taken<Countdown>) -> i64 {
     }
 }
 
-#[test]
-fn jobs_are_taken_first_in_first_out(rt: HostRuntime) -> Result<(), Fail> {
-    let alloc = rt.alloc();
-    let mut jobs = Jobs::new(alloc, make_jobs(alloc, 3, 1)?, 1)?;
-    for number in 0..3 {
-        assert_eq!(rt; told(&jobs.take()), number);
-    }
-    assert_eq!(rt; told(&jobs.take()), -1);
-    for number in [1, 0] {
-        jobs.give_back(Countdown { number, left: 1 });
-    }
-    // A job whose number isn't out is dropped.
-    for number in [1, 3] {
-        jobs.give_back(Countdown { number, left: 1 });
-        jobs.finish(Countdown { number, left: 0 });
-    }
-    assert_eq!(rt; told(&jobs.take()), 1);
-    assert_eq!(rt; told(&jobs.take()), 0);
-    assert_eq!(rt; told(&jobs.take()), -1);
-    jobs.finish(Countdown { number: 2, left: 0 });
-    assert_eq!(rt; told(&jobs.take()), -2);
-    Ok(())
+// What three takes in a row tell.
+fn three_taken(jobs: &mut Jobs<Countdown>) -> (i64, i64, i64) {
+    (told(jobs.take()), told(jobs.take()), told(jobs.take()))
 }
 
 #[test]
-fn one_job_serves_four_takers(rt: HostRuntime) -> Result<(), Fail> {
-    let alloc = rt.alloc();
-    let queue = RunQueue::new(alloc, make_jobs(alloc, 1, 0)?, 1)?;
-    let first = queue.take(&rt);
-    assert_eq!(rt; told(&first), 0);
-    for _ in 0..3 {
-        assert_eq!(rt; told(&queue.take(&rt)), -1);
+fn jobs_are_taken_first_in_first_out(rt: HostRuntime) {
+    let jobs = jobs_of(&rt, rt.alloc(), 3, 1);
+    let mut jobs = Jobs::new(rt.alloc(), jobs, 1).expect(&rt, "memory");
+    assert!(rt; three_taken(&mut jobs) == (0, 1, 2));
+    assert!(rt; told(jobs.take()) == -1);
+    jobs.give_back(waiting(1));
+    jobs.give_back(waiting(0));
+    // A job whose number isn't out is dropped.
+    for number in [1, 3] {
+        jobs.give_back(waiting(number));
+        jobs.finish(finished(number));
     }
-    let Taken::Took(job) = first else {
-        return Err("not taken")?;
-    };
-    queue.give_back(&rt, job);
-    assert_eq!(rt; told(&queue.take(&rt)), 0);
-    queue.finish(&rt, Countdown { number: 0, left: 0 });
-    for _ in 0..4 {
-        assert_eq!(rt; told(&queue.take(&rt)), -2);
+    assert!(rt; three_taken(&mut jobs) == (1, 0, -1));
+    jobs.finish(finished(2));
+    assert!(rt; told(jobs.take()) == -2);
+}
+
+// Whether so many takes in a row all tell this.
+fn all_tell<R: Wait>(rt: &R, queue: &RunQueue<Countdown>, count: u32, number: i64) -> bool {
+    for _ in 0..count {
+        if told(queue.take(rt)) != number {
+            return false;
+        }
     }
-    assert_eq!(rt; queue.into_jobs(&rt).len(), 1);
-    Ok(())
+    true
+}
+
+#[test]
+fn one_job_serves_four_takers(rt: HostRuntime) {
+    let jobs = jobs_of(&rt, rt.alloc(), 1, 0);
+    let queue = RunQueue::new(rt.alloc(), jobs, 1).expect(&rt, "memory");
+    assert!(rt; told(queue.take(&rt)) == 0);
+    assert!(rt; all_tell(&rt, &queue, 3, -1));
+    queue.give_back(&rt, finished(0));
+    assert!(rt; told(queue.take(&rt)) == 0);
+    queue.finish(&rt, finished(0));
+    assert!(rt; all_tell(&rt, &queue, 4, -2));
+    assert!(rt; queue.into_jobs(&rt).len() == 1);
 }
 
 // A job that is handed in waits, or has finished, before the next one is taken.
 #[test]
-fn who_hands_in_takes_the_next(rt: HostRuntime) -> Result<(), Fail> {
-    let alloc = rt.alloc();
-    let queue = RunQueue::new(alloc, make_jobs(alloc, 2, 1)?, 2)?;
-    assert_eq!(rt; told(&queue.take(&rt)), 0);
-    for (number, next) in [(0, 1), (1, 0)] {
-        let job = Countdown { number, left: 1 };
-        assert_eq!(rt; told(&queue.give_back_and_take(&rt, job)), next);
-    }
-    assert_eq!(rt; told(&queue.take(&rt)), 1);
-    for number in [1, 0] {
-        let job = Countdown { number, left: 1 };
-        assert_eq!(rt;
-            told(&queue.give_back_and_take(&rt, job)),
-            i64::from(number)
-        );
-    }
-    for (number, next) in [(1, -1), (0, -2)] {
-        let job = Countdown { number, left: 0 };
-        assert_eq!(rt; told(&queue.finish_and_take(&rt, job)), next);
-    }
-    Ok(())
+fn who_hands_in_takes_the_next(rt: HostRuntime) {
+    let jobs = jobs_of(&rt, rt.alloc(), 2, 1);
+    let queue = RunQueue::new(rt.alloc(), jobs, 2).expect(&rt, "memory");
+    assert!(rt; told(queue.take(&rt)) == 0);
+    assert!(rt; told(queue.give_back_and_take(&rt, waiting(0))) == 1);
+    assert!(rt; told(queue.give_back_and_take(&rt, waiting(1))) == 0);
+    assert!(rt; told(queue.take(&rt)) == 1);
+    assert!(rt; told(queue.give_back_and_take(&rt, waiting(1))) == 1);
+    assert!(rt; told(queue.give_back_and_take(&rt, waiting(0))) == 0);
+    assert!(rt; told(queue.finish_and_take(&rt, finished(1))) == -1);
+    assert!(rt; told(queue.finish_and_take(&rt, finished(0))) == -2);
 }
 
 // Takes jobs and gives each a turn, until enough have finished. Answers how many turns it gave.
@@ -155,21 +160,22 @@ fn give_turn<R: Wait>(rt: &R, queue: &RunQueue<Countdown>, mut job: Countdown) -
     }
 }
 
-fn all_are_done(rt: &impl Abort, jobs: &[Countdown]) {
+// Whether each job stands at its number, and has no turns left.
+fn all_are_done(jobs: &[Countdown]) -> bool {
     for (k, job) in jobs.iter().enumerate() {
-        assert_eq!(rt; job.number as usize, k);
-        assert_eq!(rt; job.left, 0);
+        if job.number as usize != k || job.left != 0 {
+            return false;
+        }
     }
+    true
 }
 
 #[test]
-fn two_threads_work_until_all_are_done(rt: HostRuntime) -> Result<(), Fail> {
-    let alloc = rt.alloc();
-    let queue = RunQueue::new(alloc, make_jobs(alloc, 8, 50)?, 8)?;
+fn two_threads_work_until_all_are_done(rt: HostRuntime) {
+    let jobs = jobs_of(&rt, rt.alloc(), 8, 50);
+    let queue = RunQueue::new(rt.alloc(), jobs, 8).expect(&rt, "memory");
     let (first, second) = thread::join(&rt, || work(&rt, &queue), || work(&rt, &queue));
-    assert_eq!(rt; first.saturating_add(second), 8 * 51);
+    assert!(rt; first.saturating_add(second) == 8 * 51);
     let jobs = queue.into_jobs(&rt);
-    assert_eq!(rt; jobs.len(), 8);
-    all_are_done(&rt, &jobs);
-    Ok(())
+    assert!(rt; jobs.len() == 8 && all_are_done(&jobs));
 }

@@ -22,7 +22,7 @@ pub enum PoolCall {
 pub enum PoolReply {
     /// The payload, or none exactly where all slots are live.
     Took(Option<Baton>),
-    /// The same baton, and the new reference.
+    /// The baton that was handed in, and the new reference.
     Acquired(Baton, Hold),
     /// Whether it was the last reference of its slot.
     Released { freed: bool },

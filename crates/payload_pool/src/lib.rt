@@ -1,4 +1,4 @@
-//! A pool of payloads whose references are counted (IEEE 1666-2011, clause 14.5).
+//! A pool of payloads whose references are counted: a memory manager (IEEE 1666-2011, clause 14.5).
 //!
 //! - `Pool` has slots, each with a payload and a wallet that are made once, by `new`.
 //! - A `Baton` is a payload that was taken, with the initiator's own reference; a `Hold` is one

@@ -21,7 +21,8 @@ pub struct PoolMade {
     pub room: u32,
 }
 
-/// The payloads of an initiator. Contracts see its slots, its log and the book of its references.
+/// The payloads of an initiator with their memory manager (clause 14.5). Contracts see its slots, its
+/// log and the book of its references.
 #[derive(Drop)]
 pub struct Pool {
     pub(crate) initiator: u32,

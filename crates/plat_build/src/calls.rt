@@ -51,10 +51,16 @@ impl<N: Naming<Plan, TlmLaw>> Net<N> {
     ) -> (Payload, PlatNote)
         requires memory { memory < length self.now.platform.memories }
         requires fit { IsFit call }
+
+        // Who pays for it.
         requires note { IsNote N.table note }
         requires wallet { IsOf N.tokens wallet.old }
         requires ticket { (0 < left_of wallet.old memory) × (cost_of call ≤ bytes_of wallet.old memory) }
+
+        // What happened at the memory.
         ensures entry { IsCalled self.now memory call note.knows result.1.knows result.0 }
+
+        // What comes back.
         ensures room { result.0.room ≡ (payload_of call).room }
         ensures note { IsNote N.table result.1 }
         ensures looks { result.1.knows.looks ≡ note.knows.looks ++ (memory, 0) ∷ [] }
@@ -99,14 +105,20 @@ impl<N: Naming<Plan, TlmLaw>> Net<N> {
     ) -> Carried
         requires who { who < length self.now.platform.initiators }
         requires read { payload.command ≡ Read }
+
+        // Who pays for it.
         requires note { IsNote N.table note }
         requires wallet { IsOf N.tokens wallet.old }
         requires ticket { ForSome (route_at self.now who payload.address) (CanPay payload wallet.old) }
+
+        // What happened at the memory, where there is a route.
         ensures entry { IfSome (route_at self.now who payload.address)
             (λ route. IsCalled self.now route.memory (Debug txn at (record payload { address = route.offset }))
             note.knows result.note.knows result.payload) }
         ensures no_entry { IfNone (route_at self.now who payload.address)
             ((result.payload ≡ record payload { status = AddressError }) × (result.note ≡ note)) }
+
+        // What comes back.
         ensures room { result.payload.room ≡ payload.room }
         ensures time { result.at ≡ at }
         ensures note { IsNote N.table result.note }

@@ -1,81 +1,29 @@
 -- A core before its first step.
-use Rattle.std.proofs.Common.{◌≡◌, ℕ, zero, suc, ◌+◌, ◌*◌, ◌<◌, ◌≤◌, inl, inr, List, [], ◌∷◌, ◌++◌, length, map, Some, Bool, true, false, cond, refl, ap, sym, subst, ◌∙◌, arith, length-append}
-use Rattle.std.specs.List.{AllByRecursion, flat_map}
+use Rattle.std.proofs.Common.{◌≡◌, ℕ, zero, suc, ◌+◌, ◌*◌, ◌<◌, ◌≤◌, inl, inr, List, [], ◌∷◌, ◌++◌, length, map, Some, Bool, false, refl, ap, sym, subst, ◌∙◌, arith, length-append}
 use Rattle.std.specs.Prelude.{slice_get, sum_by}
-use Rattle.std.proofs.Math.Nat.{zero-add}
 use Rattle.std.proofs.lemmas.List.{length-map}
 use Rattle.std.proofs.lemmas.List.Sums.{sum_by-cons}
 use Rattle.tlm_types.specs.declared.entry.Entry.{Entry}
 use Rattle.tlm_types.specs.declared.words.ObjectNo.TheVariants.{Memory as memory_object}
 use Rattle.tlm_model.specs.declared.operation.Operation.{Operation}
-use Rattle.tlm_model.specs.declared.operation.Operation.TheVariants.{Write, Read, Ignore, Debug, Copy, Add, Wait, Sync, Fence, Invalidate}
 use Rattle.tlm_model.specs.declared.platform.InitiatorRow.{InitiatorRow}
-use Rattle.tlm_model.specs.declared.platform.Platform.{Platform}
 use Rattle.tlm_model.specs.Plan.{Plan, Initiator, initiators_from, initiators_of}
-use Rattle.tlm_model.specs.Requests.{numbers_of, numbers_in, time_after}
-use Rattle.tlm_model.specs.Rounds.{syncs_after, syncs_from}
 use Rattle.good_history.specs.Good.{IsSound}
 use Rattle.good_history.proofs.Decoupled.{sound_empty}
 use Rattle.region_object.specs.Region.{LoggedMemory}
-use Rattle.route_plan.specs.Planned.{AnAccess, ADebugRead, AnInvalidation, asks_of, at_memory, planned_at, share_of}
+use Rattle.route_plan.specs.Planned.{planned_at, share_of}
+use Rattle.script_engine.proofs.Remaining.{few_numbers}
 use Rattle.script_engine.proofs.Steps.{begins}
-use Rattle.plat_core.specs.Come.{IsServed}
-use Rattle.plat_core.specs.Core.{IsCore, IsMemoryAt, IsRunOf, IsServable, are_finished, begun_run, history_of, logs_of, no_runs}
+use Rattle.plat_core.specs.Core.{IsCore, IsMemoryAt, IsRunOf, are_finished, begun_run, history_of, logs_of, no_runs}
+use Rattle.initiator_run.specs.Served.{IsServable}
 use Rattle.plat_core.specs.Fresh.{AreFresh, IsFresh}
-use Rattle.plat_core.specs.Left.{asked_in, leads, total_left}
-use Rattle.plat_core.specs.Merge.{by_position, entries_in}
-use Rattle.plat_core.specs.Run.{Run, begun}
-use Rattle.plat_core.proofs.EndLemmas.{HasCome-begun}
-use Rattle.plat_core.proofs.ListLemmas.{at_push}
-use Rattle.plat_core.proofs.SoundLemmas.{no_fourphase}
-
-few_numbers : (op : Operation) → numbers_of op ≤ 2
-few_numbers (Write a bytes enables width) = omega arith
-few_numbers (Read a n enables width) = omega arith
-few_numbers (Ignore a) = omega arith
-few_numbers (Debug a n) = omega arith
-few_numbers (Copy from to n) = omega arith
-few_numbers (Add a n) = omega arith
-few_numbers (Wait n) = omega arith
-few_numbers Sync = omega arith
-few_numbers Fence = omega arith
-few_numbers (Invalidate a n) = omega arith
-
--- a script takes at most two numbers an operation
-pub numbers_bound : (ops : List Operation) → numbers_in ops ≤ 2 * length ops
-numbers_bound [] = omega arith
-numbers_bound (op ∷ ops) = omega (arith, few_numbers op, numbers_bound ops)
-
--- at most one sync stands after an operation
-pub syncs_bound : (p : Platform) (i : Initiator) (now t : ℕ) (ops : List Operation) → syncs_from p i now t ops ≤ length ops
-syncs_bound p i now t [] = omega arith
-syncs_bound p i now t (op ∷ ops) = by_cases (syncs_after p.quantum now (time_after p i t op) op) (syncs_bound p i (time_after p i t op) (time_after p i t op) ops) (syncs_bound p i now (time_after p i t op) ops)
-  where
-    by_cases : (b : Bool) → syncs_from p i (time_after p i t op) (time_after p i t op) ops ≤ length ops → syncs_from p i now (time_after p i t op) ops ≤ length ops → cond b (syncs_from p i (time_after p i t op) (time_after p i t op) ops + 1) (syncs_from p i now (time_after p i t op) ops) ≤ suc (length ops)
-    by_cases true x y = omega arith
-    by_cases false x y = omega arith
-
-together : (a b n k : ℕ) → n ≡ k → a + b + n ≡ a + (b + k)
-together a b n k same = omega arith
-
-pub asked_planned : (p : Plan) (i : Initiator) (m : ℕ) (ops : List Operation) → asked_in p i m ops ≡ sum_by (at_memory p i m) (flat_map asks_of ops)
-asked_planned p i m [] = refl
-asked_planned p i m (Write a bytes enables width ∷ ops) = ap (λ (n : ℕ). leads p i m a + n) (asked_planned p i m ops) ∙ sym (sum_by-cons (at_memory p i m) (AnAccess a (length bytes + length enables)) (flat_map asks_of ops))
-asked_planned p i m (Read a n enables width ∷ ops) = ap (λ (n : ℕ). leads p i m a + n) (asked_planned p i m ops) ∙ sym (sum_by-cons (at_memory p i m) (AnAccess a (n + length enables)) (flat_map asks_of ops))
-asked_planned p i m (Ignore a ∷ ops) = ap (λ (n : ℕ). leads p i m a + n) (asked_planned p i m ops) ∙ sym (sum_by-cons (at_memory p i m) (AnAccess a 0) (flat_map asks_of ops))
-asked_planned p i m (Debug a n ∷ ops) = ap (λ (n : ℕ). leads p i m a + n) (asked_planned p i m ops) ∙ sym (sum_by-cons (at_memory p i m) (ADebugRead a n) (flat_map asks_of ops))
-asked_planned p i m (Copy from to n ∷ ops) =
-    together (leads p i m from) (leads p i m to) (asked_in p i m ops) (sum_by (at_memory p i m) (flat_map asks_of ops)) (asked_planned p i m ops)
-    ∙ (ap (λ (n : ℕ). leads p i m from + n) (sym (sum_by-cons (at_memory p i m) (AnAccess to n) (flat_map asks_of ops)))
-    ∙ sym (sum_by-cons (at_memory p i m) (AnAccess from n) ((AnAccess to n) ∷ flat_map asks_of ops)))
-asked_planned p i m (Add a n ∷ ops) =
-    together (leads p i m a) (leads p i m a) (asked_in p i m ops) (sum_by (at_memory p i m) (flat_map asks_of ops)) (asked_planned p i m ops)
-    ∙ (ap (λ (n : ℕ). leads p i m a + n) (sym (sum_by-cons (at_memory p i m) (AnAccess a 4) (flat_map asks_of ops)))
-    ∙ sym (sum_by-cons (at_memory p i m) (AnAccess a 4) ((AnAccess a 4) ∷ flat_map asks_of ops)))
-asked_planned p i m (Wait n ∷ ops) = zero-add (asked_in p i m ops) ∙ asked_planned p i m ops
-asked_planned p i m (Sync ∷ ops) = zero-add (asked_in p i m ops) ∙ asked_planned p i m ops
-asked_planned p i m (Fence ∷ ops) = zero-add (asked_in p i m ops) ∙ asked_planned p i m ops
-asked_planned p i m (Invalidate a n ∷ ops) = ap (λ (n : ℕ). leads p i m a + n) (asked_planned p i m ops) ∙ sym (sum_by-cons (at_memory p i m) (AnInvalidation a) (flat_map asks_of ops))
+use Rattle.initiator_run.specs.Left.{asked_in, total_left}
+use Rattle.run_outcome.specs.Merge.{by_position, entries_in}
+use Rattle.initiator_run.specs.Run.{Run, begun}
+use Rattle.initiator_run.proofs.EndLemmas.{HasCome-begun}
+use Rattle.run_outcome.proofs.ListLemmas.{at_push}
+use Rattle.run_outcome.proofs.PlanLemmas.{no_fourphase}
+use Rattle.initiator_run.proofs.BeginLemmas.{syncs_bound, asked_planned, HasScript, script_at}
 
 share_bound : (p : Plan) (i : Initiator) (m : ℕ) → asked_in p i m i.script ≤ share_of p i (memory_object m)
 unfolding share_of
@@ -89,22 +37,6 @@ total_bound p m (i ∷ is) = omega (arith, share_bound p i m, total_bound p m is
 planned_bound : (p : Plan) (m : ℕ) → total_left p m (initiators_of p) (no_runs p) ≤ planned_at p (memory_object m)
 unfolding planned_at
 planned_bound p m = total_bound p m (initiators_of p)
-
--- the script of an initiator
-pub record HasScript (p : Plan) (i : Initiator) : Type 0 where
-  pub served : AllByRecursion IsServed i.script
-  pub few : length i.script ≤ 100000
-
-script_from : (p : Plan) (k n : ℕ) (rows : List InitiatorRow) (scripts : List (List Operation)) (i : Initiator) → AllByRecursion (AllByRecursion IsServed) scripts → AllByRecursion (λ (s : List Operation). length s ≤ 100000) scripts → slice_get (initiators_from k rows scripts) n ≡ Some i → HasScript p i
-script_from p k n [] scripts i served few is = cc
-script_from p k n (row ∷ rows) [] i served few is = cc
-script_from p k zero (row ∷ rows) (script ∷ scripts) i served few is =
-    let same : record { number = k; row = row; script = script } ≡ i = cc in
-    subst (HasScript p) same (record { served = served.0; few = few.0 })
-script_from p k (suc n) (row ∷ rows) (script ∷ scripts) i served few is = script_from p (k + 1) n rows scripts i served.1 few.1 is
-
-pub script_at : (p : Plan) → IsServable p → (k : ℕ) (i : Initiator) → slice_get (initiators_of p) k ≡ Some i → HasScript p i
-script_at p servable k i mine = script_from p 0 k p.platform.initiators p.scripts i servable.served servable.few mine
 
 begun_at : (p : Plan) (is : List Initiator) (k : ℕ) (i : Initiator) (r : Run) → slice_get is k ≡ Some i → slice_get (map (begun_run p) is) k ≡ Some r → begun_run p i ≡ r
 begun_at p [] k i r mine run = cc
@@ -128,7 +60,7 @@ core_begun p runs regions servable same fresh count =
     let none : history_of regions ≡ [] = no_history p regions (length p.platform.memories) fresh in
     subst (λ (r : List Run). IsCore p r regions 0) (sym same) (record {
       servable = servable;
-      sound = subst (IsSound p) (sym none) (sound_empty p (no_fourphase p servable));
+      sound = subst (IsSound p) (sym none) (sound_empty p (no_fourphase p servable.blocking));
       count = sym (ap length none);
       run_count = length-map (initiators_of p) (begun_run p) ∙ count;
       region_count = fresh.count;
@@ -138,7 +70,7 @@ core_begun p runs regions servable same fresh count =
   where
     run_begun : (i : Initiator) → HasScript p i → IsRunOf p [] i (begun_run p i)
     run_begun i has = record {
-      come = HasCome-begun begins p.platform i (2 * length i.script) (omega (arith, syncs_bound p.platform i 0 0 i.script, has.few)) (numbers_bound i.script) has.served;
+      come = HasCome-begun begins p.platform i (2 * length i.script) (omega (arith, syncs_bound p.platform i 0 0 i.script, has.few)) (few_numbers i.script) has.served;
       finished = λ f. cc;
     }
 

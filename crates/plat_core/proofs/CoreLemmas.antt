@@ -1,28 +1,19 @@
 -- A core after a turn of an initiator.
-use Rattle.std.proofs.Common.{◌≡◌, ◌≢◌, ℕ, zero, suc, ◌+◌, ◌-◌, ◌*◌, ◌<◌, ◌≤◌, inl, inr, List, [], ◌∷◌, ◌++◌, length, take, drop, get_or, Option, Some, None, Bool, true, false, cond, nat_eq, nat_lt, is_none, refl, ap, sym, subst, ◌∙◌, arith, length-append}
+use Rattle.std.proofs.Common.{◌≡◌, ℕ, suc, ◌+◌, ◌*◌, ◌<◌, ◌≤◌, inl, inr, List, [], ◌∷◌, ◌++◌, length, take, drop, get_or, Option, Some, None, Bool, true, false, cond, nat_eq, is_none, refl, ap, sym, subst, ◌∙◌, arith, length-append}
 use Rattle.std.proofs.Math.Seq.{take-append_seam}
-use Rattle.std.specs.List.{AllByRecursion}
 use Rattle.std.specs.Prelude.{slice_get, MatchOption, IsSomeAnd}
 use Rattle.std.proofs.Math.ListN.{set}
 use Rattle.std.proofs.lemmas.Bool.{false≢true}
 use Rattle.std.proofs.lemmas.Bool.Decides.{nat_tests}
-use Rattle.std.proofs.lemmas.List.Elements.{filter-append}
 use Rattle.std.proofs.lemmas.Option.{MatchOption-at_some, slice_get_read, slice_get_past}
 use Rattle.std.proofs.lemmas.List.{length-map}
 use Rattle.tlm_types.specs.declared.entry.Entry.{Entry}
-use Rattle.tlm_types.specs.declared.words.ObjectNo.{ObjectNo}
 use Rattle.tlm_types.specs.declared.words.ObjectNo.TheVariants.{Memory as memory_object}
-use Rattle.tlm_model.specs.declared.operation.Operation.{Operation}
-use Rattle.tlm_model.specs.declared.platform.InitiatorRow.{InitiatorRow}
 use Rattle.tlm_model.specs.declared.platform.MemoryRow.{MemoryRow}
-use Rattle.tlm_model.specs.declared.platform.Style.{Style}
-use Rattle.tlm_model.specs.declared.platform.Style.TheVariants.{Blocking as blocking_style, FourPhase as fourphase_style}
+use Rattle.tlm_model.specs.declared.platform.Style.TheVariants.{Blocking as blocking_style}
 use Rattle.tlm_model.specs.History.{IsNumbered, entries_at, is_object}
-use Rattle.tlm_model.specs.Plan.{Plan, Initiator, initiators_from, initiators_of}
-use Rattle.tlm_model.specs.Route.{Route as RouteOfModel, Walk, Found, into_memory, into_router, into_window, later, route_of, walk, window_of}
-use Rattle.tlm_model.specs.declared.platform.RouterRow.{RouterRow}
-use Rattle.tlm_model.specs.declared.platform.Target.{Target}
-use Rattle.tlm_model.specs.declared.platform.Target.TheVariants.{Router as RouterTarget, Memory as MemoryTarget}
+use Rattle.tlm_model.specs.Plan.{Plan, Initiator, initiators_of}
+use Rattle.tlm_model.specs.Route.{route_of}
 use Rattle.tlm_model.proofs.EachLemmas.{append_nil}
 use Rattle.good_history.specs.Good.{IsSound}
 use Rattle.good_history.proofs.Decoupled.{sound_grows}
@@ -31,46 +22,31 @@ use Rattle.time_board.specs.declared.rounds.Member.{Member}
 use Rattle.route_plan.specs.declared.step.Route.{Route}
 use Rattle.script_engine.specs.State.{State, op_of}
 use Rattle.script_engine.proofs.Steps.{ends}
-use Rattle.plat_core.specs.Access.{HasLog, IsRouteOf, entry_made, place_of}
-use Rattle.plat_core.specs.Come.{HasCome, has_ended}
+use Rattle.initiator_run.specs.Access.{HasLog, IsRouteOf, entry_made, place_of}
+use Rattle.initiator_run.specs.Come.{HasCome, has_ended}
 use Rattle.plat_core.specs.Core.{CoreView, IsCore, IsInitiatorStep, IsMemoryAt, IsNodeStep, IsRunOf, IsStep, are_finished, history_of, logs_of}
 use Rattle.plat_core.specs.declared.steps.CoreStep.{CoreStep}
-use Rattle.plat_core.specs.Left.{asks_left, leads, total_left}
-use Rattle.plat_core.specs.Merge.{put_in, by_position, entries_in, merged}
-use Rattle.plat_core.specs.Moves.{HasReached, IsUnderWay, Keeps}
-use Rattle.plat_core.specs.Run.{Run, address_of, arrived, engine_after}
-use Rattle.plat_core.specs.declared.turn.Turn.{Turn}
-use Rattle.plat_core.specs.declared.turn.Turn.TheVariants.{Made as turn_made, Waits as turn_waits, Ended as turn_ended, NoMemory as no_memory}
-use Rattle.plat_core.specs.Turns.{IsTurn, HasLogAt, HasMadeAccess, HasMoved, HasMovedToEnd, HasMovedToWait, HasRoomAt}
-use Rattle.plat_core.proofs.CountLemmas.{with_sync_finished}
-use Rattle.plat_core.proofs.EndLemmas.{HasCome-other, HasCome-ended, HasCome-open}
-use Rattle.plat_core.proofs.EntryLemmas.{IsAtMemory, KeepsRequests-turn, HasCome-turn}
-use Rattle.plat_core.proofs.LeftLemmas.{left_after, leads_there, total_left-set, total_left-at}
-use Rattle.plat_core.proofs.ListLemmas.{HasElement, at_map, at_set, has_element, length-set', map-set, set-same, within}
-use Rattle.plat_core.proofs.MergeLemmas.{merged-push}
-use Rattle.plat_core.proofs.RunLemmas.{accessed_step, initiator_number}
-use Rattle.plat_core.proofs.SoundLemmas.{no_fourphase}
-
--- the rows and scripts of an initiator
-pub blocking_from : (k n : ℕ) (rows : List InitiatorRow) (scripts : List (List Operation)) (i : Initiator) → AllByRecursion (λ (row : InitiatorRow). row.style ≡ blocking_style) rows → slice_get (initiators_from k rows scripts) n ≡ Some i → i.row.style ≡ blocking_style
-blocking_from k n [] scripts i all is = cc
-blocking_from k n (row ∷ rows) [] i all is = cc
-blocking_from k zero (row ∷ rows) (script ∷ scripts) i all is =
-    let same : record { number = k; row = row; script = script } ≡ i = cc in
-    subst (λ (x : Initiator). x.row.style ≡ blocking_style) same all.0
-blocking_from k (suc n) (row ∷ rows) (script ∷ scripts) i all is = blocking_from (k + 1) n rows scripts i all.1 is
-
-pub blocking_apart : (style : Style) → style ≡ blocking_style → style ≢ fourphase_style
-blocking_apart style is four = let wrong : blocking_style ≡ fourphase_style = sym is ∙ four in cc
-
-pub initiators_count : (k : ℕ) (rows : List InitiatorRow) (scripts : List (List Operation)) → length scripts ≡ length rows → length (initiators_from k rows scripts) ≡ length rows
-initiators_count k [] scripts same = refl
-initiators_count k (row ∷ rows) [] same = absurd (omega arith)
-initiators_count k (row ∷ rows) (script ∷ scripts) same = ap suc (initiators_count (k + 1) rows scripts (omega arith))
+use Rattle.initiator_run.specs.Left.{asks_left, leads, total_left}
+use Rattle.run_outcome.specs.Merge.{entries_in, merged}
+use Rattle.initiator_run.specs.Moves.{HasReached, IsUnderWay, Keeps}
+use Rattle.initiator_run.specs.Run.{Run, address_of, arrived, engine_after}
+use Rattle.initiator_run.specs.declared.turn.Turn.{Turn}
+use Rattle.initiator_run.specs.declared.turn.Turn.TheVariants.{Made as turn_made, Waits as turn_waits, Ended as turn_ended, NoMemory as no_memory}
+use Rattle.initiator_run.specs.Turns.{IsTurn, HasLogAt, HasMadeAccess, HasMoved, HasMovedToEnd, HasMovedToWait, HasRoomAt}
+use Rattle.initiator_run.proofs.CountLemmas.{with_sync_finished}
+use Rattle.initiator_run.proofs.EndLemmas.{HasCome-other, HasCome-ended, HasCome-open}
+use Rattle.initiator_run.proofs.EntryLemmas.{IsAtMemory, KeepsRequests-turn, HasCome-turn, entries_at-push, some_row}
+use Rattle.initiator_run.proofs.LeftLemmas.{left_after, leads_there, total_left-set, total_left-at}
+use Rattle.run_outcome.proofs.ListLemmas.{HasElement, at_map, at_set, has_element, length-set', map-set, set-same, within, is_within}
+use Rattle.run_outcome.proofs.MergeLemmas.{merged-push, length-by_position}
+use Rattle.initiator_run.proofs.RunLemmas.{accessed_step}
+use Rattle.run_outcome.proofs.PlanLemmas.{initiator_number, no_fourphase, blocking_from}
+use Rattle.initiator_run.proofs.RouteLemmas.{walk_memory}
+use Rattle.route_plan.proofs.ShareLemmas.{count_initiators}
 
 -- there is an initiator of each number below the number of the runs
 pub initiator_at : (p : Plan) (runs : List Run) (regions : List LoggedMemory) (made k : ℕ) → IsCore p runs regions made → k < length runs → HasElement (initiators_of p) k
-initiator_at p runs regions made k core below = has_element (initiators_of p) k (omega (arith, initiators_count 0 p.platform.initiators p.scripts core.servable.scripts, core.run_count))
+initiator_at p runs regions made k core below = has_element (initiators_of p) k (omega (arith, count_initiators 0 p.platform.initiators p.scripts core.servable.scripts, core.run_count))
 
 -- the run of a core is under way
 pub run_under_way : (p : Plan) (runs : List Run) (regions : List LoggedMemory) (made k : ℕ) (r : Run) → IsCore p runs regions made → slice_get runs k ≡ Some r → IsUnderWay p r
@@ -223,33 +199,6 @@ record HasMemory (p : Plan) (runs : List Run) (regions : List LoggedMemory) (rou
   pub at : slice_get regions route.memory ≡ Some region
   pub is : IsMemoryAt p runs (history_of regions) route.memory region
 
-into_some : (p : Plan) (o : Option MemoryRow) (m a b : ℕ) (route : RouteOfModel) → (into_memory o m a b).end ≡ Some route → (m ≡ route.memory) × (is_none o ≡ false)
-into_some p None m a b route is = cc
-into_some p (Some row) m a b route is =
-    let same : record { memory = m; offset = a } ≡ route = cc in
-    (ap (λ (r : RouteOfModel). r.memory) same, refl)
-
-window_memory : (p : Plan) (r : ℕ) (f : Option Found) (a b : ℕ) (next : Target → ℕ → ℕ → Walk) (route : RouteOfModel) → ((t : Target) (x y : ℕ) → (next t x y).end ≡ Some route → is_none (slice_get p.platform.memories route.memory) ≡ false) → (into_window p.platform r f a b next).end ≡ Some route → is_none (slice_get p.platform.memories route.memory) ≡ false
-window_memory p r None a b next route each is = cc
-window_memory p r (Some f) a b next route each is = each f.window.to (a - f.window.first + f.window.base) b is
-
-router_memory : (p : Plan) (r : ℕ) (o : Option RouterRow) (a b : ℕ) (next : Target → ℕ → ℕ → Walk) (route : RouteOfModel) → ((t : Target) (x y : ℕ) → (next t x y).end ≡ Some route → is_none (slice_get p.platform.memories route.memory) ≡ false) → (into_router p.platform r o a b next).end ≡ Some route → is_none (slice_get p.platform.memories route.memory) ≡ false
-router_memory p r None a b next route each is = cc
-router_memory p r (Some row) a b next route each is = window_memory p r (window_of 0 row.windows a) a (later b row.latency) next route each is
-
-pub walk_memory : (p : Plan) (n : ℕ) (t : Target) (a b : ℕ) (route : RouteOfModel) → (walk n p.platform t a b).end ≡ Some route → is_none (slice_get p.platform.memories route.memory) ≡ false
-walk_memory p zero t a b route is = cc
-walk_memory p (suc n) (MemoryTarget m) a b route is =
-    let both = into_some p (slice_get p.platform.memories m) m a b route is in
-    ap (λ (x : ℕ). is_none (slice_get p.platform.memories x)) (sym both.0) ∙ both.1
-walk_memory p (suc n) (RouterTarget r) a b route is =
-    router_memory p r (slice_get p.platform.routers r) a b (λ t x y. walk n p.platform t x y) route (λ t x y. walk_memory p n t x y route) is
-
-pub is_within : {X : Type 0} (xs : List X) (k : ℕ) → is_none (slice_get xs k) ≡ false → k < length xs
-is_within [] k is = cc
-is_within (x ∷ xs) zero is = omega arith
-is_within (x ∷ xs) (suc k) is = omega (arith, is_within xs k is)
-
 -- a route ends at a memory of the core
 memory_of : (p : Plan) (runs : List Run) (regions : List LoggedMemory) (made : ℕ) (i : Initiator) (a : ℕ) (route : Route) → IsCore p runs regions made → route_of p.platform i a ≡ Some (place_of route) → HasMemory p runs regions route
 memory_of p runs regions made i a route core leads =
@@ -273,18 +222,6 @@ room_for_access p runs regions made k old middle route core at keeps reached =
     subst (λ (o : Option LoggedMemory). IsSomeAnd o (λ m. length m.log.entries < m.log.room)) (sym memory.at)
     (omega (arith, memory.is.roomy, total_left-at p route.memory (initiators_of p) runs k turn.initiator old turn.at at, one_asked p turn.initiator old middle [] route turn.mine keeps reached leads))
 
-length-put : (e : Entry) (s : List Entry) → length (put_in e s) ≡ suc (length s)
-length-put e [] = refl
-length-put e (x ∷ s) = by_cases (nat_lt e.position x.position) (length-put e s)
-  where
-    by_cases : (b : Bool) → length (put_in e s) ≡ suc (length s) → length (cond b (e ∷ (x ∷ s)) (x ∷ put_in e s)) ≡ suc (suc (length s))
-    by_cases true rest = refl
-    by_cases false rest = ap suc rest
-
-pub length-by_position : (es : List Entry) → length (by_position es) ≡ length es
-length-by_position [] = refl
-length-by_position (e ∷ es) = length-put e (by_position es) ∙ ap suc (length-by_position es)
-
 few_entries : (regions : List LoggedMemory) → ((k : ℕ) (m : LoggedMemory) → slice_get regions k ≡ Some m → length m.log.entries ≤ 1000000) → length (entries_in (logs_of regions)) ≤ 1000000 * length regions
 few_entries [] each = omega arith
 few_entries (m ∷ regions) each = omega (arith, length-append m.log.entries (entries_in (logs_of regions)), each 0 m refl, few_entries regions (λ k x is. each (suc k) x is))
@@ -304,9 +241,6 @@ few_made p runs regions made core =
     few_at : (k : ℕ) (m : LoggedMemory) → IsMemoryAt p runs (history_of regions) k m → length m.log.entries ≤ 1000000
     few_at k m is = omega (arith, is.roomy, is.few)
 
-pub entries_at-push : (o : ObjectNo) (h : List Entry) (e : Entry) → entries_at o (h ++ e ∷ []) ≡ entries_at o h ++ cond (is_object o e.object) (e ∷ []) []
-entries_at-push o h e = filter-append (λ (x : Entry). is_object o x.object) h (e ∷ [])
-
 pub history_made : (p : Plan) (old new : Run) (regions after : List LoggedMemory) (made : ℕ) → IsNumbered (history_of regions) → made ≡ length (history_of regions) → (is : HasMadeAccess p old new regions after made) → history_of after ≡ history_of regions ++ entry_made is.middle is.region is.route made ∷ []
 history_made p old new regions after made numbered count is =
     let e = entry_made is.middle is.region is.route made in
@@ -314,15 +248,6 @@ history_made p old new regions after made numbered count is =
     ∙ (ap merged (map-set (λ (x : LoggedMemory). x.log.entries) regions is.route.memory is.next)
     ∙ (ap (λ (log : List Entry). merged (set (logs_of regions) is.route.memory log)) is.logged.all
     ∙ merged-push (logs_of regions) is.route.memory is.region.log.entries e (at_map (λ (x : LoggedMemory). x.log.entries) regions is.route.memory is.region is.memory.was) numbered count))
-
-pub record SomeRow (o : Option MemoryRow) (P : MemoryRow → Type 0) : Type 0 where
-  pub row : MemoryRow
-  pub at : o ≡ Some row
-  pub has : P row
-
-pub some_row : (o : Option MemoryRow) (P : MemoryRow → Type 0) → IsSomeAnd o P → SomeRow o P
-some_row None P is = absurd is
-some_row (Some row) P is = record { row = row; at = refl; has = is }
 
 pub at_memory : (p : Plan) (runs : List Run) (h : List Entry) (route : Route) (m : LoggedMemory) → IsMemoryAt p runs h route.memory m → IsAtMemory p h route m
 at_memory p runs h route m is =
@@ -408,7 +333,7 @@ core_made p runs regions after made k old new core at is =
     } in
     record {
       servable = core.servable;
-      sound = subst (IsSound p) (sym same) (sound_grows p h e (no_fourphase p core.servable) core.sound tt (KeepsRequests-turn p i h is.middle is.region is.route made core.sound.requests mine turn.blocking come is.reached.access leads (at_memory p runs h is.route is.region memory) core.count));
+      sound = subst (IsSound p) (sym same) (sound_grows p h e (no_fourphase p core.servable.blocking) core.sound tt (KeepsRequests-turn p i h is.middle is.region is.route made core.sound.requests mine turn.blocking come is.reached.access leads (at_memory p runs h is.route is.region memory) core.count));
       count = sym (ap length same ∙ (length-append h (e ∷ []) ∙ ap (λ (n : ℕ). n + 1) (sym core.count)));
       run_count = length-set' runs k new ∙ core.run_count;
       region_count = ap length is.memory.now ∙ (length-set' regions is.route.memory is.next ∙ core.region_count);
@@ -467,7 +392,7 @@ moved_on p old new members before regions after made turn same is how = subst (�
 
 -- an actor that is no initiator
 pub node_at : (p : Plan) (runs : List Run) (regions : List LoggedMemory) (made k : ℕ) → IsCore p runs regions made → length runs ≤ k → slice_get (initiators_of p) k ≡ None
-node_at p runs regions made k core past = slice_get_past (initiators_of p) k (omega (arith, core.run_count, initiators_count 0 p.platform.initiators p.scripts core.servable.scripts))
+node_at p runs regions made k core past = slice_get_past (initiators_of p) k (omega (arith, core.run_count, count_initiators 0 p.platform.initiators p.scripts core.servable.scripts))
 
 pub node_steps : (v w : CoreView) (k : ℕ) (step : CoreStep) → v ≡ w → slice_get (initiators_of v.plan) k ≡ None → IsNodeStep w w step → IsStep w k w step
 node_steps v w k step same none is =

@@ -14,13 +14,13 @@ use Rattle.script_engine.specs.declared.op.Op.TheVariants as next
 use Rattle.script_engine.specs.State.{op_of, payload_of}
 use Rattle.script_engine.specs.Asking.{requests_at}
 use Rattle.script_engine.proofs.Steps.{ends}
-use Rattle.plat_core.specs.Come.{HasCome, rounds_at}
+use Rattle.initiator_run.specs.Come.{HasCome, rounds_at}
 use Rattle.plat_core.specs.Rounds.{due_round, round_of_first}
-use Rattle.plat_core.specs.Run.{IsAccessOp, Run, address_of, request_for}
-use Rattle.plat_core.proofs.AnswerLemmas.{and_left, and_right}
-use Rattle.plat_core.proofs.EndLemmas.{HasCome-ended, blocking_syncs, request_is_open, requests_now}
-use Rattle.plat_core.proofs.NextLemmas.{numbers_at, request_is_first, seq_of_request}
-use Rattle.plat_core.proofs.RoundLemmas.{no_rounds_before}
+use Rattle.initiator_run.specs.Run.{IsAccessOp, Run, address_of, request_for}
+use Rattle.initiator_run.proofs.AnswerLemmas.{and_left, and_right}
+use Rattle.initiator_run.proofs.EndLemmas.{HasCome-ended, blocking_syncs, request_is_open, requests_now}
+use Rattle.initiator_run.proofs.NextLemmas.{numbers_at, request_is_first, seq_of_request}
+use Rattle.initiator_run.proofs.RoundLemmas.{no_rounds_before}
 
 -- settled requests have no entry to come
 settled_first : (p : Platform) (i : Initiator) (h : List Entry) (made more : List Request) → list_all (is_settled p i h) made ≡ true → round_of_first p i h (made ++ more) ≡ round_of_first p i h more

@@ -20,18 +20,18 @@ use Rattle.region_object.specs.Region.{LoggedMemory}
 use Rattle.route_plan.specs.Planned.{planned_at}
 use Rattle.time_board.specs.declared.rounds.Member.{Member}
 use Rattle.script_engine.proofs.Steps.{ends}
-use Rattle.plat_core.specs.declared.outcome.Outcome.{Outcome}
+use Rattle.run_outcome.specs.declared.outcome.Outcome.{Outcome}
 use Rattle.plat_core.specs.Board.{AreInRounds}
 use Rattle.plat_core.specs.Core.{CoreView, IsCore, IsMemoryAt, all_true, are_finished, begun_core, history_of}
 use Rattle.plat_core.specs.Fresh.{AreFresh, IsFresh}
 use Rattle.plat_core.specs.Outcome.{HasFollowed, IsOutcome, IsScheduled, IsTurnOf}
-use Rattle.plat_core.specs.Run.{Run, end_at}
-use Rattle.plat_core.proofs.AnswerLemmas.{and_left, and_right}
-use Rattle.plat_core.proofs.CoreLemmas.{some_row, blocking_apart, blocking_from, initiators_count}
-use Rattle.plat_core.proofs.EndLemmas.{HasCome-ended}
-use Rattle.plat_core.proofs.EntryLemmas.{bytes_are}
-use Rattle.plat_core.proofs.ListLemmas.{has_element, take_all, take_next, within}
-use Rattle.plat_core.proofs.SoundLemmas.{no_fourphase}
+use Rattle.initiator_run.specs.Run.{Run, end_at}
+use Rattle.initiator_run.proofs.AnswerLemmas.{and_left, and_right}
+use Rattle.initiator_run.proofs.EntryLemmas.{some_row, bytes_are}
+use Rattle.run_outcome.proofs.PlanLemmas.{blocking_apart, blocking_from, no_fourphase}
+use Rattle.route_plan.proofs.ShareLemmas.{count_initiators}
+use Rattle.initiator_run.proofs.EndLemmas.{HasCome-ended}
+use Rattle.run_outcome.proofs.ListLemmas.{has_element, take_all, take_next, within}
 use Rattle.plat_core.proofs.ViewLemmas.{view}
 
 -- an element that was made of another
@@ -69,9 +69,9 @@ end_of_run p runs regions made k i r core mine run finished =
     })
 
 good_core : (p : Plan) (runs : List Run) (regions : List LoggedMemory) (made : ℕ) → IsCore p runs regions made → all_true (are_finished runs) ≡ true → IsGood p (history_of regions)
-good_core p runs regions made core all = sound_ends p (history_of regions) (no_fourphase p core.servable) core.sound (record {
+good_core p runs regions made core all = sound_ends p (history_of regions) (no_fourphase p core.servable.blocking) core.sound (record {
   answers = all_of (λ (i : Initiator). IsTrue (list_all (is_settled p.platform i (history_of regions)) (requests_of p.platform i (history_of regions)))) (initiators_of p) (λ k i mine.
-      let found = has_element runs k (omega (arith, within (initiators_of p) k i mine, initiators_count 0 p.platform.initiators p.scripts core.servable.scripts, core.run_count)) in
+      let found = has_element runs k (omega (arith, within (initiators_of p) k i mine, count_initiators 0 p.platform.initiators p.scripts core.servable.scripts, core.run_count)) in
       let own = core.each_run k i found.element mine found.at in
       (HasCome-ended ends p.platform i (history_of regions) found.element own.come (own.finished (flag_at runs k found.element all found.at))).ended);
 })

@@ -9,21 +9,20 @@ use Rattle.region_object.specs.Region.{LoggedMemory}
 use Rattle.time_board.specs.declared.rounds.Member.{Member}
 use Rattle.time_board.specs.Rounds.{member_of}
 use Rattle.time_board.proofs.Tallies.{unfinished_is_member}
-use Rattle.plat_core.specs.Access.{entry_made}
-use Rattle.plat_core.specs.Board.{AreInRounds, HasGoneOn, IsInRound, IsWaiting}
+use Rattle.initiator_run.specs.Access.{entry_made}
+use Rattle.plat_core.specs.Board.{AreInRounds}
+use Rattle.initiator_run.specs.Board.{HasGoneOn, IsInRound, IsWaiting}
 use Rattle.plat_core.specs.Core.{CoreView, GoesOn, HasStopped, IsCore, IsStuck, all_true, are_finished, history_of, progress, rank}
 use Rattle.plat_core.specs.declared.steps.CoreStep.{CoreStep}
 use Rattle.plat_core.specs.declared.steps.CoreStep.TheVariants.{Made, Waits, Finished}
-use Rattle.plat_core.specs.Run.{Run}
-use Rattle.plat_core.specs.Turns.{HasMadeAccess, HasMovedToEnd, HasMovedToWait}
-use Rattle.plat_core.proofs.BeginLemmas.{script_at, syncs_bound}
-use Rattle.plat_core.proofs.BoardLemmas.{HasMember, at_round, has_member, set_own}
+use Rattle.initiator_run.specs.Run.{Run}
+use Rattle.initiator_run.specs.Turns.{HasMadeAccess, HasMovedToEnd, HasMovedToWait}
+use Rattle.initiator_run.proofs.BeginLemmas.{script_at, syncs_bound}
+use Rattle.plat_core.proofs.BoardLemmas.{HasMember, has_member}
+use Rattle.initiator_run.proofs.BoardLemmas.{absent, at_round, set_own}
 use Rattle.plat_core.proofs.CoreLemmas.{few_history, finished_same, has_turn, history_made, initiator_at}
-use Rattle.plat_core.proofs.ListLemmas.{has_element, length-set'}
+use Rattle.run_outcome.proofs.ListLemmas.{has_element, length-set'}
 use Rattle.plat_core.proofs.ViewLemmas.{view, view_is}
-
-abbrev absent : Member
-absent = record { round = 0; finished = true }
 
 -- what a member that is set to another one leaves of the sum
 ranks_set : (members after : List Member) (k : ℕ) (old new : Run) → HasMember members after k old new → sum_by rank after + old.round ≡ sum_by rank members + rank (at_round new.round new.finished)

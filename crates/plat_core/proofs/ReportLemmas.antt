@@ -6,11 +6,12 @@ use Rattle.tlm_model.specs.History.{last_store}
 use Rattle.tlm_model.specs.Plan.{Plan}
 use Rattle.report_model.specs.Ends.{IsEndOf}
 use Rattle.good_history.specs.Good.{IsGood}
-use Rattle.plat_core.specs.declared.outcome.Outcome.{Outcome}
+use Rattle.run_outcome.specs.declared.outcome.Outcome.{Outcome}
 use Rattle.plat_core.specs.Core.{CoreView, all_true}
-use Rattle.plat_core.specs.Outcome.{IsOutcome, IsReportable, IsWhole}
-use Rattle.plat_core.proofs.AnswerLemmas.{and_left, and_right}
-use Rattle.plat_core.proofs.RunLemmas.{initiator_within}
+use Rattle.plat_core.specs.Outcome.{IsOutcome}
+use Rattle.run_outcome.specs.Outcome.{IsReportable, IsWhole}
+use Rattle.initiator_run.proofs.AnswerLemmas.{and_left, and_right}
+use Rattle.run_outcome.proofs.PlanLemmas.{initiator_within}
 
 flag_of_all : (flags : List Bool) (n : ℕ) → all_true flags ≡ true → n < length flags → slice_get flags n ≡ Some true
 flag_of_all [] n all below = absurd (omega arith)

@@ -11,12 +11,14 @@ use Rattle.tlm_model.proofs.EachLemmas.{AtEach-push}
 use Rattle.tlm_model.proofs.HistoryLemmas.{AllByRecursion-push, AllByRecursion-weaker}
 use Rattle.time_board.specs.declared.rounds.Member.{Member}
 use Rattle.time_board.specs.Rounds.{AreClose, member_of, new_member}
-use Rattle.plat_core.specs.Board.{AreInRounds, HasGoneOn, IsInRound, IsNear}
+use Rattle.plat_core.specs.Board.{AreInRounds}
+use Rattle.initiator_run.specs.Board.{HasGoneOn, IsInRound, IsNear}
 use Rattle.plat_core.specs.Core.{are_finished, begun_run, no_runs}
 use Rattle.plat_core.specs.Rounds.{round_at}
-use Rattle.plat_core.specs.Run.{Run}
-use Rattle.plat_core.proofs.BoardLemmas.{HasMember, IsInRound-gone, at_round, has_member, near_after}
-use Rattle.plat_core.proofs.ListLemmas.{at_set, length-set', within}
+use Rattle.initiator_run.specs.Run.{Run}
+use Rattle.plat_core.proofs.BoardLemmas.{HasMember, has_member, near_after}
+use Rattle.initiator_run.proofs.BoardLemmas.{IsInRound-gone, at_round}
+use Rattle.run_outcome.proofs.ListLemmas.{at_set, length-set', within}
 
 differs : (a b : ℕ) → nat_eq a b ≡ false → a ≢ b
 differs a b is = grind (arith, nat_tests)

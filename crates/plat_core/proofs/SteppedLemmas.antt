@@ -5,14 +5,15 @@ use Rattle.std.proofs.lemmas.Bool.{false≢true}
 use Rattle.tlm_model.specs.Plan.{Plan}
 use Rattle.region_object.specs.Region.{LoggedMemory}
 use Rattle.time_board.specs.declared.rounds.Member.{Member}
-use Rattle.plat_core.specs.Board.{AreInRounds, HasGoneOn, IsInRound}
+use Rattle.plat_core.specs.Board.{AreInRounds}
+use Rattle.initiator_run.specs.Board.{HasGoneOn, IsInRound}
 use Rattle.plat_core.specs.Core.{GoesOn, HasRisen, HasStopped, IsCore, IsStep, history_of}
 use Rattle.plat_core.specs.declared.steps.CoreStep.{CoreStep}
 use Rattle.plat_core.specs.declared.steps.CoreStep.TheVariants.{Made, Waits, Finished}
-use Rattle.plat_core.specs.declared.turn.Turn.{Turn}
-use Rattle.plat_core.specs.declared.turn.Turn.TheVariants as turn
-use Rattle.plat_core.specs.Run.{Run}
-use Rattle.plat_core.specs.Turns.{IsTurn}
+use Rattle.initiator_run.specs.declared.turn.Turn.{Turn}
+use Rattle.initiator_run.specs.declared.turn.Turn.TheVariants as turn
+use Rattle.initiator_run.specs.Run.{Run}
+use Rattle.initiator_run.specs.Turns.{IsTurn}
 use Rattle.plat_core.proofs.CoreLemmas.{core_ended, core_made, core_moved, core_waited, has_turn, history_moved, made_access, moved_on, moved_to_end, moved_to_wait, whole_write, written}
 use Rattle.plat_core.proofs.ProgressLemmas.{goes_made, goes_moved, stops_ended, stops_waited}
 use Rattle.plat_core.proofs.ViewLemmas.{risen_moved, rounds_made, rounds_same, step_ended, step_made, step_waited, view}

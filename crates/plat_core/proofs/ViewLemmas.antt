@@ -8,19 +8,21 @@ use Rattle.time_board.specs.declared.rounds.Member.{Member}
 use Rattle.time_board.specs.Rounds.{member_of}
 use Rattle.script_engine.specs.State.{op_of}
 use Rattle.script_engine.proofs.Steps.{ends}
-use Rattle.plat_core.specs.Access.{entry_made, place_of}
-use Rattle.plat_core.specs.Board.{AreInRounds, HasGoneOn}
+use Rattle.initiator_run.specs.Access.{entry_made, place_of}
+use Rattle.plat_core.specs.Board.{AreInRounds}
+use Rattle.initiator_run.specs.Board.{HasGoneOn}
 use Rattle.plat_core.specs.Core.{CoreView, HasRisen, IsCore, IsStep, are_finished, history_of, member_in}
 use Rattle.plat_core.specs.declared.steps.CoreStep.TheVariants.{Made, Waits, Finished}
 use Rattle.plat_core.specs.Rounds.{due_round, round_at, round_by}
-use Rattle.plat_core.specs.Run.{Run, arrived, engine_after}
-use Rattle.plat_core.specs.Turns.{HasMadeAccess, HasMoved, HasMovedToEnd, HasMovedToWait}
-use Rattle.plat_core.proofs.BoardLemmas.{HasMember, at_round, has_member, is_held, not_held, not_held_done, set_own}
+use Rattle.initiator_run.specs.Run.{Run, arrived, engine_after}
+use Rattle.initiator_run.specs.Turns.{HasMadeAccess, HasMoved, HasMovedToEnd, HasMovedToWait}
+use Rattle.plat_core.proofs.BoardLemmas.{HasMember, has_member, is_held, not_held, not_held_done}
+use Rattle.initiator_run.proofs.BoardLemmas.{at_round, set_own}
 use Rattle.plat_core.proofs.CoreLemmas.{HasTurn, core_made, finished_same, has_turn, history_made, history_moved, route_at, step_of}
-use Rattle.plat_core.proofs.CountLemmas.{with_sync_finished, with_sync_round}
+use Rattle.initiator_run.proofs.CountLemmas.{with_sync_finished, with_sync_round}
 use Rattle.plat_core.proofs.DueLemmas.{due_after_syncs, due_at_access, due_at_end, round_at_next}
-use Rattle.plat_core.proofs.EndLemmas.{HasCome-ended, HasCome-open}
-use Rattle.plat_core.proofs.ListLemmas.{at_map, map-set, set-same}
+use Rattle.initiator_run.proofs.EndLemmas.{HasCome-ended, HasCome-open}
+use Rattle.run_outcome.proofs.ListLemmas.{at_map, map-set, set-same}
 use Rattle.plat_core.proofs.RoundsKept.{rounds_entered, rounds_moved}
 
 abbrev pub view : Plan → List LoggedMemory → List Run → List Member → CoreView

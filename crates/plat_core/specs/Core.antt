@@ -1,13 +1,10 @@
 -- What is seen of the core, and its steps.
 use Rattle.std.specs.Prelude.{ℕ, ◌≡◌, ◌+◌, ◌*◌, ◌<◌, ◌≤◌, Bool, true, false, List, [], ◌∷◌, ◌++◌, length, map, replicate, sum_by, if◌then◌else◌, Some, IsSomeAnd, MatchOption, slice_get, slice_set}
-use Rattle.std.specs.List.{AllByRecursion, list_all}
+use Rattle.std.specs.List.{list_all}
 use Rattle.tlm_types.specs.declared.entry.Entry.{Entry}
 use Rattle.tlm_types.specs.declared.words.ObjectNo.TheVariants.{Memory as memory_object}
-use Rattle.tlm_model.specs.declared.operation.Operation.{Operation}
-use Rattle.tlm_model.specs.declared.platform.InitiatorRow.{InitiatorRow}
 use Rattle.tlm_model.specs.declared.platform.MemoryRow.{MemoryRow}
 use Rattle.tlm_model.specs.declared.platform.Platform.{Platform}
-use Rattle.tlm_model.specs.declared.platform.Style.TheVariants.{Blocking}
 use Rattle.tlm_model.specs.History.{entries_at}
 use Rattle.tlm_model.specs.Plan.{Plan, Initiator, initiators_of}
 use Rattle.good_history.specs.Good.{IsSound}
@@ -16,11 +13,12 @@ use Rattle.time_board.specs.declared.rounds.Member.{Member}
 use Rattle.time_board.specs.Rounds.{member_of, new_member}
 use Rattle.script_engine.specs.declared.op.Op.TheVariants as next
 use Rattle.script_engine.specs.State.{op_of}
-use Rattle.plat_core.specs.Come.{HasCome, IsServed, has_ended}
-use Rattle.plat_core.specs.Left.{total_left}
-use Rattle.plat_core.specs.Merge.{merged}
+use Rattle.initiator_run.specs.Come.{HasCome, has_ended}
+use Rattle.initiator_run.specs.Left.{total_left}
+use Rattle.run_outcome.specs.Merge.{merged}
 use Rattle.plat_core.specs.Rounds.{IsHeldBack, due_round}
-use Rattle.plat_core.specs.Run.{Run, begun}
+use Rattle.initiator_run.specs.Run.{Run, begun}
+use Rattle.initiator_run.specs.Served.{IsServable}
 use Rattle.plat_core.specs.declared.steps.CoreStep.{CoreStep}
 use Rattle.plat_core.specs.declared.steps.CoreStep.TheVariants.{Made, Waits, Finished}
 
@@ -30,16 +28,6 @@ pub record CoreView : Type 0 where
   pub history : List Entry
   pub finished : List Bool
   pub rounds : List Member
-
--- what the core serves: blocking initiators, whose scripts don't invalidate
-pub record IsServable (p : Plan) : Type 0 where
-  pub scripts : length p.scripts ≡ length p.platform.initiators
-  pub blocking : AllByRecursion (λ (row : InitiatorRow). row.style ≡ Blocking) p.platform.initiators
-  pub served : AllByRecursion (AllByRecursion IsServed) p.scripts
-  pub few : AllByRecursion (λ (script : List Operation). length script ≤ 100000) p.scripts
-  pub initiators : length p.platform.initiators ≤ 32
-  pub routers : length p.platform.routers ≤ 16
-  pub memories : length p.platform.memories ≤ 16
 
 -- how many actors there are: the initiators, the routers and the memories, numbered in this order
 abbrev pub actors_of : Platform → ℕ

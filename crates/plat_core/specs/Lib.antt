@@ -1,15 +1,5 @@
-pub mod Entry
-pub mod Run
 pub mod Rounds
 pub mod Board
-pub mod Come
-pub mod Access
-pub mod Left
-pub mod Moves
-pub mod Steps
-pub mod Merge
-pub mod Turns
 pub mod Core
-pub mod Places
 pub mod Fresh
 pub mod Outcome

@@ -1,11 +1,11 @@
--- How a run ended.
+-- The outcome of a core, and of a schedule.
 use Rattle.std.specs.Prelude.{ℕ, ◌≡◌, ◌<◌, ◌≤◌, true, List, [], ◌∷◌, length, Some, slice_get}
 use Rattle.tlm_types.specs.declared.ends.EndOf.{EndOf}
 use Rattle.tlm_model.specs.History.{last_store}
 use Rattle.tlm_model.specs.Plan.{Plan, Initiator, initiators_of}
 use Rattle.report_model.specs.Ends.{IsEndOf}
 use Rattle.good_history.specs.Good.{IsGood, IsSound}
-use Rattle.plat_core.specs.declared.outcome.Outcome.{Outcome}
+use Rattle.run_outcome.specs.declared.outcome.Outcome.{Outcome}
 use Rattle.plat_core.specs.declared.steps.CoreStep.{CoreStep}
 use Rattle.plat_core.specs.Rounds.{KeepsRounds}
 use Rattle.plat_core.specs.Core.{CoreView, IsStep, actors_of, all_true, begun_core}
@@ -25,15 +25,6 @@ pub record IsOutcome (core : CoreView) (outcome : Outcome) : Type 0 where
   pub initiators : length outcome.ends ≡ length core.plan.platform.initiators
   pub ends : (n : ℕ) (i : Initiator) (end : EndOf) → slice_get core.finished n ≡ Some true → slice_get (initiators_of core.plan) n ≡ Some i → slice_get outcome.ends n ≡ Some end → IsEndOf core.plan i core.history end
 
--- What a report takes of an outcome is that of its history: for each memory and each initiator of the plan there is
--- one, and it is what the definitions say.
-pub record IsReportable (p : Plan) (outcome : Outcome) : Type 0 where
-  pub scripts : length p.scripts ≡ length p.platform.initiators
-  pub memories : length outcome.stores ≡ length p.platform.memories
-  pub stores : (m : ℕ) (bytes : List ℕ) → slice_get outcome.stores m ≡ Some bytes → bytes ≡ last_store p.platform outcome.history.entries m
-  pub initiators : length outcome.ends ≡ length p.platform.initiators
-  pub ends : (n : ℕ) (i : Initiator) (end : EndOf) → slice_get (initiators_of p) n ≡ Some i → slice_get outcome.ends n ≡ Some end → IsEndOf p i outcome.history.entries end
-
 -- one number of a schedule: a step of the actor that it names, or nothing
 pub data IsTurnOf (old : CoreView) (n : ℕ) (new : CoreView) : Type 0 where
   Steps : n < actors_of old.plan.platform → (step : CoreStep) → IsStep old n new step → IsTurnOf old n new
@@ -49,9 +40,3 @@ pub record IsScheduled (p : Plan) (schedule : List ℕ) (outcome : Outcome) : Ty
   pub core : CoreView
   pub followed : HasFollowed (begun_core p) schedule core
   pub ended : IsOutcome core outcome
-
--- the outcome of a whole run: all initiators have finished, the history is good, and a report can be made of it
-pub record IsWhole (p : Plan) (outcome : Outcome) : Type 0 where
-  pub complete : outcome.complete ≡ true
-  pub good : IsGood p outcome.history.entries
-  pub reportable : IsReportable p outcome

@@ -1,12 +1,9 @@
 //! The one-thread core: a platform with its scripts, whose actors move one at a time.
 //!
 //! - `Core` holds the initiators' runs and the memories. `step` makes one event of an actor: its moves
-//!   that add no entry, up to and with its next entry.
+//!   that add no entry, up to and with its next entry. `into_outcome` ends it.
 //! - `run_schedule` steps the actors that a schedule names. In `run_in_order` each initiator in order goes
 //!   on until it has finished or waits for one that is behind.
-//! - `InitiatorRun` is one initiator under way, for those who run initiators side by side.
-//! - `Outcome` is how a run ended; `MergedLog` makes one history of the logs of its objects, which a
-//!   `LogReader` reads.
 //!
 //! Promises: after every step the history is sound for the plan, and has one more entry, which is the
 //! actor's, or as many as before. An initiator finishes exactly where all that its script asks for is
@@ -18,17 +15,8 @@
 //! The only error is want of memory, after which the history is as before.
 #![tactic(auto)]
 
-mod merge;
-mod outcome;
-mod run;
 mod schedule;
-mod served;
 mod steps;
-mod turn;
 
-pub use merge::{LogReader, MergedLog};
-pub use outcome::Outcome;
-pub use run::{InitiatorRun, Move, NextAccess};
 pub use schedule::{run_in_order, run_schedule};
-pub use served::look_through;
 pub use steps::{Core, CoreStep};

@@ -1,11 +1,12 @@
 // Whole runs on one thread.
 ghost use Rattle.std.specs.Prelude.{IfOk, OnOk};
-ghost use Rattle.plat_core.specs.Outcome.{IsScheduled, IsTurnOf, IsWhole};
+ghost use Rattle.plat_core.specs.Outcome.{IsScheduled, IsTurnOf};
+ghost use Rattle.run_outcome.specs.Outcome.{IsWhole};
 
-use crate::outcome::Outcome;
 use crate::steps::{Core, CoreStep};
 use outside::Pace;
 use route_plan::Plan;
+use run_outcome::Outcome;
 use std::alloc::Global;
 use tlm_types::Memory;
 

@@ -13,11 +13,11 @@ use Rattle.route_plan.specs.declared.step.Route.{Route}
 use Rattle.script_engine.specs.declared.op.Op.{Op}
 use Rattle.script_engine.specs.State.{State, is_fenced, length_of, op_of, payload_of}
 use Rattle.quantum_keeper.specs.Keeper.{current_time}
-use Rattle.plat_core.specs.Access.{call_at, next_call}
-use Rattle.plat_core.specs.Moves.{HasReached}
-use Rattle.plat_core.specs.Run.{Run, accessed}
-use Rattle.plat_core.proofs.RunLemmas.{accessed_initiator}
-use Rattle.plat_core.proofs.SendLemmas.{room_of_payload}
+use Rattle.initiator_run.specs.Access.{call_at, next_call}
+use Rattle.initiator_run.specs.Moves.{HasReached}
+use Rattle.initiator_run.specs.Run.{Run, accessed}
+use Rattle.initiator_run.proofs.RunLemmas.{accessed_initiator}
+use Rattle.initiator_run.proofs.SendLemmas.{room_of_payload}
 use Rattle.plat_build.specs.Calls.{IsCalled, OneTicketLess}
 use Rattle.plat_run.specs.Job.{IsAtRest, IsInitiator}
 use Rattle.plat_run.proofs.JobLemmas.{HasSent, access_made, whole}

@@ -12,29 +12,32 @@ use Rattle.token_book.specs.Purse.{Purse}
 use Rattle.tlm_types.specs.declared.entry.Content.{Content}
 use Rattle.tlm_types.specs.declared.words.ObjectNo.TheVariants.{Memory}
 use Rattle.tlm_model.specs.declared.operation.Operation.{Operation}
-use Rattle.tlm_model.specs.declared.operation.Operation.TheVariants.{Write, Read, Ignore, Debug, Copy, Add, Wait, Sync, Fence, Invalidate}
+use Rattle.tlm_model.specs.declared.operation.Operation.TheVariants.{Write, Read, Ignore, Debug, Copy, Add, Invalidate}
 use Rattle.tlm_model.specs.declared.platform.InitiatorRow.{InitiatorRow}
 use Rattle.tlm_model.specs.declared.platform.MemoryRow.{MemoryRow}
 use Rattle.tlm_model.specs.declared.platform.Style.{Style}
 use Rattle.tlm_model.specs.declared.platform.Style.TheVariants.{Blocking}
 use Rattle.tlm_model.specs.declared.platform.Target.TheVariants.{Memory as memory_target}
+use Rattle.tlm_model.specs.declared.ask.Ask.TheVariants.{Access as AnAccess, DebugRead as ADebugRead, Invalidation as AnInvalidation}
+use Rattle.tlm_model.specs.Actions.{asks_of}
 use Rattle.tlm_model.specs.Plan.{Plan, Initiator, initiators_from, initiators_of}
 use Rattle.generic_payload.specs.Payload.{PayloadView}
 use Rattle.route_plan.specs.Counted.{logged_share_at, logged_share_by, share_at, share_by}
 use Rattle.route_plan.specs.Paths.{has_path, once}
-use Rattle.route_plan.specs.Planned.{AnAccess, ADebugRead, AnInvalidation, asks_in, asks_of, gates_by, invalidates, is_direct, logged_at, logged_share, share_of}
+use Rattle.route_plan.specs.Planned.{asks_in, gates_by, invalidates, is_direct, logged_at, logged_share, share_of}
 use Rattle.script_engine.specs.State.{State, begun as begun_engine}
+use Rattle.script_engine.proofs.Remaining.{few_numbers}
 use Rattle.script_engine.proofs.Steps.{begins}
 use Rattle.run_queue.specs.Queue.{AreNumbered}
-use Rattle.plat_core.specs.Come.{HasCome, IsServed}
-use Rattle.plat_core.specs.Core.{IsServable}
-use Rattle.plat_core.specs.Left.{asked_in, logged_in}
-use Rattle.plat_core.specs.Run.{Run, begun}
-use Rattle.plat_core.proofs.BeginLemmas.{asked_planned, numbers_bound, script_at, syncs_bound}
-use Rattle.plat_core.proofs.CoreLemmas.{blocking_from, initiators_count}
-use Rattle.plat_core.proofs.EndLemmas.{HasCome-begun}
-use Rattle.plat_core.proofs.ListLemmas.{has_element}
-use Rattle.plat_core.proofs.RunLemmas.{initiator_number}
+use Rattle.initiator_run.specs.Come.{HasCome}
+use Rattle.initiator_run.specs.Served.{IsServed, IsServable}
+use Rattle.initiator_run.specs.Left.{asked_in, logged_in}
+use Rattle.initiator_run.specs.Run.{Run, begun}
+use Rattle.initiator_run.proofs.BeginLemmas.{asked_planned, script_at, syncs_bound}
+use Rattle.run_outcome.proofs.PlanLemmas.{blocking_from, initiator_number}
+use Rattle.route_plan.proofs.ShareLemmas.{count_initiators}
+use Rattle.initiator_run.proofs.EndLemmas.{HasCome-begun}
+use Rattle.run_outcome.proofs.ListLemmas.{has_element}
 use Rattle.plat_build.specs.declared.kept.Start.{Start}
 use Rattle.plat_build.specs.Kept.{HasShares, IsStart, Waiting}
 use Rattle.plat_run.specs.Job.{HasTickets, IsInitiator, IsJob}
@@ -42,16 +45,8 @@ use Rattle.plat_run.specs.Job.{HasTickets, IsInitiator, IsJob}
 -- a script that is served invalidates nothing
 never_invalidates : (p : Plan) (i : Initiator) (m : ℕ) (ops : List Operation) → AllByRecursion IsServed ops → list_any (invalidates p i m) (flat_map asks_of ops) ≡ false
 never_invalidates p i m [] served = refl
-never_invalidates p i m (Write a bytes enables width ∷ ops) served = never_invalidates p i m ops served.1
-never_invalidates p i m (Read a n enables width ∷ ops) served = never_invalidates p i m ops served.1
-never_invalidates p i m (Ignore a ∷ ops) served = never_invalidates p i m ops served.1
-never_invalidates p i m (Debug a n ∷ ops) served = never_invalidates p i m ops served.1
-never_invalidates p i m (Copy from to n ∷ ops) served = never_invalidates p i m ops served.1
-never_invalidates p i m (Add a n ∷ ops) served = never_invalidates p i m ops served.1
-never_invalidates p i m (Wait n ∷ ops) served = never_invalidates p i m ops served.1
-never_invalidates p i m (Sync ∷ ops) served = never_invalidates p i m ops served.1
-never_invalidates p i m (Fence ∷ ops) served = never_invalidates p i m ops served.1
 never_invalidates p i m (Invalidate a n ∷ ops) served = absurd served.0
+never_invalidates p i m (op ∷ ops) served = never_invalidates p i m ops served.1
 
 -- a blocking initiator opens and closes no gates
 no_gates : (p : Plan) (i : Initiator) (m : ℕ) (row : Option MemoryRow) → i.row.style ≡ Blocking → AllByRecursion IsServed i.script → gates_by p i m row ≡ 0
@@ -82,10 +77,8 @@ logged_planned p i m (Ignore a ∷ ops) = omega (arith, logged_planned p i m ops
 logged_planned p i m (Debug a n ∷ ops) = omega (arith, logged_planned p i m ops, sum_by-cons (logged_at p i m) (ADebugRead a n) (flat_map asks_of ops))
 logged_planned p i m (Copy from to n ∷ ops) = omega (arith, logged_planned p i m ops, sum_by-cons (logged_at p i m) (AnAccess to n) (flat_map asks_of ops), sum_by-cons (logged_at p i m) (AnAccess from n) ((AnAccess to n) ∷ flat_map asks_of ops))
 logged_planned p i m (Add a n ∷ ops) = omega (arith, logged_planned p i m ops, sum_by-cons (logged_at p i m) (AnAccess a 4) (flat_map asks_of ops), sum_by-cons (logged_at p i m) (AnAccess a 4) ((AnAccess a 4) ∷ flat_map asks_of ops))
-logged_planned p i m (Wait n ∷ ops) = omega (arith, logged_planned p i m ops)
-logged_planned p i m (Sync ∷ ops) = omega (arith, logged_planned p i m ops)
-logged_planned p i m (Fence ∷ ops) = omega (arith, logged_planned p i m ops)
 logged_planned p i m (Invalidate a n ∷ ops) = omega (arith, logged_planned p i m ops, sum_by-cons (logged_at p i m) (AnInvalidation a) (flat_map asks_of ops))
+logged_planned p i m (op ∷ ops) = omega (arith, logged_planned p i m ops)
 
 bytes_shared : (p : Plan) (i : Initiator) (m : ℕ) → logged_in p i m i.script ≡ logged_share p i m
 unfolding logged_share
@@ -119,7 +112,7 @@ module _ (p : Plan) (servable : IsServable p) (n : ℕ) (i : Initiator) (at : sl
           below = λ e has. absurd (has_none e has);
           own = λ e has. absurd (has_none e has);
           come = subst (λ (k : ℕ). HasCome p.platform i [] (begun k i.script p.platform.quantum (2 * length i.script))) number
-              (HasCome-begun begins p.platform i (2 * length i.script) (omega (arith, syncs_bound p.platform i 0 0 i.script, script.few)) (numbers_bound i.script) script.served);
+              (HasCome-begun begins p.platform i (2 * length i.script) (omega (arith, syncs_bound p.platform i 0 0 i.script, script.few)) (few_numbers i.script) script.served);
           keeps = record { scripts = record { replies = tt; ways = tt; order = tt; places = tt }; times = tt };
           decoupled = tt;
         };
@@ -143,7 +136,7 @@ same_script a b q = cc
 pub job_begun : (p : Plan) (table tokens : TableId) (n : ℕ) (s : Start) (run : Run) (quantum room : ℕ) (script : List Operation) → IsServable p → n < length p.platform.initiators → IsStart table tokens p n s → slice_get p.scripts n ≡ Some script → quantum ≡ p.platform.quantum → room ≡ 2 * length script
     → run ≡ record (begun 0 [] quantum room) { engine = s.engine } → IsJob table tokens p run s.payload s.note s.wallet
 job_begun p table tokens n s run quantum room script servable below start at quantum_is room_is run_is =
-    let found = has_element (initiators_of p) n (omega (arith, initiators_count 0 p.platform.initiators p.scripts servable.scripts)) in
+    let found = has_element (initiators_of p) n (omega (arith, count_initiators 0 p.platform.initiators p.scripts servable.scripts)) in
     let i = found.element in
     let mine : i.script ≡ script = same_script i.script script (sym (script_from 0 n p.platform.initiators p.scripts i found.at) ∙ at) in
     let engine : s.engine ≡ begun_engine n i.script = subst (λ (o : Option (List Operation)). IsSomeAnd o (λ (x : List Operation). s.engine ≡ begun_engine n x)) at start.engine ∙ ap (begun_engine n) (sym mine) in

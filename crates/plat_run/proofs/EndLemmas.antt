@@ -25,9 +25,9 @@ use Rattle.joined_runs.proofs.OwnLemmas.{own_is_enough}
 use Rattle.joined_runs.proofs.WholeLemmas.{joined_is_good}
 use Rattle.route_plan.specs.Counted.{share_by}
 use Rattle.route_plan.specs.Planned.{planned_at, share_of}
-use Rattle.plat_core.specs.Run.{refused_item}
-use Rattle.plat_core.proofs.ListLemmas.{has_element, take_all, take_next, within}
-use Rattle.plat_core.proofs.RunLemmas.{initiator_number}
+use Rattle.initiator_run.specs.Run.{refused_item}
+use Rattle.run_outcome.proofs.ListLemmas.{has_element, take_all, take_next, within}
+use Rattle.run_outcome.proofs.PlanLemmas.{initiator_number}
 use Rattle.plat_run.specs.End.{HaveEnded}
 use Rattle.plat_run.specs.Job.{owner_of, position_of}
 

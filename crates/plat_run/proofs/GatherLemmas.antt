@@ -20,8 +20,8 @@ use Rattle.tlm_model.specs.Plan.{Plan}
 use Rattle.shared_object.specs.Standing.{IsBuiltFor, IsSeat, Numbers, place}
 use Rattle.region_object.specs.Region.{LoggedMemory}
 use Rattle.region_object.specs.Written.{built_of, written_from}
-use Rattle.plat_core.specs.Run.{Run, end_at}
-use Rattle.plat_core.proofs.ListLemmas.{at_push, within}
+use Rattle.initiator_run.specs.Run.{Run, end_at}
+use Rattle.run_outcome.proofs.ListLemmas.{at_push, within}
 use Rattle.plat_build.specs.Built.{IsMemoryBuilt}
 use Rattle.plat_build.specs.Net.{memory_numbers}
 use Rattle.plat_run.specs.Run.{AreDoneWith, AreFinished, HandsIn, IsDoneWith, IsFinished}

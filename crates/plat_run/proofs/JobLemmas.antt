@@ -26,16 +26,16 @@ use Rattle.region_object.specs.Written.{written_from}
 use Rattle.route_plan.specs.declared.step.Route.{Route}
 use Rattle.route_plan.specs.Counted.{share_at}
 use Rattle.script_engine.specs.State.{State, op_of, is_fenced, length_of}
-use Rattle.plat_core.specs.Access.{IsRouteOf, bytes_back, entry_made, next_call, payload_in_reply, place_of}
-use Rattle.plat_core.specs.Left.{asks_left, bytes_at, bytes_left, leads}
-use Rattle.plat_core.specs.Moves.{HasReached}
-use Rattle.plat_core.specs.Run.{Run, IsAccessOp, accessed, address_of, arrived, engine_after}
-use Rattle.plat_core.proofs.CoreLemmas.{blocking_from, entries_at-push}
-use Rattle.plat_core.proofs.CountLemmas.{with_sync_finished}
-use Rattle.plat_core.proofs.EntryLemmas.{HasCome-turn, goes_on_with}
-use Rattle.plat_core.proofs.LeftLemmas.{bytes_after, cost_at, leads_elsewhere, leads_there, left_after}
-use Rattle.plat_core.proofs.RunLemmas.{accessed_initiator, accessed_step, initiator_number}
-use Rattle.plat_core.proofs.SendLemmas.{bytes_come_back, entry_is_made, whole_comes_back}
+use Rattle.initiator_run.specs.Access.{IsRouteOf, bytes_back, entry_made, next_call, payload_in_reply, place_of}
+use Rattle.initiator_run.specs.Left.{asks_left, bytes_at, bytes_left, leads}
+use Rattle.initiator_run.specs.Moves.{HasReached}
+use Rattle.initiator_run.specs.Run.{Run, IsAccessOp, accessed, address_of, arrived, engine_after}
+use Rattle.run_outcome.proofs.PlanLemmas.{blocking_from, initiator_number}
+use Rattle.initiator_run.proofs.EntryLemmas.{entries_at-push, HasCome-turn, goes_on_with}
+use Rattle.initiator_run.proofs.CountLemmas.{with_sync_finished}
+use Rattle.initiator_run.proofs.LeftLemmas.{bytes_after, cost_at, leads_elsewhere, leads_there, left_after}
+use Rattle.initiator_run.proofs.RunLemmas.{accessed_initiator, accessed_step}
+use Rattle.initiator_run.proofs.SendLemmas.{bytes_come_back, entry_is_made, whole_comes_back}
 use Rattle.plat_build.specs.Calls.{IsCalled, OneTicketLess, returned}
 use Rattle.plat_run.specs.Entries.{entries_read, entry_read}
 use Rattle.plat_run.specs.Job.{HasMade, HasTickets, IsInitiator, owner_of, position_of}

@@ -8,33 +8,26 @@ use Rattle.token_book.specs.Purse.{Purse}
 use Rattle.tlm_types.specs.declared.entry.Content.{Content}
 use Rattle.tlm_types.specs.declared.words.ObjectNo.TheVariants.{Memory}
 use Rattle.tlm_model.specs.declared.operation.Operation.{Operation}
-use Rattle.tlm_model.specs.declared.operation.Operation.TheVariants.{Write, Read, Ignore, Debug, Copy, Add, Wait, Sync, Fence, Invalidate}
+use Rattle.tlm_model.specs.declared.operation.Operation.TheVariants.{Write}
 use Rattle.tlm_model.specs.Plan.{Plan, initiators_of}
 use Rattle.generic_payload.specs.Payload.{PayloadView}
 use Rattle.route_plan.specs.Counted.{share_at}
 use Rattle.script_engine.specs.declared.op.Op.TheVariants as next
 use Rattle.script_engine.specs.State.{Due, State, op_at, op_of}
 use Rattle.script_engine.specs.Asking.{numbers_due}
-use Rattle.plat_core.specs.declared.run.Move.{Move}
-use Rattle.plat_core.specs.declared.run.Move.TheVariants.{Ended, Went}
-use Rattle.plat_core.specs.Moves.{HasEnded, IsMove, IsUnderWay, Keeps, steps_left}
-use Rattle.plat_core.specs.Run.{Run}
-use Rattle.plat_core.proofs.RunLemmas.{Keeps-round, initiator_within}
+use Rattle.initiator_run.specs.declared.run.Move.{Move}
+use Rattle.initiator_run.specs.declared.run.Move.TheVariants.{Ended, Went}
+use Rattle.initiator_run.specs.Moves.{HasEnded, IsMove, IsUnderWay, Keeps, steps_left}
+use Rattle.initiator_run.specs.Run.{Run}
+use Rattle.initiator_run.proofs.RunLemmas.{Keeps-round}
+use Rattle.run_outcome.proofs.PlanLemmas.{initiator_within}
 use Rattle.plat_run.specs.Job.{IsInitiator, IsJob}
 
 no_steps_at : (s : ℕ) (due : Option Due) (ops : List Operation) → op_at s due ops ≡ next.Done → 2 * length ops + numbers_due due ≡ 0
 no_steps_at s (Some w) ops done = cc
 no_steps_at s None [] done = refl
 no_steps_at s None (Write a bytes enables width ∷ ops) done = cc
-no_steps_at s None (Read a n enables width ∷ ops) done = cc
-no_steps_at s None (Ignore a ∷ ops) done = cc
-no_steps_at s None (Debug a n ∷ ops) done = cc
-no_steps_at s None (Copy from to n ∷ ops) done = cc
-no_steps_at s None (Add a n ∷ ops) done = cc
-no_steps_at s None (Wait n ∷ ops) done = cc
-no_steps_at s None (Sync ∷ ops) done = cc
-no_steps_at s None (Fence ∷ ops) done = cc
-no_steps_at s None (Invalidate a n ∷ ops) done = cc
+no_steps_at s None (op ∷ ops) done = cc
 
 -- a script that has ended takes no more steps
 pub no_steps : (e : State) → op_of e ≡ next.Done → steps_left e ≡ 0

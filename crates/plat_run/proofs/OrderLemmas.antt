@@ -8,7 +8,7 @@ use Rattle.view_lists.proofs.Members.{has_either, has_later, has_left, has_none,
 use Rattle.tlm_types.specs.declared.entry.Entry.{Entry}
 use Rattle.joined_runs.specs.Counting.{IsRising}
 use Rattle.joined_runs.proofs.CountLemmas.{has_first, rising_same}
-use Rattle.plat_core.specs.Merge.{by_position, entries_in, merged, put_in}
+use Rattle.run_outcome.specs.Merge.{by_position, entries_in, merged, put_in}
 use Rattle.plat_run.specs.Job.{position_of}
 
 -- no two entries have one position

@@ -5,7 +5,7 @@ use Rattle.std.proofs.lemmas.Option.{MatchOption-at_some}
 use Rattle.token_book.specs.Purse.{Purse}
 use Rattle.tlm_types.specs.declared.words.TxnId.{TxnId}
 use Rattle.tlm_model.specs.declared.operation.Operation.{Operation}
-use Rattle.tlm_model.specs.declared.operation.Operation.TheVariants.{Write, Read, Ignore, Debug, Copy, Add, Wait, Sync, Fence, Invalidate}
+use Rattle.tlm_model.specs.declared.operation.Operation.TheVariants.{Wait, Sync, Fence, Invalidate}
 use Rattle.tlm_model.specs.Plan.{Plan, Initiator, initiators_of}
 use Rattle.tlm_model.specs.Route.{Route as RouteOfModel, route_of}
 use Rattle.generic_payload.specs.Payload.{PayloadView}
@@ -18,14 +18,14 @@ use Rattle.route_plan.specs.Routes.{route_by}
 use Rattle.script_engine.specs.declared.op.Op.{Op}
 use Rattle.script_engine.specs.declared.op.Op.TheVariants as next
 use Rattle.script_engine.specs.State.{Due, State, op_at, op_of, payload_at, payload_of}
-use Rattle.plat_core.specs.Access.{IsRouteOf, call_at, place_of}
-use Rattle.plat_core.specs.Left.{bytes_at}
-use Rattle.plat_core.specs.Moves.{HasReached}
-use Rattle.plat_core.specs.Run.{Run, IsAccessOp, address_of}
-use Rattle.plat_core.proofs.CoreLemmas.{is_within, walk_memory}
-use Rattle.plat_core.proofs.LeftLemmas.{bytes_after, cost_at, leads_there, left_after, whole_payload_of}
-use Rattle.plat_core.proofs.RouteLemmas.{routed, unrouted}
-use Rattle.plat_core.proofs.SendLemmas.{fit_at}
+use Rattle.initiator_run.specs.Access.{IsRouteOf, call_at, place_of}
+use Rattle.initiator_run.specs.Left.{bytes_at}
+use Rattle.initiator_run.specs.Moves.{HasReached}
+use Rattle.initiator_run.specs.Run.{Run, IsAccessOp, address_of}
+use Rattle.run_outcome.proofs.ListLemmas.{is_within}
+use Rattle.initiator_run.proofs.RouteLemmas.{walk_memory, routed, unrouted}
+use Rattle.initiator_run.proofs.LeftLemmas.{bytes_after, cost_at, leads_there, left_after, whole_payload_of}
+use Rattle.initiator_run.proofs.SendLemmas.{fit_at}
 use Rattle.plat_build.specs.Calls.{CanPay, route_at}
 use Rattle.plat_run.specs.Job.{IsInitiator}
 use Rattle.plat_run.specs.Sent.{IsSentBy}
@@ -33,11 +33,7 @@ use Rattle.plat_run.specs.Sent.{IsSentBy}
 sent_at : (op : Op) (txn : TxnId) (t before offset : ℕ) (payload : PayloadView) → IsAccessOp op → IsFit (call_at op txn t before (record payload { address = offset })) → IsSentBy op payload
 sent_at (next.Access s a n command plain fenced) txn t before offset payload is fit = fit.1
 sent_at (next.Debug s a n) txn t before offset payload is fit = fit
-sent_at (next.Wait n) txn t before offset payload is fit = absurd is
-sent_at next.Sync txn t before offset payload is fit = absurd is
-sent_at next.Fence txn t before offset payload is fit = absurd is
-sent_at (next.Invalidate s a n) txn t before offset payload is fit = absurd is
-sent_at next.Done txn t before offset payload is fit = absurd is
+sent_at op txn t before offset payload is fit = absurd is
 
 -- the payload of what is next carries it
 pub payload_carries : (e : State) → IsAccessOp (op_of e) → IsSentBy (op_of e) (payload_of e 4096)
@@ -46,16 +42,11 @@ payload_carries e is = sent_at (op_of e) (record { initiator = 0; seq = 0 }) 0 0
 address_at : (s room : ℕ) (due : Option Due) (ops : List Operation) → IsAccessOp (op_at s due ops) → (payload_at room due ops).address ≡ address_of (op_at s due ops)
 address_at s room (Some w) ops is = refl
 address_at s room None [] is = absurd is
-address_at s room None (Write a bytes enables width ∷ ops) is = refl
-address_at s room None (Read a n enables width ∷ ops) is = refl
-address_at s room None (Ignore a ∷ ops) is = refl
-address_at s room None (Debug a n ∷ ops) is = refl
-address_at s room None (Copy from to n ∷ ops) is = refl
-address_at s room None (Add a n ∷ ops) is = refl
 address_at s room None (Wait n ∷ ops) is = absurd is
 address_at s room None (Sync ∷ ops) is = absurd is
 address_at s room None (Fence ∷ ops) is = absurd is
 address_at s room None (Invalidate a n ∷ ops) is = absurd is
+address_at s room None (op ∷ ops) is = refl
 
 -- and has its address
 pub payload_address : (e : State) → IsAccessOp (op_of e) → (payload_of e 4096).address ≡ address_of (op_of e)

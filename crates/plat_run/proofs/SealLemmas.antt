@@ -14,7 +14,7 @@ use Rattle.tlm_types.specs.declared.entry.Content.{Content}
 use Rattle.tlm_types.specs.declared.entry.Entry.{Entry}
 use Rattle.tlm_types.specs.declared.words.ObjectNo.TheVariants.{Memory}
 use Rattle.tlm_model.specs.declared.operation.Operation.{Operation}
-use Rattle.tlm_model.specs.declared.operation.Operation.TheVariants.{Write, Read, Ignore, Debug, Copy, Add, Wait, Sync, Fence, Invalidate}
+use Rattle.tlm_model.specs.declared.operation.Operation.TheVariants.{Write}
 use Rattle.tlm_model.specs.History.{IsNumberedFrom, entries_at}
 use Rattle.tlm_model.specs.Plan.{Plan, Initiator, initiators_of}
 use Rattle.region_object.specs.Written.{written_from}
@@ -22,9 +22,9 @@ use Rattle.route_plan.specs.Counted.{share_at}
 use Rattle.script_engine.specs.declared.op.Op.TheVariants as next
 use Rattle.script_engine.specs.State.{Due, State, op_at, op_of}
 use Rattle.script_engine.proofs.Steps.{ends}
-use Rattle.plat_core.specs.Left.{asked_due, asked_in, asks_left}
-use Rattle.plat_core.specs.Run.{Run, end_at}
-use Rattle.plat_core.proofs.EndLemmas.{HasCome-ended}
+use Rattle.initiator_run.specs.Left.{asked_due, asked_in, asks_left}
+use Rattle.initiator_run.specs.Run.{Run, end_at}
+use Rattle.initiator_run.proofs.EndLemmas.{HasCome-ended}
 use Rattle.plat_run.specs.End.{HasEnded}
 use Rattle.plat_run.specs.Entries.{entries_read, entry_read}
 use Rattle.plat_run.specs.Job.{IsInitiator}
@@ -57,15 +57,7 @@ none_left_at : (p : Plan) (i : Initiator) (m s : ℕ) (due : Option Due) (ops : 
 none_left_at p i m s (Some w) ops done = cc
 none_left_at p i m s None [] done = refl
 none_left_at p i m s None (Write a bytes enables width ∷ ops) done = cc
-none_left_at p i m s None (Read a n enables width ∷ ops) done = cc
-none_left_at p i m s None (Ignore a ∷ ops) done = cc
-none_left_at p i m s None (Debug a n ∷ ops) done = cc
-none_left_at p i m s None (Copy from to n ∷ ops) done = cc
-none_left_at p i m s None (Add a n ∷ ops) done = cc
-none_left_at p i m s None (Wait n ∷ ops) done = cc
-none_left_at p i m s None (Sync ∷ ops) done = cc
-none_left_at p i m s None (Fence ∷ ops) done = cc
-none_left_at p i m s None (Invalidate a n ∷ ops) done = cc
+none_left_at p i m s None (op ∷ ops) done = cc
 
 pub none_left : (p : Plan) (i : Initiator) (m : ℕ) (e : State) → op_of e ≡ next.Done → asks_left p i m e ≡ 0
 none_left p i m e done = none_left_at p i m e.seq e.due e.remaining done

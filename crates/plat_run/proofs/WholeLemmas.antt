@@ -32,15 +32,15 @@ use Rattle.report_model.proofs.Ending.{ends_by_latencies}
 use Rattle.good_history.specs.Good.{IsGood}
 use Rattle.joined_runs.proofs.CountLemmas.{IsRising-filter, has_kept, kept_has}
 use Rattle.route_plan.specs.Planned.{planned_at}
-use Rattle.plat_core.specs.declared.outcome.Outcome.{Outcome}
-use Rattle.plat_core.specs.Core.{IsServable}
-use Rattle.plat_core.specs.Merge.{merged}
-use Rattle.plat_core.specs.Outcome.{IsWhole}
-use Rattle.plat_core.specs.Places.{entries_of_logs}
-use Rattle.plat_core.proofs.CoreLemmas.{blocking_apart, blocking_from, initiators_count, some_row}
-use Rattle.plat_core.proofs.EntryLemmas.{bytes_are}
-use Rattle.plat_core.proofs.ListLemmas.{at_map, has_element, within}
-use Rattle.plat_core.proofs.SoundLemmas.{no_fourphase}
+use Rattle.run_outcome.specs.declared.outcome.Outcome.{Outcome}
+use Rattle.initiator_run.specs.Served.{IsServable}
+use Rattle.run_outcome.specs.Merge.{merged}
+use Rattle.run_outcome.specs.Outcome.{IsWhole}
+use Rattle.run_outcome.specs.Places.{entries_of_logs}
+use Rattle.run_outcome.proofs.PlanLemmas.{blocking_apart, blocking_from, no_fourphase}
+use Rattle.initiator_run.proofs.EntryLemmas.{some_row, bytes_are}
+use Rattle.route_plan.proofs.ShareLemmas.{count_initiators}
+use Rattle.run_outcome.proofs.ListLemmas.{at_map, has_element, within}
 use Rattle.plat_build.specs.Kept.{AreFreshFrom}
 use Rattle.plat_build.specs.Objects.{frame_of}
 use Rattle.plat_build.proofs.ObjectLemmas.{planned_at_memory}
@@ -197,7 +197,7 @@ module _ (p : Plan) (table : TableId) (frame : Frame Plan) (ends : List EndOf) (
     pub is : HasEnded p h k mine end
 
   initiators : length (initiators_of p) ≡ length p.platform.initiators
-  initiators = initiators_count 0 p.platform.initiators p.scripts servable.scripts
+  initiators = count_initiators 0 p.platform.initiators p.scripts servable.scripts
 
   done_at : (k : ℕ) → k < length (initiators_of p) → IsDone k
   done_at k below =
@@ -256,7 +256,7 @@ module _ (p : Plan) (table : TableId) (frame : Frame Plan) (ends : List EndOf) (
   }
 
   pub good : IsGood p h
-  good = history_is_good p h mine_of end_of log_of have_ended (no_fourphase p servable)
+  good = history_is_good p h mine_of end_of log_of have_ended (no_fourphase p servable.blocking)
 
   end_is : (k : ℕ) (c : (k < length (initiators_of p)) ⊎ (length (initiators_of p) ≤ k)) (end : EndOf) → slice_get ends k ≡ Some end → end_if k c ≡ end
   unfolding end_if

@@ -18,10 +18,10 @@ use Rattle.generic_payload.specs.Payload.{PayloadView}
 use Rattle.route_plan.specs.Counted.{share_at}
 use Rattle.script_engine.specs.declared.op.Op.TheVariants as next
 use Rattle.script_engine.specs.State.{op_of}
-use Rattle.plat_core.specs.Come.{HasCome}
-use Rattle.plat_core.specs.Core.{IsServable}
-use Rattle.plat_core.specs.Left.{asks_left, bytes_left}
-use Rattle.plat_core.specs.Run.{Run}
+use Rattle.initiator_run.specs.Come.{HasCome}
+use Rattle.initiator_run.specs.Served.{IsServable}
+use Rattle.initiator_run.specs.Left.{asks_left, bytes_left}
+use Rattle.initiator_run.specs.Run.{Run}
 use Rattle.plat_run.specs.Entries.{entries_read}
 
 -- where an entry stands

@@ -20,7 +20,7 @@ use Rattle.tlm_model.specs.Plan.{Plan}
 use Rattle.good_history.specs.Good.{IsSound}
 use Rattle.region_object.specs.Region.{LoggedMemory}
 use Rattle.region_object.specs.Written.{written_from}
-use Rattle.plat_core.specs.Run.{Run, end_at}
+use Rattle.initiator_run.specs.Run.{Run, end_at}
 use Rattle.plat_run.specs.Job.{IsInitiator}
 
 -- a job hands in its run and its note

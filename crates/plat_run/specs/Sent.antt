@@ -10,8 +10,4 @@ use Rattle.script_engine.specs.declared.op.Op.TheVariants as next
 abbrev pub IsSentBy : Op → PayloadView → Type 0
 IsSentBy (next.Access s a n command plain fenced) payload = payload.command ≡ Read → payload.bytes ≡ zeros (length payload.bytes)
 IsSentBy (next.Debug s a n) payload = payload.command ≡ Read
-IsSentBy (next.Wait n) payload = ⊥
-IsSentBy next.Sync payload = ⊥
-IsSentBy next.Fence payload = ⊥
-IsSentBy (next.Invalidate s a n) payload = ⊥
-IsSentBy next.Done payload = ⊥
+IsSentBy op payload = ⊥

@@ -1,14 +1,14 @@
 // The kinds of jobs.
-ghost use Rattle.std.specs.Prelude.{◌≡◌};
-ghost use Rattle.plat_core.specs.Steps.{StepsOnce};
+ghost use Rattle.std.specs.Prelude.{◌≡◌, ◌≢◌, ◌↔◌, IsTrue};
+ghost use Rattle.initiator_run.specs.Steps.{StepsOnce};
 ghost use Rattle.plat_run.specs.Actors.{is_done, number_of};
 ghost use Rattle.plat_run.specs.Run.{HandsIn};
-ghost use Rattle.plat_run.specs.Turn.{engine_of};
+ghost use Rattle.plat_run.specs.Turn.{engine_of, run_of};
 
 use crate::initiator::BlockingInitiator;
+use initiator_run::InitiatorRun;
 use outside::Pace;
 use plat_build::{PlatNote, Reach, TlmLaw};
-use plat_core::InitiatorRun;
 use route_plan::Plan;
 use run_queue::Job;
 use shared_object::Naming;
@@ -57,6 +57,15 @@ impl<N: Naming<Plan, TlmLaw>> Actor<N> {
     {
         match self {
             Actor::Blocking(job) => job.turn(rt, reach, board, pace),
+        }
+    }
+
+    /// Whether the board holds the job back: its next turn begins with a sync that was not let through.
+    pub fn is_held_back(&self) -> bool
+        ensures { IsTrue result ↔ ((run_of self.now).round ≢ (run_of self.now).syncs) }
+    {
+        match self {
+            Actor::Blocking(job) => job.is_held_back(),
         }
     }
 

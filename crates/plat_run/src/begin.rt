@@ -1,15 +1,15 @@
 // The jobs of a net, before their first turns.
 ghost use Rattle.std.specs.Prelude.{◌≡◌, ◌<◌, true, length, replicate, IfOk};
 ghost use Rattle.plat_build.specs.Kept.{IsStart};
-ghost use Rattle.plat_core.specs.Core.{IsServable};
+ghost use Rattle.initiator_run.specs.Served.{IsServable};
 ghost use Rattle.run_queue.specs.Queue.{AreNumbered};
 ghost use Rattle.traffic_script.specs.Proper.{AreProper};
 ghost use Rattle.plat_run.specs.Actors.{number_of};
 
 use crate::actor::Actor;
 use crate::initiator::BlockingInitiator;
+use initiator_run::InitiatorRun;
 use plat_build::{Kept, Net, Start, TlmLaw};
-use plat_core::InitiatorRun;
 use route_plan::Plan;
 use shared_object::Naming;
 use std::alloc::Global;

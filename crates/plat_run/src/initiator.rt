@@ -1,16 +1,16 @@
 // A blocking initiator as a job.
-ghost use Rattle.std.specs.Prelude.{◌≡◌, length};
+ghost use Rattle.std.specs.Prelude.{◌≡◌, ◌≢◌, ◌↔◌, IsTrue, length};
 ghost use Rattle.shared_object.specs.Steps.{IsNote};
 ghost use Rattle.script_engine.specs.State.{op_of};
-ghost use Rattle.plat_core.specs.Moves.{HasReached};
-ghost use Rattle.plat_core.specs.Steps.{StepsOnce};
+ghost use Rattle.initiator_run.specs.Moves.{HasReached};
+ghost use Rattle.initiator_run.specs.Steps.{StepsOnce};
 ghost use Rattle.plat_run.specs.Job.{IsInitiator, IsJob};
 
 use crate::send::send;
 use generic_payload::Payload;
+use initiator_run::{InitiatorRun, Move, NextAccess};
 use outside::Pace;
 use plat_build::{Carried, PlatNote, Reach, TlmLaw};
-use plat_core::{InitiatorRun, Move, NextAccess};
 use route_plan::Plan;
 use run_queue::Job;
 use shared_object::Naming;
@@ -31,7 +31,7 @@ pub struct BlockingInitiator<N: Naming<Plan, TlmLaw>> {
 }
 
 impl<N: Naming<Plan, TlmLaw>> Model for BlockingInitiator<N> {
-    ghost use Rattle.plat_core.specs.Run.{Run};
+    ghost use Rattle.initiator_run.specs.Run.{Run};
     ghost use Rattle.plat_run.specs.Job.{IsAtRest};
 
     ghost Value = { Run };
@@ -108,6 +108,13 @@ impl<N: Naming<Plan, TlmLaw>> BlockingInitiator<N> {
             self.go_on(rt, reach, pace);
             let _ = self.is_let_through(rt, board);
         }
+    }
+
+    /// Whether the board holds it back: its last sync was not let through yet.
+    pub fn is_held_back(&self) -> bool
+        ensures { IsTrue result ↔ (self.now.round ≢ self.now.syncs) }
+    {
+        self.run.owes_sync()
     }
 
     // Whether its last sync is let through the board, now or earlier.

@@ -13,7 +13,7 @@ use std::thread;
 use std::thread::Threads;
 use time_board::Board;
 
-/// Takes a job, gives it a turn, and takes the next one as it gives it back, until none waits: enough have
+/// Takes a job, gives it some turns, and takes the next one as it gives it back, until none waits: enough have
 /// finished, or each of the others is out with a worker of its own, which goes on with it. One that has
 /// finished no longer holds others back.
 fn work<N: Naming<Plan, TlmLaw>, P: Pace, R: Wait>(
@@ -27,7 +27,7 @@ fn work<N: Naming<Plan, TlmLaw>, P: Pace, R: Wait>(
     let mut taken = queue.take(rt);
     for _ in rt.forever() {
         taken = match taken {
-            Taken::Took(job) => give_turn(rt, &mut reach, board, queue, pace, job),
+            Taken::Took(job) => give_turns(rt, &mut reach, board, queue, pace, job),
             Taken::Nothing | Taken::AllDone => return,
         };
     }
@@ -52,7 +52,31 @@ fn turn_finishes<N: Naming<Plan, TlmLaw>, B: Reach<N>, P: Pace, R: Wait>(
     done
 }
 
-fn give_turn<N: Naming<Plan, TlmLaw>, B: Reach<N>, P: Pace, R: Wait>(
+// How many turns a job has at most before others that wait have theirs: the queue's lock, which is taken
+// once for all of them, costs a small part of what they do.
+const TURNS: u32 = 64;
+
+// Gives a job turns until it has finished, or the board holds it back, or it has had its share, and answers
+// whether it has finished.
+fn turns_finish<N: Naming<Plan, TlmLaw>, B: Reach<N>, P: Pace, R: Wait>(
+    rt: &R,
+    reach: &mut B,
+    board: &Board,
+    pace: &P,
+    job: &mut Actor<N>,
+) -> bool
+    ensures number { number_of job.new ≡ number_of job.old }
+    ensures done { result ≡ is_done job.new }
+{
+    for _turn in 0..TURNS {
+        if turn_finishes(rt, reach, board, pace, job) || job.is_held_back() {
+            break;
+        }
+    }
+    job.done()
+}
+
+fn give_turns<N: Naming<Plan, TlmLaw>, B: Reach<N>, P: Pace, R: Wait>(
     rt: &R,
     reach: &mut B,
     board: &Board,
@@ -60,7 +84,7 @@ fn give_turn<N: Naming<Plan, TlmLaw>, B: Reach<N>, P: Pace, R: Wait>(
     pace: &P,
     mut job: Actor<N>,
 ) -> Taken<Actor<N>> {
-    if turn_finishes(rt, reach, board, pace, &mut job) {
+    if turns_finish(rt, reach, board, pace, &mut job) {
         queue.finish_and_take(rt, job)
     } else {
         queue.give_back_and_take(rt, job)

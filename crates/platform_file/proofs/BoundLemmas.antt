@@ -1,10 +1,10 @@
 -- A platform that a file describes is bounded.
-use Rattle.std.proofs.Common.{◌≡◌, ◌≢◌, ℕ, zero, suc, ◌+◌, ◌*◌, ◌^◌, ◌<◌, ◌≤◌, Bool, true, false, ◌||◌, List, [], ◌∷◌, ◌++◌, length, map, get_or, Option, Some, None, Result, Ok, Err, refl, sym, ap, subst, ◌∙◌, arith, ltb, leb, sum_by, lit≤}
+use Rattle.std.proofs.Common.{◌≡◌, ◌≢◌, ℕ, suc, ◌+◌, ◌^◌, ◌<◌, ◌≤◌, Bool, true, false, ◌||◌, List, [], ◌∷◌, ◌++◌, length, map, get_or, Option, Some, None, Result, Ok, Err, refl, sym, ap, subst, ◌∙◌, arith, ltb, sum_by, lit≤}
 use Rattle.std.specs.Prelude.{All, IfOk, IsTrue, codes, if◌then◌else◌}
 use Rattle.std.specs.List.{AllPairs}
 use Rattle.std.specs.Str.{bytes_eq}
 use Rattle.std.proofs.lemmas.Bool.{lt-ltb, ltb-false}
-use Rattle.std.proofs.lemmas.List.Elements.{All-nil, All-cons, All-same, All-push, All-tail, All-head, All-weaker}
+use Rattle.std.proofs.lemmas.List.Elements.{All-nil, All-cons, All-same, All-push, All-tail, All-head}
 use Rattle.addr_router.proofs.FaultLemmas.{fault_not_memory, valid_from_none}
 use Rattle.addr_router.specs.declared.window.WindowFault.{WindowFault}
 use Rattle.addr_router.specs.declared.window.WindowFault.TheVariants as window
@@ -28,7 +28,7 @@ use Rattle.platform_file.specs.declared.initiators.InitiatorKeys.{InitiatorKeys}
 use Rattle.platform_file.specs.declared.routers.WindowKeys.{WindowKeys}
 use Rattle.platform_file.specs.declared.routers.RouterKeys.{RouterKeys}
 use Rattle.platform_file.specs.declared.top.PlatformKeys.{PlatformKeys}
-use Rattle.platform_file.specs.Reading.{Refusal, Gives, ◌>>=◌, rows_from}
+use Rattle.platform_file.specs.Reading.{Refusal, Gives, rows_from}
 use Rattle.platform_file.specs.Keys.{known_keys, required_key, optional_key}
 use Rattle.platform_file.specs.Kinds.{number, truth, is_name, name, text, sized_text, word, tables}
 use Rattle.platform_file.specs.Words.{styles, responses, router_modes, memory_modes}

@@ -11,7 +11,8 @@ use Rattle.platform_file.specs.declared.fault.PlatformFault.TheVariants as fault
 use Rattle.platform_file.specs.declared.fault.PlatformCode.TheVariants.{NameTwice}
 use Rattle.platform_file.specs.declared.place.Place.{Place}
 use Rattle.tlm_model.specs.declared.platform.Target.{Target}
-use Rattle.platform_file.specs.Reading.{Refusal, refusal, Fails, ◌>>=◌}
+use Rattle.platform_file.specs.Reading.{Refusal, refusal, Fails}
+use Rattle.tlm_types.specs.Reading.{◌>>=◌}
 use Rattle.platform_file.specs.Names.{Names, Bearer, find_name, with_name, with_names, named_after}
 use Rattle.platform_file.specs.NamesView.{entries_view}
 

@@ -1,5 +1,5 @@
 -- What is known of a reading that gave a value.
-use Rattle.std.proofs.Common.{◌≡◌, ℕ, ◌+◌, ◌≤◌, Bool, true, false, ◌&&◌, List, [], ◌∷◌, length, Option, Some, None, Result, Ok, Err, refl, sym, ap, subst, ◌∙◌, arith, leb}
+use Rattle.std.proofs.Common.{◌≡◌, ℕ, ◌+◌, ◌≤◌, Bool, true, false, ◌&&◌, List, [], ◌∷◌, length, Option, Some, None, Result, Ok, Err, refl, sym, ap, subst, arith, leb}
 use Rattle.std.specs.Prelude.{pos, negsuc, All, IsTrue, if◌then◌else◌}
 use Rattle.std.proofs.lemmas.Bool.{and_parts, leb-true}
 use Rattle.std.specs.Str.{bytes_eq}
@@ -10,7 +10,8 @@ use Rattle.platform_file.specs.declared.fault.PlatformCode.TheVariants.{BadName,
 use Rattle.platform_file.specs.declared.place.Place.{Place}
 use Rattle.platform_file.specs.Kinds.{number, is_name, name, tables, all_tables, limited_tables, word, word_in}
 use Rattle.platform_file.specs.Keys.{required_value, optional_value}
-use Rattle.platform_file.specs.Reading.{Refusal, ◌>>=◌, placed_at, rows_from}
+use Rattle.platform_file.specs.Reading.{Refusal, placed_at, rows_from}
+use Rattle.tlm_types.specs.Reading.{◌>>=◌}
 
 pub no_ok : {A E : Type 0} (e : E) (x : A) → ◌≡◌ {A = Result A E} (Err e) (Ok x) → ⊥
 no_ok e x h = cc

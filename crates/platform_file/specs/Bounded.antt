@@ -1,5 +1,5 @@
 -- The bounds that hold of each platform that a file describes.
-use Rattle.std.specs.Prelude.{ℕ, ◌<◌, ◌≤◌, ◌^◌, ◌≢◌, Bool, true, false, ◌||◌, IsTrue, List, ◌++◌, length, map, sum_by, All, nat_lt}
+use Rattle.std.specs.Prelude.{ℕ, ◌≤◌, ◌^◌, ◌≢◌, Bool, true, false, ◌||◌, IsTrue, List, ◌++◌, length, map, sum_by, All, nat_lt}
 use Rattle.std.specs.List.{AllPairs}
 use Rattle.addr_router.specs.Windows.{IsValid}
 use Rattle.tlm_model.specs.declared.platform.InitiatorRow.{InitiatorRow}

@@ -10,7 +10,8 @@ use Rattle.tlm_model.specs.declared.platform.MemoryRow.{MemoryRow}
 use Rattle.platform_file.specs.declared.initiators.InitiatorKeys.{InitiatorKeys}
 use Rattle.platform_file.specs.declared.routers.RouterKeys.{RouterKeys}
 use Rattle.platform_file.specs.declared.top.PlatformKeys.{PlatformKeys}
-use Rattle.platform_file.specs.Reading.{Refusal, refusal, ◌>>=◌}
+use Rattle.platform_file.specs.Reading.{Refusal, refusal}
+use Rattle.tlm_types.specs.Reading.{◌>>=◌}
 
 -- names in order, each with what it leads to: nothing for an initiator
 abbrev pub Names : Type 0

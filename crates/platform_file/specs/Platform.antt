@@ -18,7 +18,8 @@ use Rattle.platform_file.specs.declared.initiators.InitiatorKeys.{InitiatorKeys}
 use Rattle.platform_file.specs.declared.routers.WindowKeys.{WindowKeys}
 use Rattle.platform_file.specs.declared.routers.RouterKeys.{RouterKeys}
 use Rattle.platform_file.specs.Place.{indexed}
-use Rattle.platform_file.specs.Reading.{Refusal, refusal, ◌>>=◌, rows_from}
+use Rattle.platform_file.specs.Reading.{Refusal, refusal, rows_from}
+use Rattle.tlm_types.specs.Reading.{◌>>=◌}
 use Rattle.platform_file.specs.Names.{Names, names_of, target_of}
 use Rattle.platform_file.specs.Tables.{platform_keys}
 

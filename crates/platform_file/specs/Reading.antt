@@ -1,5 +1,6 @@
 -- Reading with the first fault: what is read, or a refusal.
-use Rattle.std.specs.Prelude.{◌≡◌, ℕ, ◌+◌, List, [], ◌∷◌, Result, Ok, Err}
+use Rattle.std.specs.Prelude.{◌≡◌, ℕ, ◌+◌, List, [], ◌∷◌, Option, Some, None, Result, Ok, Err}
+use Rattle.tlm_types.specs.Reading.{◌>>=◌, FailsAs, Returns}
 use Rattle.platform_file.specs.declared.fault.PlatformCode.{PlatformCode}
 use Rattle.platform_file.specs.declared.fault.PlatformFault.{PlatformFault}
 use Rattle.platform_file.specs.declared.fault.PlatformFault.TheVariants as fault
@@ -16,12 +17,6 @@ pub record Refusal : Type 0 where
 abbrev pub refusal : PlatformCode → Place → List ℕ → Refusal
 refusal c at k = record { code = c; table = table_text at; key = k }
 
--- what is read next, where something was read before
-infixl 10 ◌>>=◌
-abbrev pub ◌>>=◌ : {A B : Type 0} → Result A Refusal → (A → Result B Refusal) → Result B Refusal
-(Ok x) >>= f = f x
-(Err e) >>= f = Err e
-
 -- a code at a table and a key
 abbrev pub placed_at : {A : Type 0} → Place → List ℕ → Result A PlatformCode → Result A Refusal
 placed_at at key (Ok x) = Ok x
@@ -32,20 +27,22 @@ abbrev pub Tells : PlatformFault → Refusal → Type 0
 Tells fault.Memory r = Unit {0}
 Tells (fault.Refused code table key) r = let told : Refusal = record { code = code; table = table; key = key } in r ≡ told
 
--- The fault is the one of the reading, unless memory ran out.
+-- what a fault says: nothing where memory ran out
+abbrev pub platform_refusal_of : PlatformFault → Option Refusal
+platform_refusal_of fault.Memory = None
+platform_refusal_of (fault.Refused code table key) = Some (record { code = code; table = table; key = key })
+
+-- the fault is the one of the reading, unless memory ran out
 abbrev pub Fails : {A : Type 0} → PlatformFault → Result A Refusal → Type 0
-Fails fault.Memory read = Unit {0}
-Fails (fault.Refused code table key) read = read ≡ Err (record { code = code; table = table; key = key })
+Fails f read = FailsAs (platform_refusal_of f) read
 
--- What a function returned is what reading gives, unless memory ran out.
-abbrev pub Gives : {A : Type 0} → Result A PlatformFault → Result A Refusal → Type 0
-Gives (Ok x) read = read ≡ Ok x
-Gives (Err f) read = Fails f read
-
--- the same of what is seen by a view
+-- what a function returned, seen by a view, is what reading gives, unless memory ran out
 abbrev pub GivesBy : {X A : Type 0} → (X → A) → Result X PlatformFault → Result A Refusal → Type 0
-GivesBy view (Ok x) read = read ≡ Ok (view x)
-GivesBy view (Err f) read = Fails f read
+GivesBy view result read = Returns platform_refusal_of view result read
+
+-- the same of what needs no view
+abbrev pub Gives : {A : Type 0} → Result A PlatformFault → Result A Refusal → Type 0
+Gives result read = Returns platform_refusal_of (λ x. x) result read
 
 -- each of some items in order, counted from a number
 unfoldable pub rows_from : {X A : Type 0} → (ℕ → X → Result A Refusal) → ℕ → List X → Result (List A) Refusal

@@ -6,7 +6,7 @@ use Rattle.view_lists.specs.Lists.{Within}
 use Rattle.one_history.specs.declared.entry.Entry.{Entry as HistoryEntry}
 use Rattle.tlm_types.specs.declared.entry.Content.{Content}
 use Rattle.tlm_types.specs.declared.words.Command.{Command}
-use Rattle.tlm_types.specs.declared.words.Command.TheVariants.{Read, Write, Ignore}
+use Rattle.tlm_types.specs.declared.words.Command.TheVariants.{Read}
 use Rattle.tlm_types.specs.declared.words.ObjectNo.{ObjectNo}
 use Rattle.tlm_types.specs.declared.words.ObjectNo.TheVariants.{Memory, Hop, Pool}
 use Rattle.tlm_types.specs.declared.words.TxnId.{TxnId}
@@ -14,6 +14,7 @@ use Rattle.tlm_types.specs.declared.entry.Access.{Access}
 use Rattle.tlm_types.specs.declared.entry.Entry.{Entry}
 use Rattle.tlm_model.specs.declared.platform.Platform.{Platform}
 use Rattle.tlm_model.specs.declared.platform.Style.TheVariants.{FourPhase}
+use Rattle.tlm_model.specs.declared.ask.Ask.TheVariants.{Access as AnAccess}
 use Rattle.tlm_model.specs.History.{entries_at}
 use Rattle.tlm_model.specs.Plan.{Plan, Initiator, initiators_of}
 use Rattle.tlm_model.specs.Requests.{Asked as AskedFor, Request, got_in, requests_of}
@@ -28,7 +29,6 @@ use Rattle.flow_model.specs.Platform.{passage_of, world_of}
 use Rattle.flow_law.proofs.More.{end_more, finds_more}
 use Rattle.flow_plan.specs.Valid.{HasNoCycle}
 use Rattle.flow_plan.proofs.Ways.{world_law}
-use Rattle.route_plan.specs.Planned.Ask.{AnAccess}
 use Rattle.cargo_model.specs.Known.{event_of, number_of}
 use Rattle.cargo_model.specs.Laws.{Case, knows}
 use Rattle.cargo_model.specs.Origins.{AreThere}
@@ -126,7 +126,7 @@ module _ (s : Case) (i : Initiator) (port : Port) (known : List Event) (seen : �
   -- what it was given is what the port reckons with
   is_price : (o : ObjectNo) → price s.p i o seq ≡ given_at s.p a.asked.initiator a.asked.request.address o
   is_price o =
-      price_at s.p i o a.asked.replies a.asked.request 0 0 0 i.script seq asked
+      price_at s.p i o a.asked.replies a.asked.request seq asked
       ∙ (ap (λ (d : AskedFor). priced s.p i o d a.asked.request.address) a.asked.transport
       ∙ (sym (given_price s.p i a.asked.request.address o)
       ∙ ap (λ (j : Initiator). given_at s.p j a.asked.request.address o) (sym own)))
@@ -216,14 +216,7 @@ module _ (s : Case) (i : Initiator) (port : Port) (known : List Event) (seen : �
       by_op (next.Access q c n Read plain fenced) e =
           subst (λ (o : Op). IsAnswered s.p.platform i ((u.mine ++ replies_of reply) ++ m) o v.bytes) e
           (replies_answer s.p i port known seen left reply v.bytes u waits (has q c n plain fenced e) m)
-      by_op (next.Access q c n Write plain fenced) e = tt
-      by_op (next.Access q c n Ignore plain fenced) e = tt
-      by_op (next.Debug q c n) e = tt
-      by_op (next.Wait n) e = tt
-      by_op next.Sync e = tt
-      by_op next.Fence e = tt
-      by_op (next.Invalidate q c n) e = tt
-      by_op next.Done e = tt
+      by_op op e = tt
 
   taken_back : (t : Option Route) → route s a.asked ≡ t → IsTakenBack s i port known seen left rest u seq a.ended.time z v
   taken_back None q = record {

@@ -1,20 +1,22 @@
 -- What a read asks for is that of its operation, by whatever replies.
-use Rattle.std.proofs.Common.{◌≡◌, ℕ, zero, suc, ◌+◌, List, [], ◌∷◌, Bool, Option, Some, None, refl, sym, ◌∙◌, ap}
-use Rattle.std.specs.Prelude.{slice_get, unwrap_or}
+use Rattle.std.proofs.Common.{◌≡◌, ℕ, zero, suc, ◌+◌, List, [], ◌∷◌, ◌++◌, Bool, Option, Some, None, refl, sym, ◌∙◌, ap, arith}
+use Rattle.std.proofs.lemmas.Grind.{common_steps}
+use Rattle.std.specs.List.{flat_map}
+use Rattle.std.specs.Prelude.{slice_get}
 use Rattle.tlm_types.specs.declared.words.Command.{Command}
 use Rattle.tlm_types.specs.declared.words.Command.TheVariants as Commands
 use Rattle.tlm_types.specs.declared.entry.Access.{Access}
 use Rattle.tlm_types.specs.declared.entry.Entry.{Entry}
 use Rattle.tlm_model.specs.declared.operation.Operation.{Operation}
-use Rattle.tlm_model.specs.declared.operation.Operation.TheVariants.{Write, Read, Ignore, Debug, Copy, Add, Wait, Sync, Fence, Invalidate}
 use Rattle.tlm_model.specs.declared.platform.Platform.{Platform}
+use Rattle.tlm_model.specs.Actions.{Action, Plain, Alone, Pair, Pause, action_of}
 use Rattle.tlm_model.specs.Plan.{Initiator}
-use Rattle.tlm_model.specs.Requests.{Asked, Transport, DebugRead, Invalidation, Request, buffer_of, read_of, requests_from, requests_of, using}
+use Rattle.tlm_model.specs.Requests.{Asked, Transport, DebugRead, Invalidation, Request, buffer_of, paused, read_of, requests_by, requests_from, requests_of, time_past, using}
 use Rattle.tlm_model.specs.Route.{later, latency_of}
 use Rattle.tlm_model.specs.Store.{zeros}
 use Rattle.generic_payload.specs.Payload.{PayloadView}
 use Rattle.script_engine.specs.declared.op.Op.TheVariants as next
-use Rattle.script_engine.specs.State.{Due, length_of, op_at, payload_at}
+use Rattle.script_engine.specs.State.{Due, op_at, payload_at}
 
 abbrev pub kept_by : Command → Access → Option Access
 kept_by Commands.Read a = Some a
@@ -35,18 +37,14 @@ kept_is Commands.Write a b e = cc
 kept_is Commands.Ignore a b e = cc
 
 -- the reads of a script, at the numbers of its requests
+abbrev reads_by : Action → List (Option Access)
+reads_by (Plain a access) = kept_by access.command access ∷ []
+reads_by (Alone a asked) = read_by asked ∷ []
+reads_by (Pair from to n change) = Some (read_of n [] n) ∷ None ∷ []
+reads_by (Pause time sync) = []
+
 abbrev reads_of : List Operation → List (Option Access)
-reads_of [] = []
-reads_of (Write a bytes enables width ∷ ops) = None ∷ reads_of ops
-reads_of (Read a n enables width ∷ ops) = Some (read_of n enables (unwrap_or width n)) ∷ reads_of ops
-reads_of (Ignore a ∷ ops) = None ∷ reads_of ops
-reads_of (Debug a n ∷ ops) = None ∷ reads_of ops
-reads_of (Copy from to n ∷ ops) = Some (read_of n [] n) ∷ None ∷ reads_of ops
-reads_of (Add a n ∷ ops) = Some (read_of 4 [] 4) ∷ None ∷ reads_of ops
-reads_of (Wait n ∷ ops) = reads_of ops
-reads_of (Sync ∷ ops) = reads_of ops
-reads_of (Fence ∷ ops) = reads_of ops
-reads_of (Invalidate a n ∷ ops) = None ∷ reads_of ops
+reads_of ops = flat_map (λ op. reads_by (action_of op)) ops
 
 here : (q r : Request) → Some q ≡ Some r → ◌≡◌ {A = Option (Option Access)} (Some (read_by q.asked)) (Some (read_by r.asked))
 here q r e = ap (λ (d : Request). Some (read_by d.asked)) (same q r e)
@@ -62,27 +60,21 @@ module _ (p : Platform) (i : Initiator) (h : List Entry) (r : Request) where
   second rest (Some got) nx after q more zero e = ap (λ (b : Option Access). Some b) (q got) ∙ here (nx got) r e
   second rest (Some got) nx after q more (suc j) e = more got j e
 
+  read_by_action : (s t g : ℕ) (action : Action) (ops : List Operation)
+      → ((s t g : ℕ) (k : ℕ) → slice_get (requests_from p i h s t g ops) k ≡ Some r → slice_get (reads_of ops) k ≡ Some (read_by r.asked))
+      → (k : ℕ) → slice_get (requests_by p i h s t g action (λ s t g. requests_from p i h s t g ops)) k ≡ Some r → slice_get (reads_by action ++ reads_of ops) k ≡ Some (read_by r.asked)
+  read_by_action s t g (Plain b access) ops rest zero q = here _ r q
+  read_by_action s t g (Plain b access) ops rest (suc k) q = rest (s + 1) (later t (latency_of p i b)) g k q
+  read_by_action s t g (Alone b asked) ops rest zero q = here _ r q
+  read_by_action s t g (Alone b asked) ops rest (suc k) q = rest (s + 1) (time_past p i t b asked) (g + 2) k q
+  read_by_action s t g (Pair from to n change) ops rest zero q = here _ r q
+  read_by_action s t g (Pair from to n change) ops rest (suc k) q = second (reads_of ops) (buffer_of p i h s from n) _ _ (λ got. refl)
+      (λ got j m. rest (s + 2) (later (later t (latency_of p i from)) (latency_of p i to)) (g + 3) j m) k q
+  read_by_action s t g (Pause time sync) ops rest k q = rest s (paused t time) (g + 1) k q
+
   read_at : (s t g : ℕ) (ops : List Operation) (k : ℕ) → slice_get (requests_from p i h s t g ops) k ≡ Some r → slice_get (reads_of ops) k ≡ Some (read_by r.asked)
   read_at s t g [] k q = cc
-  read_at s t g (Write b bytes enables width ∷ ops) zero q = here _ r q
-  read_at s t g (Write b bytes enables width ∷ ops) (suc k) q = read_at (s + 1) (later t (latency_of p i b)) g ops k q
-  read_at s t g (Read b n enables width ∷ ops) zero q = here _ r q
-  read_at s t g (Read b n enables width ∷ ops) (suc k) q = read_at (s + 1) (later t (latency_of p i b)) g ops k q
-  read_at s t g (Ignore b ∷ ops) zero q = here _ r q
-  read_at s t g (Ignore b ∷ ops) (suc k) q = read_at (s + 1) (later t (latency_of p i b)) g ops k q
-  read_at s t g (Debug b n ∷ ops) zero q = here _ r q
-  read_at s t g (Debug b n ∷ ops) (suc k) q = read_at (s + 1) t (g + 2) ops k q
-  read_at s t g (Copy from to n ∷ ops) zero q = here _ r q
-  read_at s t g (Copy from to n ∷ ops) (suc k) q = second (reads_of ops) (buffer_of p i h s from n) _ _ (λ got. refl)
-      (λ got j m. read_at (s + 2) (later (later t (latency_of p i from)) (latency_of p i to)) (g + 3) ops j m) k q
-  read_at s t g (Add b n ∷ ops) zero q = here _ r q
-  read_at s t g (Add b n ∷ ops) (suc k) q = second (reads_of ops) (buffer_of p i h s b 4) _ _ (λ got. refl)
-      (λ got j m. read_at (s + 2) (later (later t (latency_of p i b)) (latency_of p i b)) (g + 3) ops j m) k q
-  read_at s t g (Wait n ∷ ops) k q = read_at s (later t n) (g + 1) ops k q
-  read_at s t g (Sync ∷ ops) k q = read_at s t (g + 1) ops k q
-  read_at s t g (Fence ∷ ops) k q = read_at s t (g + 1) ops k q
-  read_at s t g (Invalidate b n ∷ ops) zero q = here _ r q
-  read_at s t g (Invalidate b n ∷ ops) (suc k) q = read_at (s + 1) t (g + 2) ops k q
+  read_at s t g (op ∷ ops) k q = read_by_action s t g (action_of op) ops (λ s t g. read_at s t g ops) k q
 
 -- the requests of one number are the same read, or both none, by whatever replies
 pub same_read : (p : Platform) (i : Initiator) (g h : List Entry) (q r : Request) (k : ℕ) → slice_get (requests_of p i g) k ≡ Some q → slice_get (requests_of p i h) k ≡ Some r → read_by q.asked ≡ read_by r.asked
@@ -97,15 +89,4 @@ pub record AsksRead (v : PayloadView) (n : ℕ) : Type 0 where
   pub bytes : v.bytes ≡ zeros n
 
 pub next_read : (s q a n : ℕ) (plain fenced : Bool) (due : Option Due) (ops : List Operation) → op_at s due ops ≡ next.Access q a n Commands.Read plain fenced → AsksRead (payload_at 4096 due ops) n
-next_read s q a n plain fenced (Some w) ops e = cc
-next_read s q a n plain fenced None [] e = cc
-next_read s q a n plain fenced None (Write b bytes enables width ∷ ops) e = cc
-next_read s q a n plain fenced None (Read b m enables width ∷ ops) e = record { command = refl; bytes = ap zeros (ap length_of e) }
-next_read s q a n plain fenced None (Ignore b ∷ ops) e = cc
-next_read s q a n plain fenced None (Debug b m ∷ ops) e = cc
-next_read s q a n plain fenced None (Copy from to m ∷ ops) e = record { command = refl; bytes = ap zeros (ap length_of e) }
-next_read s q a n plain fenced None (Add b m ∷ ops) e = record { command = refl; bytes = ap zeros (ap length_of e) }
-next_read s q a n plain fenced None (Wait m ∷ ops) e = cc
-next_read s q a n plain fenced None (Sync ∷ ops) e = cc
-next_read s q a n plain fenced None (Fence ∷ ops) e = cc
-next_read s q a n plain fenced None (Invalidate b m ∷ ops) e = cc
+next_read s q a n plain fenced due ops e = grind (arith, common_steps)

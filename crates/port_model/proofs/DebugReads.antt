@@ -1,5 +1,6 @@
 -- A port makes a debug read.
 use Rattle.std.proofs.Common.{◌≡◌, ◌⊎◌, ℕ, suc, ◌+◌, ◌<◌, ◌≤◌, IsSome, Bool, true, false, cond, max, nat_eq, eq-eqb, List, [], ◌∷◌, ◌++◌, length, length-append, append_assoc, Option, Some, None, refl, sym, ap, ◌∙◌, subst, inl, inr, arith, get_or, map}
+use Rattle.std.proofs.lemmas.Grind.{common_steps}
 use Rattle.std.specs.Prelude.{slice_get}
 use Rattle.std.specs.List.{filter}
 use Rattle.std.proofs.lemmas.List.{map-append, append-nil}
@@ -22,7 +23,6 @@ use Rattle.flow_model.specs.Platform.{passage_of}
 use Rattle.report_model.specs.Ends.{refused_at}
 use Rattle.joined_traffic.specs.Accesses.{sum_below, txn_of}
 use Rattle.script_engine.specs.declared.op.Op.{Op}
-use Rattle.script_engine.specs.declared.op.Op.TheVariants as next
 use Rattle.script_engine.specs.State.{is_fenced, op_of, passed_by, payload_of, told_by}
 use Rattle.script_engine.specs.Asking.{asked_by, requests_at, stage_after, time_after_op}
 use Rattle.script_engine.proofs.Steps.{passes}
@@ -52,76 +52,28 @@ use Rattle.port_model.proofs.PlainTakes.{next_time, settled_here}
 use Rattle.port_model.proofs.Takes.{waited_at}
 
 debug_asks : (op : Op) → IsDebugOp op → IsAsk op
-debug_asks (next.Access s a n command plain fenced) o = absurd o
-debug_asks (next.Debug s a n) o = tt
-debug_asks (next.Wait n) o = absurd o
-debug_asks next.Sync o = absurd o
-debug_asks next.Fence o = absurd o
-debug_asks (next.Invalidate s a n) o = absurd o
-debug_asks next.Done o = absurd o
+debug_asks op o = grind (arith, common_steps)
 
 debug_free : (op : Op) → IsDebugOp op → is_fenced op ≡ false
-debug_free (next.Access s a n command plain fenced) o = absurd o
-debug_free (next.Debug s a n) o = refl
-debug_free (next.Wait n) o = absurd o
-debug_free next.Sync o = absurd o
-debug_free next.Fence o = absurd o
-debug_free (next.Invalidate s a n) o = absurd o
-debug_free next.Done o = absurd o
+debug_free op o = grind (arith, common_steps)
 
 debug_waits : (op : Op) → IsDebugOp op → IsWaitingOp op
-debug_waits (next.Access s a n command plain fenced) o = absurd o
-debug_waits (next.Debug s a n) o = tt
-debug_waits (next.Wait n) o = absurd o
-debug_waits next.Sync o = absurd o
-debug_waits next.Fence o = absurd o
-debug_waits (next.Invalidate s a n) o = absurd o
-debug_waits next.Done o = absurd o
+debug_waits op o = grind (arith, common_steps)
 
 debug_stage : (op : Op) (payload : PayloadView) (t g : ℕ) → IsDebugOp op → (request_of op payload t g).stage ≡ g + 1
-debug_stage (next.Access s a n command plain fenced) payload t g o = absurd o
-debug_stage (next.Debug s a n) payload t g o = refl
-debug_stage (next.Wait n) payload t g o = absurd o
-debug_stage next.Sync payload t g o = absurd o
-debug_stage next.Fence payload t g o = absurd o
-debug_stage (next.Invalidate s a n) payload t g o = absurd o
-debug_stage next.Done payload t g o = absurd o
+debug_stage op payload t g o = grind (arith, common_steps)
 
 debug_after : (op : Op) (g : ℕ) → IsDebugOp op → g + 1 ≤ stage_after op g
-debug_after (next.Access s a n command plain fenced) g o = absurd o
-debug_after (next.Debug s a n) g o = omega arith
-debug_after (next.Wait n) g o = absurd o
-debug_after next.Sync g o = absurd o
-debug_after next.Fence g o = absurd o
-debug_after (next.Invalidate s a n) g o = absurd o
-debug_after next.Done g o = absurd o
+debug_after op g o = grind (arith, common_steps)
 
 debug_issue : (op : Op) (t : ℕ) → IsDebugOp op → issue_of op t ≡ t ∷ []
-debug_issue (next.Access s a n command plain fenced) t o = absurd o
-debug_issue (next.Debug s a n) t o = refl
-debug_issue (next.Wait n) t o = absurd o
-debug_issue next.Sync t o = absurd o
-debug_issue next.Fence t o = absurd o
-debug_issue (next.Invalidate s a n) t o = absurd o
-debug_issue next.Done t o = absurd o
+debug_issue op t o = grind (arith, common_steps)
 
 debug_time : (op : Op) (t : ℕ) → IsDebugOp op → time_after op t ≡ t
-debug_time (next.Access s a n command plain fenced) t o = absurd o
-debug_time (next.Debug s a n) t o = refl
-debug_time (next.Wait n) t o = absurd o
-debug_time next.Sync t o = absurd o
-debug_time next.Fence t o = absurd o
-debug_time (next.Invalidate s a n) t o = absurd o
-debug_time next.Done t o = absurd o
+debug_time op t o = grind (arith, common_steps)
 
 address_same : (op : Op) (payload : PayloadView) (t g : ℕ) → IsDebugOp op → (request_of op payload t g).address ≡ (request_of op payload 0 0).address
-address_same (next.Access s a n command plain fenced) payload t g o = absurd o
-address_same (next.Debug s a n) payload t g o = refl
-address_same (next.Wait n) payload t g o = absurd o
-address_same next.Sync payload t g o = absurd o
-address_same next.Fence payload t g o = absurd o
-address_same (next.Invalidate s a n) payload t g o = absurd o
-address_same next.Done payload t g o = absurd o
+address_same op payload t g o = grind (arith, common_steps)
 
 new_one : (reply : Option Entry) (e : Entry) → Has (replies_of reply) e → reply ≡ Some e
 new_one None e h = absurd (has_none e h)

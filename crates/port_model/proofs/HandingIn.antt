@@ -50,7 +50,6 @@ use Rattle.tlm_types.specs.declared.entry.What.TheVariants.{Access as Accessed, 
 use Rattle.tlm_model.specs.declared.platform.Style.TheVariants.{FourPhase}
 use Rattle.tlm_model.specs.declared.platform.Platform.{Platform}
 use Rattle.tlm_model.specs.declared.operation.Operation.{Operation}
-use Rattle.tlm_model.specs.declared.operation.Operation.TheVariants.{Write as WriteOp, Read as ReadOp, Ignore as IgnoreOp, Debug, Copy, Add, Wait, Sync, Fence, Invalidate}
 use Rattle.script_engine.specs.State.{Due, op_at}
 use Rattle.port_model.specs.Issues.{current_after}
 use Rattle.tlm_model.specs.Plan.{initiators_of}
@@ -68,6 +67,7 @@ use Rattle.joined_traffic.proofs.RequestLemmas.{number_of}
 use Rattle.script_engine.proofs.Steps.{ends}
 use Rattle.port_model.specs.Stages.{calls_by, made_by}
 use Rattle.port_model.specs.Ends.{AreOf, HandsIn, HasIssuedSo, IsEndOfPort, IsPhaseEnd, PortsHandIn}
+use Rattle.port_model.proofs.Ops.{not_done}
 use Rattle.port_model.proofs.Origins.{address_by, has_address, origin}
 
 is_txn_of : (n s : ℕ) (x : TxnId) → x ≡ txn_of n s → is_txn n s x ≡ true
@@ -393,16 +393,7 @@ module _ (p : Plan) (i : Initiator) (port : Port) (known : List Event) (seen : �
           by_parts : (due : Option Due) (ops : List Operation) (s : ℕ) → op_at s due ops ≡ next.Done → current_after f s t due ops ≡ t
           by_parts (Some w) ops s q = cc
           by_parts None [] s q = refl
-          by_parts None (WriteOp a bytes enables width ∷ ops) s q = cc
-          by_parts None (ReadOp a n enables width ∷ ops) s q = cc
-          by_parts None (IgnoreOp a ∷ ops) s q = cc
-          by_parts None (Debug a n ∷ ops) s q = cc
-          by_parts None (Copy from to n ∷ ops) s q = cc
-          by_parts None (Add a n ∷ ops) s q = cc
-          by_parts None (Wait n ∷ ops) s q = cc
-          by_parts None (Sync ∷ ops) s q = cc
-          by_parts None (Fence ∷ ops) s q = cc
-          by_parts None (Invalidate a n ∷ ops) s q = cc
+          by_parts None (op ∷ ops) s q = absurd (not_done s op q)
 
   known_end : (s : ℕ) (pass : Passage) → passage_of p (txn_of i.number s) ≡ Some pass → EndIs (world_of p) (Among h) (txn_of i.number s) pass 0 (end (txn_of i.number s))
   known_end s pass passes =

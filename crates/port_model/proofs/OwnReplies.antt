@@ -1,5 +1,5 @@
 -- What answers the requests of a four-phase initiator in the whole history is what it knows.
-use Rattle.std.proofs.Common.{◌≡◌, ℕ, ◌+◌, ◌<◌, true, MatchOption, List, [], ◌∷◌, length, map, Option, Some, None, refl, sym, ap, ◌∙◌, subst, inl, inr, ◌⊎◌, arith, get_or}
+use Rattle.std.proofs.Common.{◌≡◌, ℕ, ◌<◌, true, MatchOption, List, length, map, Option, Some, None, refl, sym, ap, ◌∙◌, subst, inl, inr, ◌⊎◌, arith, get_or}
 use Rattle.std.specs.Prelude.{slice_get}
 use Rattle.std.specs.List.{filter}
 use Rattle.std.proofs.lemmas.Option.{slice_get_within}
@@ -10,13 +10,12 @@ use Rattle.tlm_types.specs.declared.words.TxnId.{TxnId}
 use Rattle.tlm_types.specs.declared.entry.Entry.{Entry}
 use Rattle.tlm_types.specs.declared.entry.What.{What}
 use Rattle.tlm_types.specs.declared.entry.What.TheVariants.{Access as Accessed, Granted, Invalidated, Closed, Call, Take, Acquire, Release}
-use Rattle.tlm_model.specs.declared.operation.Operation.{Operation}
-use Rattle.tlm_model.specs.declared.operation.Operation.TheVariants.{Write, Read, Ignore, Debug, Copy, Add, Wait, Sync, Fence, Invalidate}
 use Rattle.tlm_model.specs.declared.platform.Platform.{Platform}
 use Rattle.tlm_model.specs.declared.platform.Style.TheVariants.{FourPhase}
 use Rattle.tlm_model.specs.Plan.{Plan, Initiator, initiators_of}
-use Rattle.tlm_model.specs.Requests.{Request, answered, buffer_by, buffer_of, got_in, is_txn, requests_from, requests_of, using, has_no_route, refused_of}
-use Rattle.tlm_model.specs.Route.{Route, hops_of, later, latency_of, route_of}
+use Rattle.tlm_model.specs.Requests.{Request, answered, buffer_by, buffer_of, got_in, is_txn, requests_of, has_no_route, refused_of}
+use Rattle.tlm_model.specs.Route.{Route, hops_of, route_of}
+use Rattle.tlm_model.proofs.RequestLemmas.{same_requests}
 use Rattle.flow_model.specs.World.{Passage, hop_count}
 use Rattle.flow_model.specs.Ends.{end_by}
 use Rattle.flow_model.specs.Events.{Among, Event, at, entries}
@@ -64,9 +63,6 @@ pool_none o (Take s) got k e = cc
 pool_none o (Acquire s) got k e = cc
 pool_none o (Release s f) got k e = cc
 
-cons_same : (r : Request) (l m : List Request) → l ≡ m → r ∷ l ≡ r ∷ m
-cons_same r l m q = ap (λ (k : List Request). r ∷ k) q
-
 -- what two histories ask for that answer the same
 module _ (p : Platform) (i : Initiator) (h m : List Entry) (same : (s : ℕ) → answered i.number s h ≡ answered i.number s m) where
   buffer_same : (s a n : ℕ) → buffer_of p i h s a n ≡ buffer_of p i m s a n
@@ -76,30 +72,8 @@ module _ (p : Platform) (i : Initiator) (h m : List Entry) (same : (s : ℕ) →
       go None = refl
       go (Some r) = same s
 
-  using_same : (o q : Option (List ℕ)) (f g : List ℕ → List Request) → o ≡ q → ((got : List ℕ) → f got ≡ g got) → using o f ≡ using q g
-  using_same o q f g e s = ap (λ (x : Option (List ℕ)). using x f) e ∙ go q
-    where
-      go : (q : Option (List ℕ)) → using q f ≡ using q g
-      go None = refl
-      go (Some got) = s got
-
-  same_from : (s t g : ℕ) (ops : List Operation) → requests_from p i h s t g ops ≡ requests_from p i m s t g ops
-  same_from s t g [] = refl
-  same_from s t g (Write a bytes enables width ∷ ops) = cons_same _ _ _ (same_from (s + 1) (later t (latency_of p i a)) g ops)
-  same_from s t g (Read a n enables width ∷ ops) = cons_same _ _ _ (same_from (s + 1) (later t (latency_of p i a)) g ops)
-  same_from s t g (Ignore a ∷ ops) = cons_same _ _ _ (same_from (s + 1) (later t (latency_of p i a)) g ops)
-  same_from s t g (Debug a n ∷ ops) = cons_same _ _ _ (same_from (s + 1) t (g + 2) ops)
-  same_from s t g (Copy from to n ∷ ops) = cons_same _ _ _ (using_same (buffer_of p i h s from n) (buffer_of p i m s from n) _ _ (buffer_same s from n)
-      (λ got. cons_same _ _ _ (same_from (s + 2) (later (later t (latency_of p i from)) (latency_of p i to)) (g + 3) ops)))
-  same_from s t g (Add a n ∷ ops) = cons_same _ _ _ (using_same (buffer_of p i h s a 4) (buffer_of p i m s a 4) _ _ (buffer_same s a 4)
-      (λ got. cons_same _ _ _ (same_from (s + 2) (later (later t (latency_of p i a)) (latency_of p i a)) (g + 3) ops)))
-  same_from s t g (Wait n ∷ ops) = same_from s (later t n) (g + 1) ops
-  same_from s t g (Sync ∷ ops) = same_from s t (g + 1) ops
-  same_from s t g (Fence ∷ ops) = same_from s t (g + 1) ops
-  same_from s t g (Invalidate a n ∷ ops) = cons_same _ _ _ (same_from (s + 1) t (g + 2) ops)
-
   requests_same : requests_of p i h ≡ requests_of p i m
-  requests_same = same_from 0 0 0 i.script
+  requests_same = same_requests p i h m buffer_same 0 0 0 i.script
 
 module _ (p : Plan) (h : List Event) (issued : TxnId → ℕ) (calls : TxnId → ℕ → ℕ) (mine : ℕ → List Entry) (left : ℕ → ObjectNo → ℕ)
     (ended : HaveEnded p h issued calls mine left) where

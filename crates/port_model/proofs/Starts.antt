@@ -1,7 +1,8 @@
 -- A port begins, settles its time, and passes what is no access.
 use Rattle.std.proofs.Common.{◌≡◌, ◌⊎◌, ℕ, zero, suc, ◌+◌, ◌<◌, ◌≤◌, Bool, false, cond, max, List, [], ◌∷◌, ◌++◌, length, Option, Some, None, refl, sym, ap, ◌∙◌, inl, inr, arith, get_or}
+use Rattle.std.proofs.lemmas.Grind.{common_steps}
 use Rattle.std.specs.Prelude.{slice_get}
-use Rattle.std.proofs.lemmas.List.{append-nil}
+use Rattle.std.proofs.lemmas.List.{append-nil, length-map}
 use Rattle.std.proofs.lemmas.Option.{slice_get_within}
 use Rattle.tlm_types.specs.declared.words.ObjectNo.{ObjectNo}
 use Rattle.tlm_model.specs.Plan.{Plan, Initiator}
@@ -11,7 +12,6 @@ use Rattle.flow_model.specs.Events.{Event}
 use Rattle.flow_model.specs.Issue.{issues_from, settled}
 use Rattle.joined_traffic.specs.Accesses.{sum_below}
 use Rattle.script_engine.specs.declared.op.Op.{Op}
-use Rattle.script_engine.specs.declared.op.Op.TheVariants as next
 use Rattle.script_engine.specs.State.{is_fenced, op_of, passed_by, payload_of, told_by}
 use Rattle.script_engine.specs.Asking.{asked_by, requests_at, stage_after, time_after_op}
 use Rattle.script_engine.proofs.Steps.{passes}
@@ -34,12 +34,13 @@ use Rattle.std.proofs.lemmas.List.Sums.{sum_by-cons}
 use Rattle.std.proofs.lemmas.Option.{slice_get_past}
 use Rattle.tlm_types.specs.declared.words.ObjectNo.TheVariants.{Memory, Hop, Pool}
 use Rattle.tlm_model.specs.declared.operation.Operation.{Operation}
-use Rattle.tlm_model.specs.declared.operation.Operation.TheVariants.{Write as WriteOp, Read as ReadOp, Ignore as IgnoreOp, Debug, Copy, Add, Wait, Sync, Fence, Invalidate}
+use Rattle.tlm_model.specs.Actions.{asks_of}
 use Rattle.tlm_model.specs.Plan.{initiators_of}
 use Rattle.tlm_model.specs.Requests.{numbers_in}
-use Rattle.flow_model.specs.Platform.{addresses_of}
+use Rattle.tlm_model.proofs.RequestLemmas.{numbers_in_asks}
+use Rattle.flow_model.specs.Platform.{accessed, addresses_of}
 use Rattle.route_plan.specs.Counted.{share_by}
-use Rattle.route_plan.specs.Planned.{asks_in, asks_of, share_of}
+use Rattle.route_plan.specs.Planned.{asks_in, share_of}
 use Rattle.script_engine.specs.State.{begun}
 use Rattle.script_engine.proofs.Steps.{begins}
 use Rattle.port_model.specs.Stages.{price_by}
@@ -75,49 +76,19 @@ pub settles_law : Settles
 settles_law p i port known seen left u quiet none o = settles_p p i port known seen left u quiet none o
 
 quiet_waits : (op : Op) → IsQuiet op → IsWaitingOp op
-quiet_waits (next.Access s a n command plain fenced) o = absurd o
-quiet_waits (next.Debug s a n) o = absurd o
-quiet_waits (next.Wait n) o = tt
-quiet_waits next.Sync o = tt
-quiet_waits next.Fence o = tt
-quiet_waits (next.Invalidate s a n) o = absurd o
-quiet_waits next.Done o = absurd o
+quiet_waits op o = grind (arith, common_steps)
 
 quiet_free : (op : Op) → IsQuiet op → is_fenced op ≡ false
-quiet_free (next.Access s a n command plain fenced) o = absurd o
-quiet_free (next.Debug s a n) o = absurd o
-quiet_free (next.Wait n) o = refl
-quiet_free next.Sync o = refl
-quiet_free next.Fence o = refl
-quiet_free (next.Invalidate s a n) o = absurd o
-quiet_free next.Done o = absurd o
+quiet_free op o = grind (arith, common_steps)
 
 quiet_asks : (op : Op) (payload : PayloadView) (t g : ℕ) → IsQuiet op → asked_by op payload t g ≡ []
-quiet_asks (next.Access s a n command plain fenced) payload t g o = absurd o
-quiet_asks (next.Debug s a n) payload t g o = absurd o
-quiet_asks (next.Wait n) payload t g o = refl
-quiet_asks next.Sync payload t g o = refl
-quiet_asks next.Fence payload t g o = refl
-quiet_asks (next.Invalidate s a n) payload t g o = absurd o
-quiet_asks next.Done payload t g o = absurd o
+quiet_asks op payload t g o = grind (arith, common_steps)
 
 quiet_issues : (op : Op) (t : ℕ) → IsQuiet op → issue_of op t ≡ []
-quiet_issues (next.Access s a n command plain fenced) t o = absurd o
-quiet_issues (next.Debug s a n) t o = absurd o
-quiet_issues (next.Wait n) t o = refl
-quiet_issues next.Sync t o = refl
-quiet_issues next.Fence t o = refl
-quiet_issues (next.Invalidate s a n) t o = absurd o
-quiet_issues next.Done t o = absurd o
+quiet_issues op t o = grind (arith, common_steps)
 
 quiet_stage : (op : Op) (g : ℕ) → IsQuiet op → g ≤ stage_after op g
-quiet_stage (next.Access s a n command plain fenced) g o = absurd o
-quiet_stage (next.Debug s a n) g o = absurd o
-quiet_stage (next.Wait n) g o = omega arith
-quiet_stage next.Sync g o = omega arith
-quiet_stage next.Fence g o = omega arith
-quiet_stage (next.Invalidate s a n) g o = absurd o
-quiet_stage next.Done g o = absurd o
+quiet_stage op g o = grind (arith, common_steps)
 
 module _ (p : Plan) (i : Initiator) (port : Port) (known : List Event) (seen : ℕ) (left : ObjectNo → ℕ)
     (u : IsUnderWay p i port known seen left) (quiet : HasSettled port) (o : IsQuiet (op_of port.engine)) where
@@ -187,30 +158,10 @@ quiet_passed p i port known seen left u quiet o = passes_q p i port known seen l
 
 -- each sequence number has its address and its ask
 pub numbers_count : (ops : List Operation) → numbers_in ops ≡ length (addresses_of ops)
-numbers_count [] = refl
-numbers_count (WriteOp a bytes enables width ∷ ops) = let r : numbers_in ops ≡ length (addresses_of ops) = numbers_count ops in omega arith
-numbers_count (ReadOp a n enables width ∷ ops) = let r : numbers_in ops ≡ length (addresses_of ops) = numbers_count ops in omega arith
-numbers_count (IgnoreOp a ∷ ops) = let r : numbers_in ops ≡ length (addresses_of ops) = numbers_count ops in omega arith
-numbers_count (Debug a n ∷ ops) = let r : numbers_in ops ≡ length (addresses_of ops) = numbers_count ops in omega arith
-numbers_count (Copy from to n ∷ ops) = let r : numbers_in ops ≡ length (addresses_of ops) = numbers_count ops in omega arith
-numbers_count (Add a n ∷ ops) = let r : numbers_in ops ≡ length (addresses_of ops) = numbers_count ops in omega arith
-numbers_count (Wait n ∷ ops) = let r : numbers_in ops ≡ length (addresses_of ops) = numbers_count ops in omega arith
-numbers_count (Sync ∷ ops) = let r : numbers_in ops ≡ length (addresses_of ops) = numbers_count ops in omega arith
-numbers_count (Fence ∷ ops) = let r : numbers_in ops ≡ length (addresses_of ops) = numbers_count ops in omega arith
-numbers_count (Invalidate a n ∷ ops) = let r : numbers_in ops ≡ length (addresses_of ops) = numbers_count ops in omega arith
+numbers_count ops = numbers_in_asks ops ∙ sym (length-map (flat_map asks_of ops) accessed)
 
 asks_count : (ops : List Operation) → length (flat_map asks_of ops) ≡ length (addresses_of ops)
-asks_count [] = refl
-asks_count (WriteOp a bytes enables width ∷ ops) = ap suc (asks_count ops)
-asks_count (ReadOp a n enables width ∷ ops) = ap suc (asks_count ops)
-asks_count (IgnoreOp a ∷ ops) = ap suc (asks_count ops)
-asks_count (Debug a n ∷ ops) = ap suc (asks_count ops)
-asks_count (Copy from to n ∷ ops) = ap (λ (n : ℕ). suc (suc n)) (asks_count ops)
-asks_count (Add a n ∷ ops) = ap (λ (n : ℕ). suc (suc n)) (asks_count ops)
-asks_count (Wait n ∷ ops) = asks_count ops
-asks_count (Sync ∷ ops) = asks_count ops
-asks_count (Fence ∷ ops) = asks_count ops
-asks_count (Invalidate a n ∷ ops) = ap suc (asks_count ops)
+asks_count ops = sym (length-map (flat_map asks_of ops) accessed)
 
 sum_shift : (f : ℕ → ℕ) (n : ℕ) → sum_below f (suc n) ≡ f 0 + sum_below (λ k. f (suc k)) n
 sum_shift f zero = let q : 0 + f 0 ≡ f 0 + 0 = omega arith in q

@@ -8,7 +8,7 @@ use Rattle.tlm_model.specs.Plan.{Plan, Initiator, initiators_of}
 use Rattle.tlm_model.specs.Requests.{DebugRead, Invalidation, Request, Transport, debug_of, got_in, has_no_route}
 use Rattle.tlm_model.specs.Store.{zeros}
 use Rattle.tlm_model.specs.Route.{hops_of, route_of}
-use Rattle.route_plan.specs.Planned.Ask.{AnAccess, ADebugRead}
+use Rattle.tlm_model.specs.declared.ask.Ask.TheVariants.{Access as AnAccess, DebugRead as ADebugRead}
 use Rattle.generic_payload.specs.Payload.{PayloadView}
 use Rattle.flow_model.specs.World.{Passage}
 use Rattle.flow_model.specs.Events.{Among, Event, Finds, FindsAt, IsTake}

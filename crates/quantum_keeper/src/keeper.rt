@@ -7,7 +7,8 @@ ghost use Rattle.quantum_keeper.specs.Keeper.{HasReachedPoint, begun, current_ti
 use std::marker::Model;
 use tlm_types::Ps;
 
-/// The time of an initiator since its last sync. All times are picoseconds.
+/// The time of an initiator since its last sync, as the standard's `tlm_quantumkeeper` (clause 16.2) keeps
+/// it. All times are picoseconds.
 // The next point is kept, since it is asked for after each access and changes only with a sync.
 #[derive(Drop)]
 pub struct QuantumKeeper {

@@ -1,20 +1,26 @@
 // Words of the command line.
 use command_words::{Command, read_words};
-use std::alloc::{AllocError, Global};
-use std::test::Fail;
+use std::alloc::Global;
+use std::process::Abort;
 use tlm_model::Trace;
 
 // The words of a line are parted by spaces, and `''` is the empty word.
-fn words_of(alloc: Global, line: &str) -> Result<Vec<String>, AllocError> {
+fn words_of(rt: &impl Abort, alloc: Global, line: &str) -> Vec<String> {
     let mut words = Vec::new(alloc);
-    for word in line.split(' ') {
-        match word {
-            "" => (),
-            "''" => words.push(String::new(alloc))?,
-            _ => words.push(String::from_str(alloc, word)?)?,
+    for part in line.split(' ') {
+        if !part.is_empty() {
+            let word = if part == "''" { "" } else { part };
+            let word = String::from_str(alloc, word).expect(rt, "memory");
+            words.push(word).expect(rt, "memory");
         }
     }
-    Ok(words)
+    words
+}
+
+// Whether this is what the line asks for.
+fn asks_for(rt: &impl Abort, alloc: Global, line: &str, wanted: Option<Command>) -> bool {
+    let words = words_of(rt, alloc, line);
+    read_words(alloc, &words).expect(rt, "memory") == wanted
 }
 
 // Lines with the file, the number of workers and the trace of their run.
@@ -47,29 +53,22 @@ static REFUSED: [&str; 12] = [
 ];
 
 #[test]
-fn runs_are_read(rt: HostRuntime) -> Result<(), Fail> {
-    let alloc = rt.alloc();
-    for (line, file, workers, trace) in RUNS {
-        let words = words_of(alloc, line)?;
+fn runs_are_read(rt: HostRuntime) {
+    for (line, file, workers, trace) in &RUNS {
         let run = Command::Run {
             file,
-            workers,
-            trace,
+            workers: *workers,
+            trace: *trace,
         };
-        assert!(rt; read_words(alloc, &words)? == Some(run), "{line}");
+        assert!(rt; asks_for(&rt, rt.alloc(), line, Some(run)), "{line}");
     }
-    let words = words_of(alloc, "script a-b")?;
     let script = Command::Script { file: "a-b" };
-    assert!(rt; read_words(alloc, &words)? == Some(script));
-    Ok(())
+    assert!(rt; asks_for(&rt, rt.alloc(), "script a-b", Some(script)));
 }
 
 #[test]
-fn other_lines_are_refused(rt: HostRuntime) -> Result<(), Fail> {
-    let alloc = rt.alloc();
-    for line in REFUSED {
-        let words = words_of(alloc, line)?;
-        assert!(rt; read_words(alloc, &words)?.is_none(), "{line}");
+fn other_lines_are_refused(rt: HostRuntime) {
+    for line in &REFUSED {
+        assert!(rt; asks_for(&rt, rt.alloc(), line, None), "{line}");
     }
-    Ok(())
 }

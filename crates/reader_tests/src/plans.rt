@@ -1,74 +1,83 @@
 // Shapes of platforms, and plans.
+ghost use Rattle.std.specs.Prelude.{◌≡◌, length};
+
 use platform_file::read_platform;
 use route_plan::{Down, HopEnds, Plan, Route, Shape, Up, plan, shape};
 use std::alloc::Global;
 use std::process::Abort;
-use std::test::Fail;
 use tlm_types::ObjectNo;
 use traffic_script::{Script, read_script};
 
 // How the shape of a platform is answered.
-fn shape_answer(alloc: Global, text: &str) -> Result<String, Fail> {
-    let platform = read_platform(alloc, text.as_bytes())?;
-    match shape(alloc, &platform) {
-        Ok(_) => Ok(String::from_str(alloc, "ok")?),
-        Err(fault) => Ok(format!(in alloc; "{fault}")?),
+fn shape_answer(rt: &impl Abort, alloc: Global, text: &str) -> String {
+    let platform = read_platform(alloc, text.as_bytes()).expect(rt, "a platform");
+    let said = match shape(alloc, &platform) {
+        Ok(_) => String::from_str(alloc, "ok"),
+        Err(fault) => format!(in alloc; "{fault}"),
+    };
+    said.expect(rt, "memory")
+}
+
+// A window of one address.
+fn window(rt: &impl Abort, alloc: Global, at: u32, to: &str) -> String {
+    let text = format!(in alloc; "[[router.window]]\nfirst = {at}\nlast = {at}\nto = '{to}'\n");
+    text.expect(rt, "memory")
+}
+
+// Adds a router of this number whose windows all lead to one component.
+fn add_router(
+    rt: &impl Abort,
+    alloc: Global,
+    text: &mut String,
+    number: u32,
+    windows: u32,
+    to: &str,
+) {
+    let head = format!(in alloc; "[[router]]\nname = 'r{number}'\n").expect(rt, "memory");
+    text.push_str(head.as_str()).expect(rt, "memory");
+    for at in 0..windows {
+        let row = window(rt, alloc, at, to);
+        text.push_str(row.as_str()).expect(rt, "memory");
     }
 }
 
-// A router of this number whose windows all lead to one component.
-fn router(alloc: Global, number: u32, windows: u32, to: &str) -> Result<String, Fail> {
-    let mut text = format!(in alloc; "[[router]]\nname = 'r{number}'\n")?;
-    for index in 0..windows {
-        let row = format!(in alloc; "first = {index}\nlast = {index}\nto = '{to}'\n")?;
-        text.push_str("[[router.window]]\n")?;
-        text.push_str(row.as_str())?;
-    }
-    Ok(text)
-}
-
-// An initiator before a chain of routers of so many windows each, at whose end is a memory.
-fn chain(alloc: Global, routers: u32, windows: u32) -> Result<String, Fail> {
-    let head =
-        "version = 1\n[[initiator]]\nname = 'cpu'\nstyle = 'blocking'\nscript = 'a'\nbind = 'r1'\n";
-    let mut text = String::from_str(alloc, head)?;
+// Adds a chain of so many routers, at whose end is a memory.
+fn add_routers(rt: &impl Abort, alloc: Global, text: &mut String, routers: u32, windows: u32) {
     for number in 1..routers {
-        let next = format!(in alloc; "r{}", number + 1)?;
-        text.push_str(router(alloc, number, windows, next.as_str())?.as_str())?;
+        let next = format!(in alloc; "r{}", number + 1).expect(rt, "memory");
+        add_router(rt, alloc, text, number, windows, next.as_str());
     }
-    text.push_str(router(alloc, routers, windows, "ram")?.as_str())?;
-    text.push_str("[[memory]]\nname = 'ram'\nsize = 16\n")?;
-    Ok(text)
+    add_router(rt, alloc, text, routers, windows, "ram");
+}
+
+// An initiator before a chain of routers of so many windows each.
+const HEAD: &str = "version = 1
+[[initiator]]
+name = 'cpu'
+style = 'blocking'
+script = 'a'
+bind = 'r1'
+";
+
+const RAM: &str = "[[memory]]
+name = 'ram'
+size = 16
+";
+
+// How such a chain is answered.
+fn chain_answer(rt: &impl Abort, alloc: Global, routers: u32, windows: u32) -> String {
+    let mut text = String::from_str(alloc, HEAD).expect(rt, "memory");
+    add_routers(rt, alloc, &mut text, routers, windows);
+    text.push_str(RAM).expect(rt, "memory");
+    shape_answer(rt, alloc, text.as_str())
 }
 
 // Nine routers in a row are too deep, which is told before their 16 to the 9th paths.
 #[test]
-fn paths_have_at_most_eight_routers(rt: HostRuntime) -> Result<(), Fail> {
-    let alloc = rt.alloc();
-    let eight = shape_answer(alloc, chain(alloc, 8, 1)?.as_str())?;
-    assert_eq!(rt; eight.as_str(), "ok");
-    let nine = shape_answer(alloc, chain(alloc, 9, 16)?.as_str())?;
-    assert_eq!(rt;
-        nine.as_str(),
-        "platform refused: too_deep initiator[0] bind"
-    );
-    Ok(())
-}
-
-#[test]
-fn only_blocking_initiators_are_built(rt: HostRuntime) -> Result<(), Fail> {
-    let alloc = rt.alloc();
-    for style in ["direct", "fourphase"] {
-        let text = format!(in alloc;
-            "version = 1\n[[initiator]]\nname = 'cpu'\nstyle = '{style}'\nscript = 'a'\nbind = 'ram'\n[[memory]]\nname = 'ram'\nsize = 16\n"
-        )?;
-        let said = shape_answer(alloc, text.as_str())?;
-        assert_eq!(rt;
-            said.as_str(),
-            "platform refused: not_built initiator[0] style"
-        );
-    }
-    Ok(())
+fn paths_have_at_most_eight_routers(rt: HostRuntime) {
+    assert!(rt; chain_answer(&rt, rt.alloc(), 8, 1).as_str() == "ok");
+    let nine = chain_answer(&rt, rt.alloc(), 9, 16);
+    assert!(rt; nine.as_str() == "platform refused: too_deep initiator[0] bind");
 }
 
 // Two initiators: one on a bus that leads to a memory and to a second router, one on that router.
@@ -113,74 +122,96 @@ size = 512
 latency = 30
 ";
 
-fn buses_shape(alloc: Global) -> Result<Shape, Fail> {
-    Ok(shape(alloc, &read_platform(alloc, BUSES.as_bytes())?)?)
+// How the buses are answered where the first initiator has another style.
+fn style_answer(rt: &impl Abort, alloc: Global, style: &str) -> String {
+    let text = BUSES
+        .replacen(alloc, "'blocking'", style, 1)
+        .expect(rt, "memory");
+    shape_answer(rt, alloc, text.as_str())
 }
 
-// The two scripts of the buses.
-fn two_scripts(alloc: Global, first: &str, second: &str) -> Result<Vec<Script>, Fail> {
-    let first = read_script(alloc, first.as_bytes())?;
-    let second = read_script(alloc, second.as_bytes())?;
-    Ok(vec![in alloc; first, second]?)
+#[test]
+fn only_blocking_initiators_are_built(rt: HostRuntime) {
+    let wanted = "platform refused: not_built initiator[0] style";
+    assert!(rt; style_answer(&rt, rt.alloc(), "'direct'").as_str() == wanted);
+    assert!(rt; style_answer(&rt, rt.alloc(), "'fourphase'").as_str() == wanted);
+}
+
+fn shape_of(rt: &impl Abort, alloc: Global, text: &str) -> Shape {
+    let platform = read_platform(alloc, text.as_bytes()).expect(rt, "a platform");
+    shape(alloc, &platform).expect(rt, "a shape")
+}
+
+// Two scripts.
+fn two_scripts(rt: &impl Abort, alloc: Global, first: &str, second: &str) -> Vec<Script>
+    ensures { length result.items ≡ 2 }
+{
+    let first = read_script(alloc, first.as_bytes()).expect(rt, "a script");
+    let second = read_script(alloc, second.as_bytes()).expect(rt, "a script");
+    vec![in alloc; first, second].expect(rt, "memory")
+}
+
+// The buses, which have two initiators.
+fn buses_shape(rt: &impl Abort, alloc: Global) -> Shape
+    ensures { length result.initiators ≡ 2 }
+{
+    let shape = shape_of(rt, alloc, BUSES);
+    assert!(rt; shape.platform().initiators.as_slice().len() == 2);
+    shape
 }
 
 // The plan of the buses with these scripts.
-fn buses(rt: &impl Abort, alloc: Global, first: &str, second: &str) -> Result<Plan, Fail> {
-    let shape = buses_shape(alloc)?;
-    let scripts = two_scripts(alloc, first, second)?;
-    assert_eq!(rt; scripts.len(), shape.platform().initiators.as_slice().len());
-    let plan = plan(alloc, shape, scripts.as_slice())?;
-    assert_eq!(rt; plan.platform().initiators.as_slice().len(), 2);
-    assert_eq!(rt; plan.platform().memories.as_slice().len(), 2);
-    Ok(plan.copy(alloc)?)
+fn buses(rt: &impl Abort, alloc: Global, first: &str, second: &str) -> Plan
+    ensures initiators { length result.platform.initiators ≡ 2 }
+    ensures memories { length result.platform.memories ≡ 2 }
+    ensures routers { length result.platform.routers ≡ 2 }
+{
+    let shape = buses_shape(rt, alloc);
+    let scripts = two_scripts(rt, alloc, first, second);
+    let plan = plan(alloc, shape, scripts.as_slice()).expect(rt, "a plan");
+    assert!(rt; plan.platform().initiators.as_slice().len() == 2);
+    assert!(rt; plan.platform().memories.as_slice().len() == 2);
+    assert!(rt; plan.platform().routers.as_slice().len() == 2);
+    plan.copy(alloc).expect(rt, "memory")
 }
 
-// The memory, the offset, the latencies before it and of the whole way, and the last hop.
-fn way(rt: &impl Abort, plan: &Plan, address: u64) -> Option<(Route, Option<u32>)> {
-    assert!(rt; 0 < plan.platform().initiators.as_slice().len());
-    let route = plan.route(0, address)?;
-    Some((route, plan.hops(0, address, 2)))
-}
+const NEAR: Route = Route {
+    memory: 0,
+    offset: 0xfff,
+    before: 5,
+    latency: 25,
+};
 
-#[test]
-fn addresses_lead_through_windows(rt: HostRuntime) -> Result<(), Fail> {
-    let plan = buses(&rt, rt.alloc(), "read 0x10 4\n", "")?;
-    let near = Route {
-        memory: 0,
-        offset: 0xfff,
-        before: 5,
-        latency: 25,
-    };
-    let far = Route {
-        memory: 1,
-        offset: 0x10f,
-        before: 12,
-        latency: 42,
-    };
-    assert_eq!(rt; way(&rt, &plan, 0xfff), Some((near, None)));
-    assert_eq!(rt; way(&rt, &plan, 0x10ff), Some((far, Some(4))));
-    assert_eq!(rt; way(&rt, &plan, 0x1100), None);
-    assert_eq!(rt; way(&rt, &plan, 0x2000), None);
-    Ok(())
-}
+const FAR: Route = Route {
+    memory: 1,
+    offset: 0x10f,
+    before: 12,
+    latency: 42,
+};
 
 #[test]
-fn plans_keep_what_they_were_made_of(rt: HostRuntime) -> Result<(), Fail> {
-    let plan = buses(&rt, rt.alloc(), "read 0x10 4\n", "")?;
-    let ends = HopEnds {
-        up: Up::Router {
-            router: 0,
-            window: 1,
-        },
-        down: Down::Router(1),
-    };
-    assert_eq!(rt; plan.hop_ends(3), Some(ends));
-    assert_eq!(rt; plan.hop_ends(5), None);
-    assert_eq!(rt; plan.platform().initiators.as_slice().len(), 2);
-    assert_eq!(rt; plan.platform().routers.as_slice().len(), 2);
-    assert_eq!(rt; (plan.script(0).len(), plan.script(1).len()), (1, 0));
-    assert_eq!(rt; plan.windows(0).decode(0x1001), Some((1, 0x101)));
-    Ok(())
+fn addresses_lead_through_windows(rt: HostRuntime) {
+    let plan = buses(&rt, rt.alloc(), "read 0x10 4\n", "");
+    assert!(rt; plan.route(0, 0xfff) == Some(NEAR) && plan.route(0, 0x10ff) == Some(FAR));
+    assert!(rt; plan.hops(0, 0xfff, 2).is_none() && plan.hops(0, 0x10ff, 2) == Some(4));
+    assert!(rt; plan.route(0, 0x1100).is_none() && plan.route(0, 0x2000).is_none());
+}
+
+// From the second window of the first router to the second router.
+const ENDS: HopEnds = HopEnds {
+    up: Up::Router {
+        router: 0,
+        window: 1,
+    },
+    down: Down::Router(1),
+};
+
+#[test]
+fn plans_keep_what_they_were_made_of(rt: HostRuntime) {
+    let plan = buses(&rt, rt.alloc(), "read 0x10 4\n", "");
+    assert!(rt; plan.hop_ends(3) == Some(ENDS) && plan.hop_ends(5).is_none());
+    assert!(rt; plan.script(0).len() == 1 && plan.script(1).len() == 0);
+    assert!(rt; plan.windows(0).decode(0x1001) == Some((1, 0x101)));
 }
 
 // It asks 8 times for the memory `ram`: a write of 4 bytes with 2 enables, a debug read of 10 bytes, a
@@ -206,54 +237,39 @@ debug 0x0 10
 ";
 
 #[test]
-fn plans_are_counted(rt: HostRuntime) -> Result<(), Fail> {
-    let plan = buses(&rt, rt.alloc(), MIXED, SMALL)?;
-    assert_eq!(rt; plan.platform().initiators.as_slice().len(), 2);
-    assert_eq!(rt; plan.platform().memories.as_slice().len(), 2);
-    let ram = ObjectNo::Memory(0);
-    assert_eq!(rt; (plan.share(0, ram), plan.logged_by(0, 0)), (8, 80));
-    assert_eq!(rt; (plan.share(1, ram), plan.logged_by(1, 1)), (0, 8));
-    assert_eq!(rt;
-        (plan.entries(ObjectNo::Memory(1)), plan.logged(1)),
-        (3, 16)
-    );
-    Ok(())
+fn plans_are_counted(rt: HostRuntime) {
+    let plan = buses(&rt, rt.alloc(), MIXED, SMALL);
+    let (ram, rom) = (ObjectNo::Memory(0), ObjectNo::Memory(1));
+    assert!(rt; plan.share(0, ram) == 8 && plan.logged_by(0, 0) == 80);
+    assert!(rt; plan.share(1, ram) == 0 && plan.logged_by(1, 1) == 8);
+    assert!(rt; plan.entries(rom) == 3 && plan.logged(1) == 16);
 }
 
 #[test]
-fn hops_and_pools_have_no_entries(rt: HostRuntime) -> Result<(), Fail> {
-    let plan = buses(&rt, rt.alloc(), MIXED, SMALL)?;
+fn hops_and_pools_have_no_entries(rt: HostRuntime) {
+    let plan = buses(&rt, rt.alloc(), MIXED, SMALL);
     assert!(rt; plan.hop_ends(4).is_some());
-    assert_eq!(rt; plan.platform().initiators.as_slice().len(), 2);
-    assert_eq!(rt; plan.entries(ObjectNo::Hop(4)), 0);
-    assert_eq!(rt; plan.share(1, ObjectNo::Pool(0)), 0);
-    Ok(())
+    assert!(rt; plan.entries(ObjectNo::Hop(4)) == 0);
+    assert!(rt; plan.share(1, ObjectNo::Pool(0)) == 0);
 }
 
 // How the plan of the buses with this script is answered.
-fn planned(rt: &impl Abort, alloc: Global, text: &str) -> Result<String, Fail> {
-    let shape = buses_shape(alloc)?;
-    let scripts = two_scripts(alloc, text, "")?;
-    assert_eq!(rt; scripts.len(), shape.platform().initiators.as_slice().len());
-    match plan(alloc, shape, scripts.as_slice()) {
-        Ok(_) => Ok(String::from_str(alloc, "ok")?),
-        Err(fault) => Ok(format!(in alloc; "{fault}")?),
-    }
+fn planned(rt: &impl Abort, alloc: Global, text: &str) -> String {
+    let shape = buses_shape(rt, alloc);
+    let scripts = two_scripts(rt, alloc, text, "");
+    let said = match plan(alloc, shape, scripts.as_slice()) {
+        Ok(_) => String::from_str(alloc, "ok"),
+        Err(fault) => format!(in alloc; "{fault}"),
+    };
+    said.expect(rt, "memory")
 }
 
 // A plan may log 67,108,864 bytes: 16,384 times 4,096. What isn't routed logs nothing.
 #[test]
-fn logged_data_is_limited(rt: HostRuntime) -> Result<(), Fail> {
-    let rows = [
-        ("repeat 16384\nread 0x0 4096\nend\nread 0x2000 1\n", "ok"),
-        (
-            "repeat 16384\nread 0x0 4096\nend\nread 0x0 1\n",
-            "platform refused: too_much_data platform -",
-        ),
-    ];
-    for (text, want) in rows {
-        let said = planned(&rt, rt.alloc(), text)?;
-        assert_eq!(rt; said.as_str(), want, "at {text}");
-    }
-    Ok(())
+fn logged_data_is_limited(rt: HostRuntime) {
+    let most = "repeat 16384\nread 0x0 4096\nend\nread 0x2000 1\n";
+    assert!(rt; planned(&rt, rt.alloc(), most).as_str() == "ok");
+    let more = "repeat 16384\nread 0x0 4096\nend\nread 0x0 1\n";
+    let said = planned(&rt, rt.alloc(), more);
+    assert!(rt; said.as_str() == "platform refused: too_much_data platform -");
 }

@@ -1,8 +1,8 @@
 // Platform files.
 use platform_file::read_platform;
-use std::alloc::{AllocError, Global};
-use std::test::Fail;
-use tlm_model::{Style, Target};
+use std::alloc::Global;
+use std::process::Abort;
+use tlm_model::{InitiatorRow, MemoryRow, Platform, RouterRow, Style, Target, WindowRow};
 use tlm_types::{ReqMode, RespMode};
 
 // A platform with a value of each key that is no default.
@@ -40,33 +40,53 @@ reply = 'short'
 lanes = 6
 ";
 
+fn is_the_initiator(row: &InitiatorRow) -> bool {
+    row.name.as_text() == "cpu"
+        && row.style == Style::Direct
+        && row.bind == Target::Router(0)
+        && row.script.as_text() == "a.txt"
+        && row.pool == 2
+        && row.response == RespMode::EndResp
+}
+
+fn is_the_window(row: &WindowRow) -> bool {
+    row.first == 1000 && row.last == 1255 && row.base == 16 && row.to == Target::Memory(0)
+}
+
+fn is_the_router(row: &RouterRow) -> bool {
+    row.name.as_text() == "bus"
+        && row.latency == 5
+        && row.accept == ReqMode::EndReq
+        && row.lanes == 3
+        && matches!(row.windows.as_slice(), [window] if is_the_window(window))
+}
+
+fn is_the_memory(row: &MemoryRow) -> bool {
+    row.name.as_text() == "ram"
+        && row.traits.size == 512
+        && row.traits.latency == 9
+        && row.reply == ReqMode::Short
+        && row.lanes == 6
+}
+
+fn is_the_platform(platform: &Platform) -> bool {
+    platform.quantum == 7
+        && matches!(platform.initiators.as_slice(), [row] if is_the_initiator(row))
+        && matches!(platform.routers.as_slice(), [row] if is_the_router(row))
+        && matches!(platform.memories.as_slice(), [row] if is_the_memory(row))
+}
+
+// Whether the text is read, as the base.
+fn is_base(alloc: Global, text: &str) -> bool {
+    match read_platform(alloc, text.as_bytes()) {
+        Ok(platform) => is_the_platform(&platform),
+        Err(_) => false,
+    }
+}
+
 #[test]
-fn a_platform_is_read(rt: HostRuntime) -> Result<(), Fail> {
-    let platform = read_platform(rt.alloc(), BASE.as_bytes())?;
-    assert_eq!(rt; platform.quantum, 7);
-    for row in platform.initiators.as_slice() {
-        assert_eq!(rt; row.name.as_text(), "cpu");
-        assert_eq!(rt; (row.style, row.bind), (Style::Direct, Target::Router(0)));
-        assert_eq!(rt; row.script.as_text(), "a.txt");
-        assert_eq!(rt; (row.pool, row.response), (2, RespMode::EndResp));
-    }
-    for row in platform.routers.as_slice() {
-        assert_eq!(rt; row.name.as_text(), "bus");
-        assert_eq!(rt;
-            (row.latency, row.accept, row.lanes),
-            (5, ReqMode::EndReq, 3)
-        );
-        for window in row.windows.as_slice() {
-            assert_eq!(rt; (window.first, window.last, window.base), (1000, 1255, 16));
-            assert_eq!(rt; window.to, Target::Memory(0));
-        }
-    }
-    for row in platform.memories.as_slice() {
-        assert_eq!(rt; row.name.as_text(), "ram");
-        assert_eq!(rt; (row.traits.size, row.traits.latency), (512, 9));
-        assert_eq!(rt; (row.reply, row.lanes), (ReqMode::Short, 6));
-    }
-    Ok(())
+fn a_platform_is_read(rt: HostRuntime) {
+    assert!(rt; is_base(rt.alloc(), BASE));
 }
 
 // What is changed in the base, what stands in its place, and the answer behind `platform refused: `.
@@ -127,38 +147,34 @@ static CHANGES: [(&str, &str, &str); 18] = [
     ("quantum = 7", "version = 1", "syntax platform -"),
 ];
 
-fn answer(alloc: Global, bytes: &[u8]) -> Result<String, AllocError> {
-    match read_platform(alloc, bytes) {
+fn answer(rt: &impl Abort, alloc: Global, bytes: &[u8]) -> String {
+    let said = match read_platform(alloc, bytes) {
         Ok(_) => String::from_str(alloc, "ok"),
         Err(fault) => format!(in alloc; "{fault}"),
-    }
+    };
+    said.expect(rt, "memory")
+}
+
+// How the base is answered with a change.
+fn changed_answer(rt: &impl Abort, alloc: Global, old: &str, new: &str) -> String {
+    let text = BASE.replacen(alloc, old, new, 1).expect(rt, "memory");
+    answer(rt, alloc, text.as_str().as_bytes())
 }
 
 #[test]
-fn platforms_are_refused(rt: HostRuntime) -> Result<(), Fail> {
-    let alloc = rt.alloc();
-    for (old, new, wanted) in CHANGES {
-        let text = BASE.replacen(alloc, old, new, 1)?;
-        let said = answer(alloc, text.as_str().as_bytes())?;
-        let said = said.as_str();
-        assert_eq!(rt;
-            said.strip_prefix("platform refused: "),
-            Some(wanted),
-            "{new}"
-        );
+fn platforms_are_refused(rt: HostRuntime) {
+    for (old, new, wanted) in &CHANGES {
+        let said = changed_answer(&rt, rt.alloc(), old, new);
+        let code = said.as_str().strip_prefix("platform refused: ");
+        assert!(rt; code == Some(*wanted), "{new}");
     }
-    Ok(())
 }
 
 // Bytes that aren't UTF-8 are no document, nor is one that is nested a hundred thousand times.
 #[test]
-fn other_bytes_are_no_document(rt: HostRuntime) -> Result<(), Fail> {
-    let alloc = rt.alloc();
+fn other_bytes_are_no_document(rt: HostRuntime) {
     let wanted = "platform refused: syntax platform -";
-    let said = answer(alloc, &[0x23, 0xff])?;
-    assert_eq!(rt; said.as_str(), wanted);
-    let nested = vec![in alloc; b'['; 100_000]?;
-    let said = answer(alloc, &nested)?;
-    assert_eq!(rt; said.as_str(), wanted);
-    Ok(())
+    assert!(rt; answer(&rt, rt.alloc(), &[0x23, 0xff]).as_str() == wanted);
+    let nested = vec![in rt.alloc(); b'['; 100_000].expect(&rt, "memory");
+    assert!(rt; answer(&rt, rt.alloc(), &nested).as_str() == wanted);
 }

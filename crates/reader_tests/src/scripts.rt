@@ -1,16 +1,17 @@
 // Scripts.
-use std::alloc::{AllocError, Global};
+use std::alloc::Global;
 use std::process::Abort;
-use std::test::Fail;
 use tlm_model::Operation;
-use traffic_script::{Cursor, Script, read_script};
+use tlm_types::Memory;
+use traffic_script::{Cursor, Piece, Script, ScriptCode, ScriptFault, read_script};
 
 // How a script is answered: how many operations it has, or its refusal.
-fn answer(alloc: Global, text: &str) -> Result<String, AllocError> {
-    match read_script(alloc, text.as_bytes()) {
+fn answer(rt: &impl Abort, alloc: Global, text: &str) -> String {
+    let said = match read_script(alloc, text.as_bytes()) {
         Ok(script) => format!(in alloc; "{} operations", script.len()),
         Err(fault) => format!(in alloc; "{fault}"),
-    }
+    };
+    said.expect(rt, "memory")
 }
 
 static SCRIPTS: [(&str, &str); 20] = [
@@ -46,59 +47,88 @@ static SCRIPTS: [(&str, &str); 20] = [
 ];
 
 #[test]
-fn scripts_are_read_or_refused(rt: HostRuntime) -> Result<(), Fail> {
-    let alloc = rt.alloc();
-    for (text, wanted) in SCRIPTS {
-        let found = answer(alloc, text)?;
-        assert_eq!(rt; found.as_str(), wanted, "{text:?}");
+fn scripts_are_read_or_refused(rt: HostRuntime) {
+    for (text, wanted) in &SCRIPTS {
+        assert!(rt;
+            answer(&rt, rt.alloc(), text).as_str() == *wanted,
+            "{text:?}"
+        );
     }
-    let long = vec![in alloc; b'\n'; 10_001]?;
-    let refused = format!(in alloc; "{:?}", read_script(alloc, &long).err())?;
-    assert!(rt; refused.as_str().contains("TooManyLines"));
-    Ok(())
 }
 
-// Whether a cursor is at a wait of so many picoseconds, or at the end.
-fn expect_wait(rt: &impl Abort, cursor: &Cursor, wanted: Option<u64>) {
-    let found = match cursor.current() {
-        Some(Operation::Wait { time }) => Some(*time),
-        _ => None,
-    };
-    assert_eq!(rt; found, wanted);
+// Whether the bytes are refused with this code.
+fn is_refused(alloc: Global, bytes: &[u8], wanted: ScriptCode) -> bool {
+    match read_script(alloc, bytes) {
+        Err(ScriptFault::Refused { line: _, code }) => code == wanted,
+        Ok(_) | Err(ScriptFault::Memory) => false,
+    }
+}
+
+#[test]
+fn scripts_have_at_most_ten_thousand_lines(rt: HostRuntime) {
+    let long = vec![in rt.alloc(); b'\n'; 10_001].expect(&rt, "memory");
+    assert!(rt; is_refused(rt.alloc(), &long, ScriptCode::TooManyLines));
+}
+
+fn script_of(rt: &impl Abort, alloc: Global, text: &str) -> Script {
+    read_script(alloc, text.as_bytes()).expect(rt, "a script")
+}
+
+// Whether a cursor is at a wait of so many picoseconds.
+fn is_at_wait(cursor: &Cursor, wanted: u64) -> bool {
+    matches!(cursor.current(), Some(Operation::Wait { time }) if *time == wanted)
 }
 
 // A value may be shared by threads, and go from one to another.
 fn may_be_shared<T: Send + Sync>(_value: &T) {}
 
-// The copy is walked through after the script is gone.
-#[test]
-fn a_copy_is_walked_through(rt: HostRuntime) -> Result<(), Fail> {
-    let text = b"wait 1\nrepeat 2\nwait 3\nwait 4\nend\nwait 5\n";
-    let script = read_script(rt.alloc(), text)?;
+// A copy of a script, which is gone when the copy is used.
+fn copy_of(rt: &impl Abort, alloc: Global, text: &str) -> Script {
+    let script = script_of(rt, alloc, text);
     assert!(rt; !script.is_empty());
-    let copy: Script = script.copy(rt.alloc())?;
+    script.copy(alloc).expect(rt, "memory")
+}
+
+#[test]
+fn a_copy_is_walked_through(rt: HostRuntime) {
+    let text = "wait 1\nrepeat 2\nwait 3\nwait 4\nend\nwait 5\n";
+    let copy = copy_of(&rt, rt.alloc(), text);
     may_be_shared(&copy);
-    drop(script);
     let mut cursor = Cursor::new(copy);
     may_be_shared(&cursor);
     for time in [1, 3, 4, 3, 4, 5] {
-        expect_wait(&rt, &cursor, Some(time));
+        assert!(rt; is_at_wait(&cursor, time));
         cursor.advance();
     }
-    expect_wait(&rt, &cursor, None);
-    Ok(())
+    assert!(rt; cursor.current().is_none());
+}
+
+fn is_long_repeat(piece: &Piece) -> bool {
+    piece.operations.as_slice().len() == 1 && piece.times == 100_000
 }
 
 // A repeat keeps its lines and not the operations written out.
 #[test]
-fn a_long_repeat_is_one_piece(rt: HostRuntime) -> Result<(), Fail> {
-    let script = read_script(rt.alloc(), b"repeat 100000\nsync\nend\n")?;
-    assert_eq!(rt; (script.len(), script.pieces().len()), (100_000, 1));
-    for piece in script.pieces() {
-        assert_eq!(rt;
-            (piece.operations.as_slice().len(), piece.times),
-            (1, 100_000)
-        );
+fn a_long_repeat_is_one_piece(rt: HostRuntime) {
+    let script = script_of(&rt, rt.alloc(), "repeat 100000\nsync\nend\n");
+    assert!(rt; script.len() == 100_000);
+    assert!(rt; matches!(script.pieces(), [piece] if is_long_repeat(piece)));
+}
+
+// So many copies of a script.
+fn copies_of(alloc: Global, script: &Script, count: u32) -> Result<Vec<Script>, Memory> {
+    let mut copies = Vec::new(alloc);
+    for _ in 0..count {
+        copies.push(script.copy(alloc)?)?;
     }
-    Ok(())
+    Ok(copies)
+}
+
+// Copies share the operations: a hundred thousand lists of nine thousand wouldn't fit into memory.
+#[test]
+fn a_copy_is_one_more_owner(rt: HostRuntime) {
+    let text = "wait 1\n".repeat(rt.alloc(), 9_000).expect(&rt, "memory");
+    let script = script_of(&rt, rt.alloc(), text.as_str());
+    let copies = copies_of(rt.alloc(), &script, 100_000).expect(&rt, "memory");
+    assert!(rt; copies.len() == 100_000);
 }

@@ -53,7 +53,7 @@ impl RegionCall {
     }
 }
 
-/// The same of a call with this payload.
+/// How many bytes of the room of a memory's log a call with this payload takes at most.
 pub fn payload_cost(payload: &Payload) -> u64
     ensures { result ≡ payload_cost payload.now }
 {

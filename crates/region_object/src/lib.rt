@@ -1,4 +1,5 @@
-//! A memory of the platform.
+//! A memory of the platform: a target with blocking and debug transport (IEEE 1666-2011, clauses 11.1.1
+//! and 11.3).
 //!
 //! - `Region` is a memory with its log: the entries of all that happened there, in order.
 //! - `RegionCall` is what can be asked of it, with the payload that carries it, and `RegionReply` what

@@ -17,8 +17,8 @@ use tlm_types::{
     Bytes, Command, Facts, Head, Log, Memory, MemoryTraits, ObjectNo, Ps, Response, TxnId, Way,
 };
 
-/// A memory with its log. Contracts see its number, its traits, the number of its first gate, and its
-/// log with the room that it has left.
+/// A memory, which is a target with debug transport (clause 11.3), with its log. Contracts see its
+/// number, its traits, the number of its first gate, and its log with the room that it has left.
 #[derive(Drop)]
 pub struct Region {
     number: u32,

@@ -20,6 +20,7 @@ use Rattle.tlm_types.specs.declared.words.TxnId.{TxnId}
 use Rattle.tlm_types.specs.declared.entry.Access.{Access}
 use Rattle.tlm_types.specs.declared.entry.Entry.{Entry}
 use Rattle.tlm_types.specs.declared.entry.What.{What}
+use Rattle.tlm_types.specs.Log.{is_access}
 use Rattle.tlm_types.specs.declared.entry.What.TheVariants.{Access as Accessed, Granted, Invalidated, Closed, Call, Take, Acquire, Release}
 use Rattle.tlm_model.specs.declared.platform.InitiatorRow.{InitiatorRow}
 use Rattle.tlm_model.specs.declared.platform.MemoryRow.{MemoryRow}
@@ -150,16 +151,6 @@ object_word p (Pool i) = initiator_name p i ++ codes ".pool"
 
 abbrev pub entry_words : Platform → Entry → List (List ℕ)
 entry_words p e = decimal e.position ∷ decimal e.time ∷ txn_word p e.txn ∷ object_word p e.object ∷ what_words e.what
-
-abbrev pub is_access : What → Bool
-is_access (Accessed way a status got) = true
-is_access (Granted g f l k) = false
-is_access (Invalidated f l) = false
-is_access (Closed g) = false
-is_access (Call p a) = false
-is_access (Take s) = false
-is_access (Acquire s) = false
-is_access (Release s f) = false
 
 -- the entries that a trace shows
 abbrev pub traced : Trace → List Entry → List Entry

@@ -3,15 +3,17 @@ use Rattle.std.proofs.Common.{◌≡◌, ◌≢◌, ℕ, zero, suc, ◌+◌, ◌
 use Rattle.std.specs.List.{All, flat_map, range_with_len, AllByRecursion}
 use Rattle.std.proofs.lemmas.Bool.{eq-eqb, eqb-true}
 use Rattle.std.proofs.lemmas.Bool.Decides.{nat_tests}
-use Rattle.std.proofs.lemmas.Grind.{flat_map-append, get_or-set_at}
+use Rattle.std.proofs.lemmas.Grind.{common_steps, flat_map-append, get_or-set_at}
 use Rattle.std.proofs.lemmas.List.{take_more, append-nil, ext_get_or, get_or-replicate, length-replicate}
 use Rattle.std.proofs.lemmas.List.Elements.{All-from_get_or, All-map}
 use Rattle.std.proofs.lemmas.List.FromFn.{get_or-map-range_with_len, length-map-range_with_len}
 use Rattle.std.proofs.lemmas.List.Sums.{sum_by-append}
 use Rattle.std.proofs.lemmas.Option.{same_Some, none-some}
 use Rattle.tlm_model.specs.declared.operation.Operation.{Operation}
-use Rattle.tlm_model.specs.declared.operation.Operation.TheVariants.{Write, Read, Ignore, Debug, Copy, Add, Wait, Sync, Fence, Invalidate}
 use Rattle.tlm_model.specs.declared.platform.Platform.{Platform}
+use Rattle.tlm_model.specs.declared.ask.Ask.{Ask}
+use Rattle.tlm_model.specs.declared.ask.Ask.TheVariants.{Access as AnAccess, DebugRead as ADebugRead}
+use Rattle.tlm_model.specs.Actions.{asks_of}
 use Rattle.tlm_model.specs.Route.{Walk}
 use Rattle.tlm_model.specs.Route as model
 use Rattle.traffic_script.specs.declared.piece.Piece.{Piece}
@@ -23,8 +25,7 @@ use Rattle.route_plan.specs.Counted.{Counted, counted_in, counted_of, is_led_to}
 use Rattle.route_plan.specs.Counted.Counted.{Entries, Logged, Invalidations}
 use Rattle.route_plan.specs.Counts.{AreMore, capped, count_in, counts_of, kept_at, no_count, number_of}
 use Rattle.route_plan.specs.Paths.{once}
-use Rattle.route_plan.specs.Planned.{Ask, asks_of, leads_to}
-use Rattle.route_plan.specs.Planned.Ask.{AnAccess, ADebugRead}
+use Rattle.route_plan.specs.Planned.{leads_to}
 use Rattle.route_plan.specs.Routes.{route_by, route_seen}
 
 -- what is counted of operations, one after another
@@ -146,16 +147,7 @@ debug_le Logged p n m a k le = access_le Logged p n m a k le
 debug_le Invalidations p n m a k le = omega arith
 
 operation_le : (c : Counted) (p : Platform) (n m : ℕ) (x : Operation) → IsProper x → sum_by (counted_of c p n m) (asks_of x) ≤ 16384
-operation_le c p n m (Write a bytes enables width) h = omega (arith, access_le c p n m a (length bytes + length enables) (omega (arith, h.0.sized.few, h.0.enabled.few)))
-operation_le c p n m (Read a k enables width) h = omega (arith, access_le c p n m a (k + length enables) (omega (arith, h.sized.few, h.enabled.few)))
-operation_le c p n m (Ignore a) h = omega (arith, access_le c p n m a 0 (omega arith))
-operation_le c p n m (Debug a k) h = omega (arith, debug_le c p n m a k (omega (arith, h.1.few)))
-operation_le c p n m (Copy from to k) h = omega (arith, access_le c p n m from k (omega (arith, h.2.few)), access_le c p n m to k (omega (arith, h.2.few)))
-operation_le c p n m (Add a k) h = omega (arith, access_le c p n m a 4 (omega arith))
-operation_le c p n m (Wait time) h = omega arith
-operation_le c p n m Sync h = omega arith
-operation_le c p n m Fence h = omega arith
-operation_le c p n m (Invalidate a k) h = absurd h
+operation_le c p n m x h = grind (arith, common_steps, access_le, debug_le)
 
 total_le : (c : Counted) (p : Platform) (n m : ℕ) (xs : List Operation) → AllByRecursion IsProper xs → counted_in c p n m xs ≤ 16384 * length xs
 total_le c p n m [] h = omega arith

@@ -11,6 +11,9 @@ use Rattle.tlm_model.specs.declared.platform.InitiatorRow.{InitiatorRow}
 use Rattle.tlm_model.specs.declared.platform.MemoryRow.{MemoryRow}
 use Rattle.tlm_model.specs.declared.platform.Platform.{Platform}
 use Rattle.tlm_model.specs.declared.platform.Target.TheVariants.{Memory}
+use Rattle.tlm_model.specs.declared.ask.Ask.{Ask}
+use Rattle.tlm_model.specs.declared.ask.Ask.TheVariants.{Access as AnAccess, DebugRead as ADebugRead, Invalidation as AnInvalidation}
+use Rattle.tlm_model.specs.Actions.{asks_of}
 use Rattle.tlm_model.specs.Plan.{Plan, Initiator, initiators_from, initiators_of}
 use Rattle.route_plan.specs.declared.counts.Count.{Count}
 use Rattle.route_plan.specs.declared.shares.Share.{Share}
@@ -18,8 +21,7 @@ use Rattle.route_plan.specs.Counted.Counted.{Entries, Logged, Invalidations}
 use Rattle.route_plan.specs.Counted.{counted_in, counted_of, is_granted_at, is_granted_by, is_led_to, logged_share_at, logged_share_by, share_at, share_by}
 use Rattle.route_plan.specs.Counts.{count_in, counts_of}
 use Rattle.route_plan.specs.Paths.{has_path, once}
-use Rattle.route_plan.specs.Planned.{Ask, asks_in, asks_of, at_gates, at_memory, gates_by, invalidates, is_direct, is_routed_to, leads_to, logged_at, logged_share, share_of}
-use Rattle.route_plan.specs.Planned.Ask.{AnAccess, ADebugRead, AnInvalidation}
+use Rattle.route_plan.specs.Planned.{asks_in, at_gates, at_memory, gates_by, invalidates, is_direct, is_routed_to, leads_to, logged_at, logged_share, share_of}
 use Rattle.route_plan.specs.Routes.{row_walk}
 use Rattle.route_plan.specs.Shares.{gates_in, gates_of, initiator_shares, memory_shares, no_share, pair_share, script_shares, share_in, shares_by_initiator}
 use Rattle.route_plan.proofs.PathLemmas.{any-some, some-once}

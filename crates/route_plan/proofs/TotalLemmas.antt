@@ -11,7 +11,8 @@ use Rattle.platform_file.specs.declared.fault.PlatformCode.TheVariants.{TooManyE
 use Rattle.platform_file.specs.declared.fault.PlatformFault.{PlatformFault}
 use Rattle.platform_file.specs.declared.fault.PlatformFault.TheVariants as fault
 use Rattle.platform_file.specs.declared.place.Place.TheVariants as place
-use Rattle.platform_file.specs.Reading.{Fails, Refusal, refusal, rows_from, ◌>>=◌}
+use Rattle.platform_file.specs.Reading.{Fails, Refusal, refusal, rows_from}
+use Rattle.tlm_types.specs.Reading.{◌>>=◌}
 use Rattle.platform_file.proofs.ReadLemmas.{bind_ok, if_ok, rows_passed, unless_ok}
 use Rattle.tlm_types.specs.declared.words.ObjectNo.{ObjectNo}
 use Rattle.tlm_types.specs.declared.words.ObjectNo.TheVariants.{Memory, Hop, Pool}
@@ -20,11 +21,12 @@ use Rattle.tlm_model.specs.declared.platform.InitiatorRow.{InitiatorRow}
 use Rattle.tlm_model.specs.declared.platform.Platform.{Platform}
 use Rattle.tlm_model.specs.declared.platform.Style.{Style}
 use Rattle.tlm_model.specs.declared.platform.Style.TheVariants.{Blocking, Direct, FourPhase}
+use Rattle.tlm_model.specs.declared.ask.Ask.{Ask}
+use Rattle.tlm_model.specs.declared.ask.Ask.TheVariants.{Access as AnAccess, DebugRead as ADebugRead, Invalidation as AnInvalidation}
 use Rattle.tlm_model.specs.Plan.{Plan, Initiator, initiators_from, initiators_of}
 use Rattle.route_plan.specs.declared.shares.Share.{Share}
 use Rattle.route_plan.specs.Counted.{logged_share_at, logged_share_by, share_at, share_by}
-use Rattle.route_plan.specs.Planned.{Ask, asks_in, at_hop, at_pool, by_fourphase, logged_bytes, planned_at, share_of}
-use Rattle.route_plan.specs.Planned.Ask.{AnAccess, ADebugRead, AnInvalidation}
+use Rattle.route_plan.specs.Planned.{asks_in, at_hop, at_pool, by_fourphase, logged_bytes, planned_at, share_of}
 use Rattle.route_plan.specs.Shape.{IsShape, checked_acyclic, checked_depth, checked_memory_named, checked_router_named, checked_shape, checked_single, checked_style, checked_windowed, style_is_built}
 use Rattle.route_plan.specs.Shares.{checked_shares, entries_in, logged_in, memory_shares, pair_share, shares_of, with_scripts}
 use Rattle.route_plan.specs.Valid.{IsObject, checked_plan, hop_count, logged_in_all, most_entries, most_logged, planned, planned_in_all}

@@ -7,9 +7,11 @@ use Rattle.tlm_model.specs.declared.platform.InitiatorRow.{InitiatorRow}
 use Rattle.tlm_model.specs.declared.platform.Platform.{Platform}
 use Rattle.tlm_model.specs.Plan.{Plan, Initiator, initiators_of}
 use Rattle.tlm_model.specs.declared.platform.Target.TheVariants.{Memory}
+use Rattle.tlm_model.specs.declared.ask.Ask.{Ask}
+use Rattle.tlm_model.specs.declared.ask.Ask.TheVariants.{Access as AnAccess, DebugRead as ADebugRead, Invalidation as AnInvalidation}
+use Rattle.tlm_model.specs.Actions.{asks_of}
 use Rattle.route_plan.specs.Paths.{has_path, once}
-use Rattle.route_plan.specs.Planned.{Ask, asks_of, leads_to, is_direct, share_of, logged_share}
-use Rattle.route_plan.specs.Planned.Ask.{AnAccess, ADebugRead, AnInvalidation}
+use Rattle.route_plan.specs.Planned.{leads_to, is_direct, share_of, logged_share}
 use Rattle.route_plan.specs.Routes.{bound_walk}
 
 -- what is counted at a memory: the entries that accesses, debug reads and invalidations add to its log, the bytes that

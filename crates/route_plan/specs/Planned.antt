@@ -1,36 +1,18 @@
 -- How many entries the scripts of a plan may add to each object, and how many bytes they log.
-use Rattle.std.specs.Prelude.{ℕ, ◌+◌, ◌*◌, Bool, true, false, ◌&&◌, ◌==◌, List, [], ◌∷◌, length, sum_by, count_by, Option, Some, None, slice_get, if◌then◌else◌}
+use Rattle.std.specs.Prelude.{ℕ, ◌+◌, ◌*◌, Bool, true, false, ◌&&◌, ◌==◌, List, length, sum_by, count_by, Option, Some, None, slice_get, if◌then◌else◌}
 use Rattle.std.specs.List.{flat_map, list_any}
 use Rattle.tlm_types.specs.declared.words.ObjectNo.{ObjectNo}
 use Rattle.tlm_types.specs.declared.words.ObjectNo.TheVariants.{Memory as memory_object, Hop, Pool}
-use Rattle.tlm_model.specs.declared.operation.Operation.{Operation}
-use Rattle.tlm_model.specs.declared.operation.Operation.TheVariants.{Write, Read, Ignore, Debug, Copy, Add, Wait, Sync, Fence, Invalidate}
 use Rattle.tlm_model.specs.declared.platform.MemoryRow.{MemoryRow}
 use Rattle.tlm_model.specs.declared.platform.Style.{Style}
 use Rattle.tlm_model.specs.declared.platform.Style.TheVariants.{Blocking, Direct, FourPhase}
 use Rattle.tlm_model.specs.declared.platform.Target.TheVariants.{Memory}
+use Rattle.tlm_model.specs.declared.ask.Ask.{Ask}
+use Rattle.tlm_model.specs.declared.ask.Ask.TheVariants.{Access as AnAccess, DebugRead as ADebugRead, Invalidation as AnInvalidation}
+use Rattle.tlm_model.specs.Actions.{asks_of}
 use Rattle.tlm_model.specs.Plan.{Plan, Initiator, initiators_of}
 use Rattle.tlm_model.specs.Route.{Route, route_of, hops_of}
 use Rattle.route_plan.specs.Paths.{has_path, once}
-
--- what an operation asks for, whatever is answered: an access or a debug read with the bytes that it logs
--- (its length and its enables), or an invalidation
-pub data Ask : Type 0 where
-  AnAccess : ℕ → ℕ → Ask
-  ADebugRead : ℕ → ℕ → Ask
-  AnInvalidation : ℕ → Ask
-
-abbrev pub asks_of : Operation → List Ask
-asks_of (Write a bytes enables width) = AnAccess a (length bytes + length enables) ∷ []
-asks_of (Read a n enables width) = AnAccess a (n + length enables) ∷ []
-asks_of (Ignore a) = AnAccess a 0 ∷ []
-asks_of (Debug a n) = ADebugRead a n ∷ []
-asks_of (Copy from to n) = AnAccess from n ∷ AnAccess to n ∷ []
-asks_of (Add a n) = AnAccess a 4 ∷ AnAccess a 4 ∷ []
-asks_of (Wait t) = []
-asks_of Sync = []
-asks_of Fence = []
-asks_of (Invalidate a n) = AnInvalidation a ∷ []
 
 abbrev pub asks_in : Initiator → List Ask
 asks_in i = flat_map asks_of i.script

@@ -4,7 +4,8 @@ use Rattle.std.specs.List.{list_any, range_with_len}
 use Rattle.platform_file.specs.declared.fault.PlatformCode.TheVariants.{Unbound, Cycle, TooDeep, TwoPaths, NotBuilt}
 use Rattle.platform_file.specs.declared.place.Place.TheVariants as place
 use Rattle.platform_file.specs.Bounded.{IsBounded}
-use Rattle.platform_file.specs.Reading.{Refusal, refusal, ◌>>=◌, rows_from}
+use Rattle.platform_file.specs.Reading.{Refusal, refusal, rows_from}
+use Rattle.tlm_types.specs.Reading.{◌>>=◌}
 use Rattle.tlm_model.specs.declared.platform.InitiatorRow.{InitiatorRow}
 use Rattle.tlm_model.specs.declared.platform.MemoryRow.{MemoryRow}
 use Rattle.tlm_model.specs.declared.platform.Platform.{Platform}

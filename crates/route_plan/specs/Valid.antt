@@ -3,7 +3,8 @@ use Rattle.std.specs.Prelude.{ℕ, ◌≡◌, ◌+◌, ◌<◌, length, sum_by, 
 use Rattle.std.specs.List.{range_with_len, AllByRecursion}
 use Rattle.platform_file.specs.declared.fault.PlatformCode.TheVariants.{TooManyEntries, TooMuchData}
 use Rattle.platform_file.specs.declared.place.Place.TheVariants as place
-use Rattle.platform_file.specs.Reading.{Refusal, refusal, ◌>>=◌}
+use Rattle.platform_file.specs.Reading.{Refusal, refusal}
+use Rattle.tlm_types.specs.Reading.{◌>>=◌}
 use Rattle.tlm_types.specs.declared.words.ObjectNo.{ObjectNo}
 use Rattle.tlm_types.specs.declared.words.ObjectNo.TheVariants.{Memory, Hop, Pool}
 use Rattle.tlm_model.specs.declared.platform.Platform.{Platform}

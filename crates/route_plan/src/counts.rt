@@ -4,15 +4,15 @@ ghost use Rattle.std.specs.List.{AllByRecursion};
 ghost use Rattle.route_plan.specs.Counted.{Counted, is_led_to, counted_of, counted_in};
 ghost use Rattle.route_plan.specs.Counts.{AreMore, capped, counts_of, number_of};
 ghost use Rattle.route_plan.specs.Paths.{once};
-ghost use Rattle.route_plan.specs.Planned.{asks_of};
-ghost use Rattle.route_plan.specs.Planned.Ask.{AnAccess, ADebugRead, AnInvalidation};
+ghost use Rattle.tlm_model.specs.declared.ask.Ask.TheVariants.{Access as AnAccess, DebugRead as ADebugRead, Invalidation as AnInvalidation};
+ghost use Rattle.tlm_model.specs.Actions.{asks_of};
 ghost use Rattle.traffic_script.specs.Pieces.{written_out};
 ghost use Rattle.traffic_script.specs.Proper.{IsProper, AreProper};
 
 use crate::routes::Routes;
 use std::alloc::{AllocError, Global};
-use tlm_model::Operation;
-use traffic_script::{Piece, Script};
+use tlm_model::{Ask, Asks, Operation};
+use traffic_script::{Piece, Script, asks_of};
 
 /// What is counted at a memory: the entries that accesses, debug reads and invalidations routed there
 /// add to its log, the bytes that accesses and debug reads log, and the invalidations. Sums stand
@@ -94,46 +94,29 @@ impl<'p> Tally<'p> {
         self.add(counts, address, invalidation, times);
     }
 
+    fn add_ask(&self, counts: &mut [Count], ask: Ask, times: u64)
+        ensures { AreMore (λ c m. counted_of c self.now.routes.now self.now.initiator m ask * times) counts.old counts.new }
+    {
+        match ask {
+            Ask::Access { address, logged } => self.add_accesses(counts, address, logged, times),
+            Ask::DebugRead { address, logged } => {
+                self.add_debug_reads(counts, address, logged, times);
+            }
+            Ask::Invalidation { address } => self.add_invalidations(counts, address, times),
+        }
+    }
+
     fn add_operation(&self, counts: &mut [Count], operation: &Operation, times: u32)
         requires { IsProper operation.now }
         ensures { AreMore (λ c m. sum_by (counted_of c self.now.routes.now self.now.initiator m) (asks_of operation.now) * times) counts.old counts.new }
     {
         let times = times as u64;
-        match operation {
-            Operation::Write {
-                address,
-                bytes,
-                enables,
-                width: _,
-            } => {
-                let logged = bytes.as_slice().len() as u64 + enables.as_slice().len() as u64;
-                self.add_accesses(counts, *address, logged, times);
-            }
-            Operation::Read {
-                address,
-                length,
-                enables,
-                width: _,
-            } => {
-                let logged = *length + enables.as_slice().len() as u64;
-                self.add_accesses(counts, *address, logged, times);
-            }
-            Operation::Ignore { address } => self.add_accesses(counts, *address, 0, times),
-            Operation::Debug { address, length } => {
-                self.add_debug_reads(counts, *address, *length, times);
-            }
-            Operation::Copy { from, to, length } => {
-                self.add_accesses(counts, *from, *length, times);
-                self.add_accesses(counts, *to, *length, times);
-            }
-            Operation::Add { address, number: _ } => {
-                self.add_accesses(counts, *address, 4, 2 * times);
-            }
-            Operation::Wait { time: _ } => {}
-            Operation::Sync => {}
-            Operation::Fence => {}
-            Operation::Invalidate { address, length: _ } => {
-                self.add_invalidations(counts, *address, times);
+        match asks_of(operation) {
+            Asks::Nothing => {}
+            Asks::One(ask) => self.add_ask(counts, ask, times),
+            Asks::Two(first, second) => {
+                self.add_ask(counts, first, times);
+                self.add_ask(counts, second, times);
             }
         }
     }

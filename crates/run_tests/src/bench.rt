@@ -1,29 +1,24 @@
 // Plans.
-ghost use Rattle.std.specs.Prelude.{◌≡◌, IfOk, length};
-
 use platform_file::read_platform;
 use route_plan::{Plan, plan, shape};
 use std::alloc::Global;
 use std::process::Abort;
-use std::test::Fail;
 use traffic_script::{Script, read_script};
 
-/// The plan of this platform with these scripts, one for each initiator.
-pub(crate) fn plan_of(
-    rt: &impl Abort,
-    alloc: Global,
-    platform: &str,
-    scripts: &[&str],
-) -> Result<Plan, Fail>
-    ensures { IfOk result (λ plan. length plan.platform.initiators ≡ length scripts.now) }
-{
-    let mut read: Vec<Script> = Vec::new(alloc);
-    for script in scripts {
-        read.push(read_script(alloc, script.as_bytes())?)?;
+fn scripts_of(rt: &impl Abort, alloc: Global, texts: &[&str]) -> Vec<Script> {
+    let mut scripts = Vec::new(alloc);
+    for text in texts {
+        let script = read_script(alloc, text.as_bytes()).expect(rt, "a script");
+        scripts.push(script).expect(rt, "room");
     }
-    let shape = shape(alloc, &read_platform(alloc, platform.as_bytes())?)?;
-    assert_eq!(rt; read.len(), shape.platform().initiators.as_slice().len());
-    let plan = plan(alloc, shape, read.as_slice())?;
-    assert_eq!(rt; plan.platform().initiators.as_slice().len(), scripts.len());
-    Ok(plan)
+    scripts
+}
+
+/// The plan of this platform with these scripts, one for each initiator.
+pub(crate) fn plan_of(rt: &impl Abort, alloc: Global, platform: &str, scripts: &[&str]) -> Plan {
+    let scripts = scripts_of(rt, alloc, scripts);
+    let platform = read_platform(alloc, platform.as_bytes()).expect(rt, "a platform");
+    let shape = shape(alloc, &platform).expect(rt, "a shape");
+    assert!(rt; scripts.len() == shape.platform().initiators.as_slice().len());
+    plan(alloc, shape, scripts.as_slice()).expect(rt, "a plan")
 }

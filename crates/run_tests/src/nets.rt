@@ -1,5 +1,5 @@
 // Nets that were just built.
-ghost use Rattle.std.specs.Prelude.{◌≡◌, ◌<◌, length};
+ghost use Rattle.std.specs.Prelude.{◌≡◌};
 ghost use Rattle.plat_build.specs.Objects.{frame_of};
 
 use crate::bench::plan_of;
@@ -10,8 +10,7 @@ use std::alloc::Global;
 use std::marker::Brand;
 use std::process::Abort;
 use std::sync::Wait;
-use std::test::Fail;
-use tlm_types::{Response, TxnId};
+use tlm_types::{Memory, Response, TxnId};
 
 /// One initiator before a router of 5 ps with two memories of 10 and 20 ps; nothing is at 0x200.
 const BUS: &str = "version = 1\n\
@@ -25,32 +24,33 @@ const BUS: &str = "version = 1\n\
 /// A write of two bytes and a read of three at the first memory, and a debug read at the second.
 const SCRIPT: &str = "write 0x0 aabb\nread 0x0 3\ndebug 0x104 4\n";
 
-// Makes a debug read of what the initiator starts with, where it has the ticket. The call picks N.
+// The initiator's debug read of four bytes, which pays where it has a route: what it answers, and how many
+// tickets are then left for the second memory. The call picks N.
 fn debug_read<N: Naming<Plan, TlmLaw>, R: Wait + Abort>(
     rt: &R,
     alloc: Global,
     plan: &Plan,
     opened: Opened,
     address: u64,
-) -> Result<(Response, u64), Fail>
+) -> (Response, u64)
     requires history { (opened.table ≡ N.table) × (opened.frame ≡ N.frame) }
     requires tickets { opened.tokens ≡ N.tokens }
     requires plan { plan.now ≡ N.frame.world }
-    requires initiator { 0 < length plan.now.platform.initiators }
 {
+    assert!(rt; plan.platform().initiators.as_slice().len() == 1);
     let Built {
         net,
         mut kept,
         seats: _,
-    } = build::<N>(alloc, opened, plan)?;
+    } = build::<N>(alloc, opened, plan).expect(rt, "a net");
     let Start {
         engine: _,
         mut payload,
         note,
         mut wallet,
     } = kept.start(0);
-    assert_eq!(rt; (wallet.left(0), wallet.bytes(0)), (2, 5));
-    assert_eq!(rt; (wallet.left(1), wallet.bytes(1)), (1, 4));
+    assert!(rt; wallet.left(0) == 2 && wallet.bytes(0) == 5);
+    assert!(rt; wallet.left(1) == 1 && wallet.bytes(1) == 4);
     payload.set_read(address, 4, 4);
     if let Some(route) = net.plan().route(0, payload.address()) {
         assert!(rt; wallet.left(route.memory) > 0);
@@ -61,26 +61,27 @@ fn debug_read<N: Naming<Plan, TlmLaw>, R: Wait + Abort>(
         seq: 0,
     };
     let carried = net.debug(rt, 0, payload, note, &mut wallet, txn, 7);
-    assert_eq!(rt; carried.at, 7);
-    Ok((carried.payload.status(), wallet.left(1)))
+    assert!(rt; carried.at == 7);
+    (carried.payload.status(), wallet.left(1))
+}
+
+// The same of a net that was just built.
+fn debug_at<R: Wait + Abort>(rt: &R, alloc: Global, address: u64) -> (Response, u64) {
+    let plan = plan_of(rt, alloc, BUS, &[SCRIPT]);
+    let opened = Opened::new(alloc, &plan).expect(rt, "a history");
+    debug_read::<Brand, R>(rt, alloc, &plan, opened, address)
 }
 
 #[test]
-fn tickets_are_handed_out_and_spent(rt: HostRuntime) -> Result<(), Fail> {
-    let plan = plan_of(&rt, rt.alloc(), BUS, &[SCRIPT])?;
-    let opened = Opened::new(rt.alloc(), &plan)?;
-    let read = debug_read::<Brand, HostRuntime>(&rt, rt.alloc(), &plan, opened, 0x104)?;
-    assert_eq!(rt; read, (Response::Ok, 0));
-    Ok(())
+fn tickets_are_handed_out_and_spent(rt: HostRuntime) {
+    let (status, left) = debug_at(&rt, rt.alloc(), 0x104);
+    assert!(rt; status == Response::Ok && left == 0);
 }
 
 #[test]
-fn debug_reads_without_a_route_spend_no_ticket(rt: HostRuntime) -> Result<(), Fail> {
-    let plan = plan_of(&rt, rt.alloc(), BUS, &[SCRIPT])?;
-    let opened = Opened::new(rt.alloc(), &plan)?;
-    let read = debug_read::<Brand, HostRuntime>(&rt, rt.alloc(), &plan, opened, 0x200)?;
-    assert_eq!(rt; read, (Response::AddressError, 1));
-    Ok(())
+fn debug_reads_without_a_route_spend_no_ticket(rt: HostRuntime) {
+    let (status, left) = debug_at(&rt, rt.alloc(), 0x200);
+    assert!(rt; status == Response::AddressError && left == 1);
 }
 
 // How many entries the history of a new net has. The call picks N.
@@ -89,7 +90,7 @@ fn entries_of_new<N: Naming<Plan, TlmLaw>, R: Wait>(
     alloc: Global,
     plan: &Plan,
     opened: Opened,
-) -> Result<u64, Fail>
+) -> Result<u64, Memory>
     requires history { (opened.table ≡ N.table) × (opened.frame ≡ N.frame) }
     requires tickets { opened.tokens ≡ N.tokens }
     requires frame { N.frame ≡ frame_of plan.now }
@@ -99,10 +100,9 @@ fn entries_of_new<N: Naming<Plan, TlmLaw>, R: Wait>(
 }
 
 #[test]
-fn history_of_a_new_net_is_empty(rt: HostRuntime) -> Result<(), Fail> {
-    let plan = plan_of(&rt, rt.alloc(), BUS, &[SCRIPT])?;
-    let opened = Opened::new(rt.alloc(), &plan)?;
-    let entries = entries_of_new::<Brand, HostRuntime>(&rt, rt.alloc(), &plan, opened)?;
-    assert_eq!(rt; entries, 0);
-    Ok(())
+fn history_of_a_new_net_is_empty(rt: HostRuntime) {
+    let plan = plan_of(&rt, rt.alloc(), BUS, &[SCRIPT]);
+    let opened = Opened::new(rt.alloc(), &plan).expect(&rt, "a history");
+    let entries = entries_of_new::<Brand, HostRuntime>(&rt, rt.alloc(), &plan, opened);
+    assert!(rt; entries == Ok(0));
 }

@@ -1,15 +1,15 @@
 // Runs by worker threads.
 use crate::bench::plan_of;
 use crate::paces::{Holding, InTurn, Watching};
-use outside::NoPace;
-use plat_core::MergedLog;
+use outside::{NoPace, Pace};
 use plat_run::run_plan;
+use route_plan::Plan;
+use run_outcome::{MergedLog, Outcome};
 use std::alloc::Global;
 use std::process::Abort;
 use std::sync::Wait;
-use std::test::Fail;
 use std::thread::Threads;
-use tlm_types::{Memory, TxnId};
+use tlm_types::TxnId;
 
 /// Two initiators before a router of 5 ps with two memories of 10 and 20 ps, with a quantum of 50 ps.
 const BUS: &str = "version = 1\nquantum = 50\n\
@@ -27,25 +27,41 @@ const ONE: &str = "write 0x0 aabb\ncopy 0x0 0x100 2\nread 0x200 2\ndebug 0x100 2
 /// An addition at a place of its own, which is two entries, a wait and a sync.
 const TWO: &str = "add 0x8 1\nwait 40\nsync\n";
 
+// What came of a run by so many workers, which is complete; the sealed history has just its entries.
+fn run_of<P: Pace + Sync, R: Threads + Wait + Abort + Sync>(
+    rt: &R,
+    alloc: Global,
+    plan: &Plan,
+    workers: u32,
+    pace: &P,
+) -> Outcome {
+    let (outcome, sealed) = run_plan(rt, alloc, plan, workers, pace).expect(rt, "a run");
+    assert!(rt; outcome.complete);
+    assert!(rt; sealed.len() == outcome.history.len());
+    outcome
+}
+
+// There are six entries. Two initiators have ended, of which the first took five numbers and the second two,
+// and the far of two memories has the copy.
+fn expect_bus(rt: &impl Abort, outcome: &Outcome) {
+    assert!(rt; outcome.history.len() == 6);
+    let [one, two] = outcome.ends.as_slice() else {
+        panic!(rt; "not two ends");
+    };
+    assert!(rt; one.transactions == 5 && two.transactions == 2);
+    let [_, far] = outcome.stores.as_slice() else {
+        panic!(rt; "not two memories");
+    };
+    assert!(rt; far.as_slice().starts_with(&[0xaa, 0xbb]));
+}
+
 #[test]
-fn workers_run_two_initiators(rt: HostRuntime) -> Result<(), Fail> {
-    let plan = plan_of(&rt, rt.alloc(), BUS, &[ONE, TWO])?;
+fn workers_run_two_initiators(rt: HostRuntime) {
+    let plan = plan_of(&rt, rt.alloc(), BUS, &[ONE, TWO]);
     for workers in 1..4 {
-        let (outcome, sealed) = run_plan(&rt, rt.alloc(), &plan, workers, &NoPace)?;
-        assert!(rt; outcome.complete);
-        assert_eq!(rt; outcome.history.len(), 6);
-        assert_eq!(rt; sealed.len(), 6);
-        let ends = outcome.ends.as_slice();
-        assert_eq!(rt; ends.len(), 2);
-        assert_eq!(rt; (ends[0].transactions, ends[1].transactions), (5, 2));
-        let stores = outcome.stores.as_slice();
-        assert_eq!(rt; stores.len(), 2);
-        assert_eq!(rt;
-            stores[1].as_slice().get(..2),
-            Some([0xaa, 0xbb].as_slice())
-        );
+        let outcome = run_of(&rt, rt.alloc(), &plan, workers, &NoPace);
+        expect_bus(&rt, &outcome);
     }
-    Ok(())
 }
 
 /// A script with every operation, and with each access and debug read once more where nothing is.
@@ -60,14 +76,11 @@ const ACCESSES: u64 = 4 + 4 + 4 + 6 + 2;
 
 // By one worker, the pace is told of the two initiators in turn, and of each access and debug read.
 #[test]
-fn the_pace_is_told_of_every_access(rt: HostRuntime) -> Result<(), Fail> {
-    let plan = plan_of(&rt, rt.alloc(), BUS, &[EVERYTHING, EVERYTHING])?;
+fn the_pace_is_told_of_every_access(rt: HostRuntime) {
+    let plan = plan_of(&rt, rt.alloc(), BUS, &[EVERYTHING, EVERYTHING]);
     let pace = InTurn::of(2);
-    let (outcome, _) = run_plan(&rt, rt.alloc(), &plan, 1, &pace)?;
-    assert!(rt; outcome.complete);
-    assert_eq!(rt; pace.told(), 2 * ACCESSES);
-    assert_eq!(rt; pace.wrong(), 0);
-    Ok(())
+    let _ = run_of(&rt, rt.alloc(), &plan, 1, &pace);
+    assert!(rt; pace.told() == 2 * ACCESSES && pace.wrong() == 0);
 }
 
 /// Two initiators on one memory that run far ahead of one another.
@@ -84,20 +97,14 @@ const FOUR_AHEAD: &str = "version = 1\nquantum = 1000000\n\
     [[initiator]]\nname = 'four'\nstyle = 'blocking'\nscript = 'd'\nbind = 'ram'\n\
     [[memory]]\nname = 'ram'\nsize = 16\n";
 
-// Where the first access of an initiator stands in a history.
-fn first_of(alloc: Global, history: &MergedLog, initiator: u32) -> Result<Option<u64>, Memory> {
-    let mut reader = history.reader(alloc)?;
-    for position in 0..history.len() {
-        if position >= reader.len() {
-            break;
-        }
-        let (log, place) = reader.at(position);
-        let txn = log.head(place).txn;
-        if txn == (TxnId { initiator, seq: 0 }) {
-            return Ok(Some(position));
-        }
-    }
-    Ok(None)
+// The initiator of the entry at position 0, which is that one's first access.
+fn first_of(rt: &impl Abort, alloc: Global, history: &MergedLog) -> u32 {
+    let mut reader = history.reader(alloc).expect(rt, "a reader");
+    assert!(rt; reader.len() > 0);
+    let (log, place) = reader.at(0);
+    let TxnId { initiator, seq } = log.head(place).txn;
+    assert!(rt; seq == 0);
+    initiator
 }
 
 // Runs initiators that make two accesses each, by as many workers. All but one are held until that one
@@ -108,36 +115,31 @@ fn expect_first<R: Threads + Wait + Abort + Sync>(
     platform: &str,
     scripts: &[&str],
     free: u32,
-) -> Result<(), Fail> {
-    let plan = plan_of(rt, alloc, platform, scripts)?;
+) {
+    let plan = plan_of(rt, alloc, platform, scripts);
+    assert!(rt; scripts.len() <= 4);
     let count = scripts.len() as u32;
     let pace = Holding::all_but(free);
-    let (outcome, _) = run_plan(rt, alloc, &plan, count, &pace)?;
-    assert_eq!(rt; pace.gave_up(), 0);
-    assert_eq!(rt; outcome.history.len(), 2 * u64::from(count));
-    for initiator in 0..count {
-        let first = first_of(alloc, &outcome.history, initiator)?.ok_or("no access")?;
-        assert_eq!(rt; first == 0, initiator == free);
-    }
-    Ok(())
+    let outcome = run_of(rt, alloc, &plan, count, &pace);
+    assert!(rt; pace.gave_up() == 0);
+    assert!(rt; outcome.history.len() == 2 * u64::from(count));
+    assert!(rt; first_of(rt, alloc, &outcome.history) == free);
 }
 
 // With two workers, each initiator can be held while the other one goes on.
 #[test]
-fn two_at_once(rt: HostRuntime) -> Result<(), Fail> {
+fn two_at_once(rt: HostRuntime) {
     let one = "write 0x0 aa\nfence\nread 0x1 1\n";
     let two = "write 0x1 bb\nfence\nread 0x0 1\n";
-    for free in [1, 0] {
-        expect_first(&rt, rt.alloc(), TWO_AHEAD, &[one, two], free)?;
-    }
-    Ok(())
+    expect_first(&rt, rt.alloc(), TWO_AHEAD, &[one, two], 1);
+    expect_first(&rt, rt.alloc(), TWO_AHEAD, &[one, two], 0);
 }
 
 // With four workers, three initiators can be held while the fourth goes on.
 #[test]
-fn four_at_once(rt: HostRuntime) -> Result<(), Fail> {
+fn four_at_once(rt: HostRuntime) {
     let script = "read 0x0 1\nread 0x0 1\n";
-    expect_first(&rt, rt.alloc(), FOUR_AHEAD, &[script; 4], 3)
+    expect_first(&rt, rt.alloc(), FOUR_AHEAD, &[script; 4], 3);
 }
 
 /// Two initiators on one memory with a sync after each access.
@@ -161,35 +163,36 @@ fn expect_held<R: Threads + Wait + Abort + Sync>(
     alloc: Global,
     platform: &str,
     scripts: &[&str],
-) -> Result<(), Fail> {
-    let plan = plan_of(rt, alloc, platform, scripts)?;
+) {
+    let plan = plan_of(rt, alloc, platform, scripts);
+    assert!(rt; scripts.len() <= 4);
     let count = scripts.len() as u32;
     let others = u64::from(count.saturating_sub(1));
     let pace = Watching::others(others);
-    let (outcome, _) = run_plan(rt, alloc, &plan, count, &pace)?;
+    let outcome = run_of(rt, alloc, &plan, count, &pace);
     assert!(rt; pace.released());
-    assert_eq!(rt; pace.early(), 0);
-    assert_eq!(rt; pace.second(), others);
-    assert_eq!(rt; outcome.history.len(), 4 * u64::from(count));
-    Ok(())
+    assert!(rt; pace.early() == 0 && pace.second() == others);
+    assert!(rt; outcome.history.len() == 4 * u64::from(count));
 }
 
 #[test]
-fn rounds_hold(rt: HostRuntime) -> Result<(), Fail> {
-    expect_held(&rt, rt.alloc(), TWO_IN_STEP, &[FOUR_READS; 2])?;
-    expect_held(&rt, rt.alloc(), THREE_IN_STEP, &[FOUR_READS; 3])
+fn rounds_hold(rt: HostRuntime) {
+    expect_held(&rt, rt.alloc(), TWO_IN_STEP, &[FOUR_READS; 2]);
+    expect_held(&rt, rt.alloc(), THREE_IN_STEP, &[FOUR_READS; 3]);
+}
+
+// Runs two initiators in step, which make four accesses in all, by one worker and by two.
+fn expect_four<R: Threads + Wait + Abort + Sync>(rt: &R, alloc: Global, scripts: &[&str]) {
+    let plan = plan_of(rt, alloc, TWO_IN_STEP, scripts);
+    for workers in 1..3 {
+        let outcome = run_of(rt, alloc, &plan, workers, &NoPace);
+        assert!(rt; outcome.history.len() == 4);
+    }
 }
 
 // An initiator that has nothing to do holds nobody back.
 #[test]
-fn who_has_finished_is_not_waited_for(rt: HostRuntime) -> Result<(), Fail> {
-    for scripts in [["", FOUR_READS], [FOUR_READS, ""]] {
-        let plan = plan_of(&rt, rt.alloc(), TWO_IN_STEP, &scripts)?;
-        for workers in 1..3 {
-            let (outcome, sealed) = run_plan(&rt, rt.alloc(), &plan, workers, &NoPace)?;
-            assert!(rt; outcome.complete);
-            assert_eq!(rt; sealed.len(), 4);
-        }
-    }
-    Ok(())
+fn who_has_finished_is_not_waited_for(rt: HostRuntime) {
+    expect_four(&rt, rt.alloc(), &["", FOUR_READS]);
+    expect_four(&rt, rt.alloc(), &[FOUR_READS, ""]);
 }

@@ -16,7 +16,6 @@ use std::alloc::Global;
 use std::marker::Brand;
 use std::process::Abort;
 use std::sync::Wait;
-use std::test::Fail;
 use std::thread::{Threads, join};
 use tlm_types::{Ps, Response, TxnId};
 use token_book::Wallet;
@@ -138,76 +137,61 @@ fn look<N: Naming<Plan, TlmLaw>, R: Wait + Abort>(rt: &R, net: &Net<N>, who: u32
     }
 }
 
-// A write of two bytes.
-fn write<N: Naming<Plan, TlmLaw>, R: Wait + Abort>(
+// The last access or debug read ended so, and at this time.
+fn has_ended(bag: &Bag, status: Response, at: Ps) -> bool {
+    bag.payload.status() == status && bag.at == at
+}
+
+// A write of two bytes, and a read of what was written.
+fn write_and_read<N: Naming<Plan, TlmLaw>, R: Wait + Abort>(
     rt: &R,
     net: &Net<N>,
     who: u32,
     mut bag: Bag,
-    address: u64,
 ) -> Bag
     requires who { who < length net.now.platform.initiators }
     requires bag { IsBag N.table N.tokens bag.payload bag.note bag.wallet }
     ensures { IsBag N.table N.tokens result.payload result.note result.wallet }
 {
-    bag.payload.set_write(address, &[0xaa, 0xbb], 2);
-    access::<N, R>(rt, net, who, bag)
-}
-
-// A read of two bytes.
-fn read<N: Naming<Plan, TlmLaw>, R: Wait + Abort>(
-    rt: &R,
-    net: &Net<N>,
-    who: u32,
-    mut bag: Bag,
-    address: u64,
-) -> Bag
-    requires who { who < length net.now.platform.initiators }
-    requires bag { IsBag N.table N.tokens bag.payload bag.note bag.wallet }
-    ensures { IsBag N.table N.tokens result.payload result.note result.wallet }
-{
-    bag.payload.set_read(address, 2, 2);
-    access::<N, R>(rt, net, who, bag)
-}
-
-// A debug read of two bytes.
-fn debug<N: Naming<Plan, TlmLaw>, R: Wait + Abort>(
-    rt: &R,
-    net: &Net<N>,
-    who: u32,
-    mut bag: Bag,
-    address: u64,
-) -> Bag
-    requires who { who < length net.now.platform.initiators }
-    requires bag { IsBag N.table N.tokens bag.payload bag.note bag.wallet }
-    ensures { IsBag N.table N.tokens result.payload result.note result.wallet }
-{
-    bag.payload.set_read(address, 2, 2);
-    look::<N, R>(rt, net, who, bag)
-}
-
-// A write, a read of what was written, a debug read from its second byte on, and a read of what no window
-// has.
-fn tour<N: Naming<Plan, TlmLaw>, R: Wait + Abort>(rt: &R, net: &Net<N>, who: u32, bag: Bag) -> Bag
-    requires who { who < length net.now.platform.initiators }
-    requires bag { IsBag N.table N.tokens bag.payload bag.note bag.wallet }
-    ensures { IsBag N.table N.tokens result.payload result.note result.wallet }
-{
-    let bag = write::<N, R>(rt, net, who, bag, 0x104);
-    assert_eq!(rt; (bag.payload.status(), bag.at), (Response::Ok, 25));
-    let bag = read::<N, R>(rt, net, who, bag, 0x104);
-    assert_eq!(rt; (bag.payload.status(), bag.at), (Response::Ok, 50));
-    assert_eq!(rt; bag.payload.bytes(), [0xaa, 0xbb].as_slice());
-    let bag = debug::<N, R>(rt, net, who, bag, 0x105);
-    assert_eq!(rt; (bag.payload.status(), bag.at), (Response::Ok, 50));
-    assert_eq!(rt; bag.payload.bytes(), [0xbb, 0].as_slice());
-    let bag = read::<N, R>(rt, net, who, bag, 0x200);
-    assert_eq!(rt;
-        (bag.payload.status(), bag.at),
-        (Response::AddressError, 55)
-    );
-    assert_eq!(rt; (bag.wallet.left(0), bag.wallet.left(1)), (0, 0));
+    bag.payload.set_write(0x104, &[0xaa, 0xbb], 2);
+    let mut bag = access::<N, R>(rt, net, who, bag);
+    assert!(rt; has_ended(&bag, Response::Ok, 25));
+    bag.payload.set_read(0x104, 2, 2);
+    let bag = access::<N, R>(rt, net, who, bag);
+    assert!(rt; has_ended(&bag, Response::Ok, 50));
+    assert!(rt; bag.payload.bytes() == [0xaa, 0xbb].as_slice());
     bag
+}
+
+// A debug read from its second byte on, and a read of what no window has.
+fn look_and_miss<N: Naming<Plan, TlmLaw>, R: Wait + Abort>(
+    rt: &R,
+    net: &Net<N>,
+    who: u32,
+    mut bag: Bag,
+) -> Bag
+    requires who { who < length net.now.platform.initiators }
+    requires bag { IsBag N.table N.tokens bag.payload bag.note bag.wallet }
+    ensures { IsBag N.table N.tokens result.payload result.note result.wallet }
+{
+    bag.payload.set_read(0x105, 2, 2);
+    let mut bag = look::<N, R>(rt, net, who, bag);
+    assert!(rt; has_ended(&bag, Response::Ok, 50));
+    assert!(rt; bag.payload.bytes() == [0xbb, 0].as_slice());
+    bag.payload.set_read(0x200, 2, 2);
+    let bag = access::<N, R>(rt, net, who, bag);
+    assert!(rt; has_ended(&bag, Response::AddressError, 55));
+    bag
+}
+
+// All four. No ticket is left.
+fn tour<N: Naming<Plan, TlmLaw>, R: Wait + Abort>(rt: &R, net: &Net<N>, who: u32, bag: Bag)
+    requires who { who < length net.now.platform.initiators }
+    requires bag { IsBag N.table N.tokens bag.payload bag.note bag.wallet }
+{
+    let bag = write_and_read::<N, R>(rt, net, who, bag);
+    let bag = look_and_miss::<N, R>(rt, net, who, bag);
+    assert!(rt; bag.wallet.left(0) == 0 && bag.wallet.left(1) == 0);
 }
 
 // What an initiator of the two starts with.
@@ -237,20 +221,19 @@ fn alone<N: Naming<Plan, TlmLaw>, R: Wait + Abort>(
     alloc: Global,
     plan: &Plan,
     opened: Opened,
-) -> Result<(), Fail>
+)
     requires history { (opened.table ≡ N.table) × (opened.frame ≡ N.frame) }
     requires tickets { opened.tokens ≡ N.tokens }
     requires plan { plan.now ≡ N.frame.world }
-    requires two { length plan.now.platform.initiators ≡ 2 }
 {
+    assert!(rt; plan.platform().initiators.as_slice().len() == 2);
     let Built {
         net,
         mut kept,
         seats: _,
-    } = build::<N>(alloc, opened, plan)?;
+    } = build::<N>(alloc, opened, plan).expect(rt, "a net");
     let bag = bag_of::<N>(&mut kept, 0);
-    let _ = tour::<N, R>(rt, &net, 0, bag);
-    Ok(())
+    tour::<N, R>(rt, &net, 0, bag);
 }
 
 // Both go about at once, each on a thread of its own. The call picks N.
@@ -259,37 +242,36 @@ fn both<N: Naming<Plan, TlmLaw> + Send + Sync, R: Threads + Wait + Abort + Sync>
     alloc: Global,
     plan: &Plan,
     opened: Opened,
-) -> Result<(), Fail>
+)
     requires history { (opened.table ≡ N.table) × (opened.frame ≡ N.frame) }
     requires tickets { opened.tokens ≡ N.tokens }
     requires plan { plan.now ≡ N.frame.world }
-    requires two { length plan.now.platform.initiators ≡ 2 }
 {
+    assert!(rt; plan.platform().initiators.as_slice().len() == 2);
     let Built {
         net,
         mut kept,
         seats: _,
-    } = build::<N>(alloc, opened, plan)?;
+    } = build::<N>(alloc, opened, plan).expect(rt, "a net");
     let one = bag_of::<N>(&mut kept, 0);
     let two = bag_of::<N>(&mut kept, 1);
-    let _ = join(
+    join(
         rt,
         || tour::<N, R>(rt, &net, 0, one),
         || tour::<N, R>(rt, &net, 1, two),
     );
-    Ok(())
 }
 
 #[test]
-fn an_initiator_makes_its_accesses(rt: HostRuntime) -> Result<(), Fail> {
-    let plan = plan_of(&rt, rt.alloc(), BUS, &[SCRIPT, SCRIPT])?;
-    let opened = Opened::new(rt.alloc(), &plan)?;
-    alone::<Brand, HostRuntime>(&rt, rt.alloc(), &plan, opened)
+fn an_initiator_makes_its_accesses(rt: HostRuntime) {
+    let plan = plan_of(&rt, rt.alloc(), BUS, &[SCRIPT, SCRIPT]);
+    let opened = Opened::new(rt.alloc(), &plan).expect(&rt, "a history");
+    alone::<Brand, HostRuntime>(&rt, rt.alloc(), &plan, opened);
 }
 
 #[test]
-fn two_threads_transport_at_once(rt: HostRuntime) -> Result<(), Fail> {
-    let plan = plan_of(&rt, rt.alloc(), BUS, &[SCRIPT, SCRIPT])?;
-    let opened = Opened::new(rt.alloc(), &plan)?;
-    both::<Brand, HostRuntime>(&rt, rt.alloc(), &plan, opened)
+fn two_threads_transport_at_once(rt: HostRuntime) {
+    let plan = plan_of(&rt, rt.alloc(), BUS, &[SCRIPT, SCRIPT]);
+    let opened = Opened::new(rt.alloc(), &plan).expect(&rt, "a history");
+    both::<Brand, HostRuntime>(&rt, rt.alloc(), &plan, opened);
 }

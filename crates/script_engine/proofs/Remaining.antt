@@ -8,7 +8,7 @@ use Rattle.tlm_model.specs.declared.operation.Operation.{Operation}
 use Rattle.tlm_model.specs.Requests.{numbers_of, numbers_in}
 use Rattle.traffic_script.specs.Progress.{Progress, advanced}
 use Rattle.traffic_script.specs.Proper.{IsProper}
-use Rattle.generic_payload.specs.Payload.{is_enable}
+use Rattle.tlm_types.specs.Enables.{is_enable}
 
 drop_suc : {A : Type 0} (xs : List A) (n : ℕ) (x : A) → slice_get xs n ≡ Some x → drop n xs ≡ x ∷ drop (suc n) xs
 drop_suc [] zero x h = cc

@@ -64,16 +64,9 @@ ready_passed e free ready = passed_ready e.initiator e.seq e.due e.remaining e.e
 -- the write that is due after a read
 due_bytes : (seq : ℕ) (op : Operation) (got : List ℕ) → is_fenced (op_for seq op) ≡ true → IsProper op → length got ≡ length_of (op_for seq op) →
     HasBytes (due_after op got)
-due_bytes seq (Write a bytes enables width) got fenced proper whole = tt
-due_bytes seq (Read a m enables width) got fenced proper whole = tt
-due_bytes seq (Ignore a) got fenced proper whole = tt
-due_bytes seq (Debug a m) got fenced proper whole = tt
 due_bytes seq (Copy from to m) got fenced proper whole = (omega (arith, proper.2.some), omega (arith, proper.2.few))
 due_bytes seq (Add a m) got fenced proper whole = (omega arith, omega arith)
-due_bytes seq (Wait m) got fenced proper whole = tt
-due_bytes seq Sync got fenced proper whole = tt
-due_bytes seq Fence got fenced proper whole = tt
-due_bytes seq (Invalidate a m) got fenced proper whole = tt
+due_bytes seq op got fenced proper whole = tt
 
 -- one of two numbers is taken
 due_numbers : (seq : ℕ) (op : Operation) (got : List ℕ) → is_fenced (op_for seq op) ≡ true → numbers_of op ≡ 1 + numbers_due (due_after op got)

@@ -15,16 +15,9 @@ use Rattle.script_engine.specs.Laws.{BeginsAtTheStart, EndsWithNothingLeft, Fill
 syncs_passed : (p : Platform) (i : Initiator) (now t n s : ℕ) (b : Bool) (op : Operation) (ops : List Operation) →
     is_fenced (op_for s op) ≡ false →
     syncs_from p i now t (op ∷ ops) ≡ syncs_then p i now (time_after_op p i t (op_for s op)) (op_for s op) (passed_by (state n s None (op ∷ ops) b))
-syncs_passed p i now t n s b (Write a bytes enables width) ops h = refl
-syncs_passed p i now t n s b (Read a m enables width) ops h = refl
-syncs_passed p i now t n s b (Ignore a) ops h = refl
-syncs_passed p i now t n s b (Debug a m) ops h = refl
 syncs_passed p i now t n s b (Copy from to m) ops h = cc
 syncs_passed p i now t n s b (Add a m) ops h = cc
-syncs_passed p i now t n s b (Wait m) ops h = refl
-syncs_passed p i now t n s b Sync ops h = refl
-syncs_passed p i now t n s b Fence ops h = refl
-syncs_passed p i now t n s b (Invalidate a m) ops h = refl
+syncs_passed p i now t n s b op ops h = refl
 
 syncs_passed_at : (p : Platform) (i : Initiator) (now t n s : ℕ) (b : Bool) (due : Option Due) (ops : List Operation) →
     is_fenced (op_at s due ops) ≡ false → (op_at s due ops ≡ Done → ⊥) →

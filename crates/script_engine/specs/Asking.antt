@@ -34,21 +34,15 @@ access_stage_after true Ignore g = g + 2
 abbrev pub stage_after : Op → ℕ → ℕ
 stage_after (next.Access s a n command plain fenced) g = access_stage_after fenced command g
 stage_after (next.Debug s a n) g = g + 2
-stage_after (next.Wait n) g = g + 1
-stage_after next.Sync g = g + 1
-stage_after next.Fence g = g + 1
 stage_after (next.Invalidate s a n) g = g + 2
 stage_after next.Done g = g
+stage_after op g = g + 1
 
 -- the current time of a blocking or direct initiator after what is next
 abbrev pub time_after_op : Platform → Initiator → ℕ → Op → ℕ
 time_after_op p i t (next.Access s a n command plain fenced) = later t (latency_of p i a)
-time_after_op p i t (next.Debug s a n) = t
 time_after_op p i t (next.Wait n) = later t n
-time_after_op p i t next.Sync = t
-time_after_op p i t next.Fence = t
-time_after_op p i t (next.Invalidate s a n) = t
-time_after_op p i t next.Done = t
+time_after_op p i t op = t
 
 -- the request of what is next, with its payload, at this time and stage; a wait, a sync or a fence has none
 abbrev pub asked_by : Op → PayloadView → ℕ → ℕ → List Request
@@ -56,12 +50,9 @@ asked_by (next.Access s a n command plain fenced) payload t g =
     record { seq = s; address = a; asked = Transport (asked_access payload); time = t; stage = stage_of fenced g } ∷ []
 asked_by (next.Debug s a n) payload t g =
     record { seq = s; address = a; asked = DebugRead (debug_of n); time = t; stage = g + 1 } ∷ []
-asked_by (next.Wait n) payload t g = []
-asked_by next.Sync payload t g = []
-asked_by next.Fence payload t g = []
 asked_by (next.Invalidate s a n) payload t g =
     record { seq = s; address = a; asked = Invalidation n; time = t; stage = g + 1 } ∷ []
-asked_by next.Done payload t g = []
+asked_by op payload t g = []
 
 abbrev pub due_request : ℕ → Due → ℕ → ℕ → Request
 due_request s w t g = record { seq = s; address = w.address; asked = Transport (write_of w.bytes [] (length w.bytes)); time = t; stage = g + 1 }
@@ -88,12 +79,7 @@ IsAnsweredAccess p i h s a n Ignore got = Unit {0}
 -- a history answers what is next with these bytes: of a read they are its whole buffer
 abbrev pub IsAnswered : Platform → Initiator → List Entry → Op → List ℕ → Type 0
 IsAnswered p i h (next.Access s a n command plain fenced) got = IsAnsweredAccess p i h s a n command got
-IsAnswered p i h (next.Debug s a n) got = Unit {0}
-IsAnswered p i h (next.Wait n) got = Unit {0}
-IsAnswered p i h next.Sync got = Unit {0}
-IsAnswered p i h next.Fence got = Unit {0}
-IsAnswered p i h (next.Invalidate s a n) got = Unit {0}
-IsAnswered p i h next.Done got = Unit {0}
+IsAnswered p i h op got = Unit {0}
 
 abbrev pub end_after : Platform → Initiator → ℕ → Option Due → List Operation → ℕ
 end_after p i t None ops = end_from p i t ops
@@ -112,13 +98,8 @@ abbrev pub numbers_at : State → ℕ
 numbers_at e = e.seq + (numbers_due e.due + numbers_in e.remaining)
 
 abbrev pub is_sync_op : Op → Bool
-is_sync_op (next.Access s a n command plain fenced) = false
-is_sync_op (next.Debug s a n) = false
-is_sync_op (next.Wait n) = false
 is_sync_op next.Sync = true
-is_sync_op next.Fence = false
-is_sync_op (next.Invalidate s a n) = false
-is_sync_op next.Done = false
+is_sync_op op = false
 
 -- a sync stands after what is next, where that ends an operation: now is the time of the last sync, and t the time after it
 abbrev pub syncs_after_op : ℕ → ℕ → ℕ → Op → Bool

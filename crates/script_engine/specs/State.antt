@@ -64,22 +64,13 @@ op_of e = op_at e.seq e.due e.remaining
 -- the engine waits for the reply
 abbrev pub is_fenced : Op → Bool
 is_fenced (next.Access s a n command plain fenced) = fenced
-is_fenced (next.Debug s a n) = false
-is_fenced (next.Wait n) = false
-is_fenced next.Sync = false
-is_fenced next.Fence = false
-is_fenced (next.Invalidate s a n) = false
-is_fenced next.Done = false
+is_fenced op = false
 
 -- how many data bytes the payload has
 abbrev pub length_of : Op → ℕ
 length_of (next.Access s a n command plain fenced) = n
 length_of (next.Debug s a n) = n
-length_of (next.Wait n) = 0
-length_of next.Sync = 0
-length_of next.Fence = 0
-length_of (next.Invalidate s a n) = 0
-length_of next.Done = 0
+length_of op = 0
 
 -- a payload with this room that writes these bytes
 abbrev pub writing : ℕ → ℕ → List ℕ → List ℕ → ℕ → PayloadView
@@ -97,10 +88,7 @@ payload_for room (Ignore a) = record (new_payload room) { address = a }
 payload_for room (Debug a n) = reading room a n [] n
 payload_for room (Copy from to n) = reading room from n [] n
 payload_for room (Add a n) = reading room a 4 [] 4
-payload_for room (Wait n) = new_payload room
-payload_for room Sync = new_payload room
-payload_for room Fence = new_payload room
-payload_for room (Invalidate a n) = new_payload room
+payload_for room op = new_payload room
 
 abbrev pub payload_from : ℕ → List Operation → PayloadView
 payload_from room [] = new_payload room
@@ -116,16 +104,9 @@ payload_of e room = payload_at room e.due e.remaining
 
 -- what an operation writes once its first access has read these bytes
 abbrev pub due_after : Operation → List ℕ → Option Due
-due_after (Write a bytes enables width) got = None
-due_after (Read a n enables width) got = None
-due_after (Ignore a) got = None
-due_after (Debug a n) got = None
 due_after (Copy from to n) got = Some (record { address = to; bytes = got })
 due_after (Add a n) got = Some (record { address = a; bytes = added got n })
-due_after (Wait n) got = None
-due_after Sync got = None
-due_after Fence got = None
-due_after (Invalidate a n) got = None
+due_after op got = None
 
 -- after the reply to an operation's first access
 abbrev pub told_first : State → List ℕ → List Operation → State

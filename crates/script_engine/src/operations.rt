@@ -4,7 +4,7 @@ ghost use Rattle.std.specs.List.{list_all};
 ghost use Rattle.tlm_types.specs.declared.words.Command.{Command};
 ghost use Rattle.tlm_model.specs.Requests.{added, numbers_of};
 ghost use Rattle.traffic_script.specs.Proper.{IsProper};
-ghost use Rattle.generic_payload.specs.Payload.{is_enable};
+ghost use Rattle.tlm_types.specs.Enables.{is_enable};
 ghost use Rattle.script_engine.specs.State.{due_after, due_at, is_plain, length_of, op_for, payload_for};
 
 use crate::buffer::Buffer;

@@ -63,6 +63,8 @@ fn draw_for<O: Object, G, W: Law<Content, G>, D: Said>(
     requires pick { D.content ≡ O.content object.now call.now }
     requires admitted { O.admitted object.now call.now ≡ true }
     requires seat { seat.old.table ≡ history.now.table }
+
+    // The entry may be drawn.
     requires planned { length (own_of seat.old.knows) < slice_index_or history.now.frame.planned (number_of seat.old.knows) 0 }
     requires backed { (p : ℕ) → seat.old.knows.seen ≤ p → KnowsOwn seat.old.knows →
         W.backs history.now.frame.world seat.old.knows.known
@@ -70,6 +72,8 @@ fn draw_for<O: Object, G, W: Law<Content, G>, D: Said>(
     requires fits { KnowsOwn seat.old.knows → O.fits object.now call.now (O.entries object.now) }
     requires gates { HasGates history.now.frame (number_of seat.old.knows) (O.built object.now).gates }
     requires at { KnowsOwn seat.old.knows → IsAtGate seat.old.knows (sign_of (O.content object.now call.now).what) }
+
+    // It was drawn, past all that the seat had seen.
     ensures table { seat.new.table ≡ seat.old.table }
     ensures after { seat.old.knows.seen ≤ result }
     ensures below { result < 1000000 }
@@ -114,6 +118,8 @@ fn enter<O: Object, G, W: Law<Content, G>>(
     requires book { (book.old.table ≡ tickets.now) × (book.old.owner ≡ number_of seat.old.knows) }
     requires planned { length (own_of seat.old.knows) + out_of 0 book.old.out
         ≡ slice_index_or history.now.frame.planned (number_of seat.old.knows) 0 }
+
+    // An admitted call may be drawn.
     requires ticket { O.admitted object.now call.now ≡ true → O.follows object.now →
         HasTicket tickets.now book.old.owner (O.cost call.now) ticket }
     requires backed { (p : ℕ) → O.admitted object.now call.now ≡ true → O.follows object.now →
@@ -124,10 +130,14 @@ fn enter<O: Object, G, W: Law<Content, G>>(
     requires gates { HasGates history.now.frame (number_of seat.old.knows) (O.built object.now).gates }
     requires at { O.admitted object.now call.now ≡ true → O.follows object.now → KnowsOwn seat.old.knows →
         IsAtGate seat.old.knows (sign_of (O.content object.now call.now).what) }
+
+    // The seat and the book are whose they were.
     ensures table { (seat.new.table ≡ seat.old.table) × (number_of seat.new.knows ≡ number_of seat.old.knows) }
     ensures book { (book.new.table ≡ book.old.table) × (book.new.owner ≡ book.old.owner) }
     ensures state { O.follows object.now }
     ensures mine { KnowsOwn seat.old.knows }
+
+    // An admitted call was drawn, and a ticket spent; any other left all as it was.
     ensures ticket { result.1 ≡ unspent result.0 ticket }
     ensures when { MatchOption result.0 (O.admitted object.now call.now ≡ false)
         (λ _. O.admitted object.now call.now ≡ true) }
@@ -253,10 +263,13 @@ impl<O: Object, G, W: Law<Content, G> + World<G, O>, N: Naming<G, W>> Locked<O, 
         gate: Option<u32>,
         call: O::Call,
     ) -> Result<Stepped<O, G, W>, Unstepped<O, G, W>>
+        // What is handed in is of one history.
         requires history { (history.now.table ≡ N.table) × (history.now.frame ≡ N.frame) }
         requires tickets { tickets.now ≡ N.tokens }
         requires note { IsNoteAt N.table gate note }
         requires gate { IfSome gate (λ g. g < total_gates N.frame) }
+
+        // Whatever state the object is in, by what the note knows, the call may be made.
         requires ticket { let at = place N.frame N.tokens self.old.number (own_number (O.built self.old.object).object) in
             (o : O) → IsBuiltFor W.builds at (O.built o) → O.follows o → O.admitted o call ≡ true →
             HasTicket N.tokens self.old.number (O.cost call) ticket }
@@ -273,6 +286,8 @@ impl<O: Object, G, W: Law<Content, G> + World<G, O>, N: Naming<G, W>> Locked<O, 
         requires vouched { let at = place N.frame N.tokens self.old.number (own_number (O.built self.old.object).object) in
             (o : O) → Meets W.builds O.built O.entries O.follows at note.knows.known o →
             AreVouched (W.vouches N.frame.world N.tokens self.old.number) (O.brought o call) note.knows.known }
+
+        // Where the call was made.
         ensures answer { let at = place N.frame N.tokens self.old.number (own_number (O.built self.old.object).object) in
             IfOk result (λ s. (before : O) × (after : O)
             × Meets W.builds O.built O.entries O.follows at note.knows.known before
@@ -284,6 +299,8 @@ impl<O: Object, G, W: Law<Content, G> + World<G, O>, N: Naming<G, W>> Locked<O, 
         ensures note { IfOk result (λ s. IsNote N.table s.note) }
         ensures look { IfOk result (λ s. s.note.knows.looks ≡ note.knows.looks ++ (self.old.number, O.look s.reply) ∷ []) }
         ensures ticket { IfOk result (λ s. s.ticket ≡ unspent s.position ticket) }
+
+        // Where it was not.
         ensures unstepped { IfErr result (λ u. (u.note ≡ note) × (u.ticket ≡ ticket) × (u.call ≡ call)) }
         ensures refused { IfErr result (λ _. O.takes_memory call ≡ true) }
     {

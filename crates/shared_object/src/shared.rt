@@ -84,9 +84,12 @@ impl<O: Object, G, W: Law<Content, G> + World<G, O>, N: Naming<G, W>> Shared<O, 
         ticket: Option<Ticket>,
         call: O::Call,
     ) -> Result<Stepped<O, G, W>, Unstepped<O, G, W>>
+        // What is handed in is of one history.
         requires history { (history.now.table ≡ N.table) × (history.now.frame ≡ N.frame) }
         requires tickets { tickets.now ≡ N.tokens }
         requires note { IsNote N.table note }
+
+        // Whatever state the object is in, by what the note knows, the call may be made.
         requires ticket { let at = place N.frame N.tokens self.now.number self.now.own in
             (o : O) → IsBuiltFor W.builds at (O.built o) → O.follows o → O.admitted o call ≡ true →
             HasTicket N.tokens self.now.number (O.cost call) ticket }
@@ -103,6 +106,8 @@ impl<O: Object, G, W: Law<Content, G> + World<G, O>, N: Naming<G, W>> Shared<O, 
         requires vouched { let at = place N.frame N.tokens self.now.number self.now.own in
             (o : O) → Meets W.builds O.built O.entries O.follows at note.knows.known o →
             AreVouched (W.vouches N.frame.world N.tokens self.now.number) (O.brought o call) note.knows.known }
+
+        // Where the call was made.
         ensures answer { let at = place N.frame N.tokens self.now.number self.now.own in
             IfOk result (λ s. (before : O) × (after : O)
             × Meets W.builds O.built O.entries O.follows at note.knows.known before
@@ -114,13 +119,14 @@ impl<O: Object, G, W: Law<Content, G> + World<G, O>, N: Naming<G, W>> Shared<O, 
         ensures note { IfOk result (λ s. IsNote N.table s.note) }
         ensures look { IfOk result (λ s. s.note.knows.looks ≡ note.knows.looks ++ (self.now.number, O.look s.reply) ∷ []) }
         ensures ticket { IfOk result (λ s. s.ticket ≡ unspent s.position ticket) }
+
+        // Where it was not.
         ensures unstepped { IfErr result (λ u. (u.note ≡ note) × (u.ticket ≡ ticket) × (u.call ≡ call)) }
         ensures refused { IfErr result (λ _. O.takes_memory call ≡ true) }
     {
         let mut guard = self.lock.lock(rt);
         if guard.number() != self.number || guard.own_number() != self.own {
-            for _ in rt.forever() {}
-            unreachable!()
+            wait_without_end(rt)
         }
         guard.step(history, tickets, note, ticket, None, call)
     }
@@ -139,10 +145,13 @@ impl<O: Object, G, W: Law<Content, G> + World<G, O>, N: Naming<G, W>> Shared<O, 
         gate: u32,
         call: O::Call,
     ) -> Result<Stepped<O, G, W>, Unstepped<O, G, W>>
+        // What is handed in is of one history.
         requires history { (history.now.table ≡ N.table) × (history.now.frame ≡ N.frame) }
         requires tickets { tickets.now ≡ N.tokens }
         requires note { IsInside N.table gate note }
         requires gate { gate < total_gates N.frame }
+
+        // Whatever state the object is in, by what the note knows, the call may be made.
         requires ticket { let at = place N.frame N.tokens self.now.number self.now.own in
             (o : O) → IsBuiltFor W.builds at (O.built o) → O.follows o → O.admitted o call ≡ true →
             HasTicket N.tokens self.now.number (O.cost call) (Some ticket) }
@@ -159,6 +168,8 @@ impl<O: Object, G, W: Law<Content, G> + World<G, O>, N: Naming<G, W>> Shared<O, 
         requires vouched { let at = place N.frame N.tokens self.now.number self.now.own in
             (o : O) → Meets W.builds O.built O.entries O.follows at note.knows.known o →
             AreVouched (W.vouches N.frame.world N.tokens self.now.number) (O.brought o call) note.knows.known }
+
+        // Where the call was made.
         ensures answer { let at = place N.frame N.tokens self.now.number self.now.own in
             IfOk result (λ s. (before : O) × (after : O)
             × Meets W.builds O.built O.entries O.follows at note.knows.known before
@@ -170,13 +181,14 @@ impl<O: Object, G, W: Law<Content, G> + World<G, O>, N: Naming<G, W>> Shared<O, 
         ensures note { IfOk result (λ s. IsNote N.table s.note) }
         ensures look { IfOk result (λ s. s.note.knows.looks ≡ note.knows.looks ++ (self.now.number, O.look s.reply) ∷ []) }
         ensures ticket { IfOk result (λ s. s.ticket ≡ unspent s.position (Some ticket)) }
+
+        // Where it was not.
         ensures unstepped { IfErr result (λ u. (u.note ≡ note) × (u.ticket ≡ Some ticket) × (u.call ≡ call)) }
         ensures refused { IfErr result (λ _. O.takes_memory call ≡ true) }
     {
         let mut guard = self.lock.lock(rt);
         if guard.number() != self.number || guard.own_number() != self.own {
-            for _ in rt.forever() {}
-            unreachable!()
+            wait_without_end(rt)
         }
         guard.step(history, tickets, note, Some(ticket), Some(gate), call)
     }
@@ -192,9 +204,12 @@ impl<O: Object, G, W: Law<Content, G> + World<G, O>, N: Naming<G, W>> Shared<O, 
         ticket: Option<Ticket>,
         call: O::Call,
     ) -> Result<Stepped<O, G, W>, Unstepped<O, G, W>>
+        // What is handed in is of one history.
         requires history { (history.now.table ≡ N.table) × (history.now.frame ≡ N.frame) }
         requires tickets { tickets.now ≡ N.tokens }
         requires note { IsNote N.table note }
+
+        // Whatever state the object is in, by what the note knows, the call may be made.
         requires ticket { let at = place N.frame N.tokens self.old.number self.old.own in
             (o : O) → IsBuiltFor W.builds at (O.built o) → O.follows o → O.admitted o call ≡ true →
             HasTicket N.tokens self.old.number (O.cost call) ticket }
@@ -212,6 +227,8 @@ impl<O: Object, G, W: Law<Content, G> + World<G, O>, N: Naming<G, W>> Shared<O, 
             (o : O) → Meets W.builds O.built O.entries O.follows at note.knows.known o →
             AreVouched (W.vouches N.frame.world N.tokens self.old.number) (O.brought o call) note.knows.known }
         ensures numbers { self.new ≡ self.old }
+
+        // Where the call was made.
         ensures answer { let at = place N.frame N.tokens self.old.number self.old.own in
             IfOk result (λ s. (before : O) × (after : O)
             × Meets W.builds O.built O.entries O.follows at note.knows.known before
@@ -223,13 +240,14 @@ impl<O: Object, G, W: Law<Content, G> + World<G, O>, N: Naming<G, W>> Shared<O, 
         ensures note { IfOk result (λ s. IsNote N.table s.note) }
         ensures look { IfOk result (λ s. s.note.knows.looks ≡ note.knows.looks ++ (self.old.number, O.look s.reply) ∷ []) }
         ensures ticket { IfOk result (λ s. s.ticket ≡ unspent s.position ticket) }
+
+        // Where it was not.
         ensures unstepped { IfErr result (λ u. (u.note ≡ note) × (u.ticket ≡ ticket) × (u.call ≡ call)) }
         ensures refused { IfErr result (λ _. O.takes_memory call ≡ true) }
     {
         let locked = self.lock.get_mut();
         if locked.number() != self.number || locked.own_number() != self.own {
-            for _ in rt.forever() {}
-            unreachable!()
+            wait_without_end(rt)
         }
         locked.step(history, tickets, note, ticket, None, call)
     }
@@ -246,9 +264,16 @@ impl<O: Object, G, W: Law<Content, G> + World<G, O>, N: Naming<G, W>> Shared<O, 
         let Shared { lock, number, own } = self;
         let locked = lock.into_inner();
         if locked.number() != number || locked.own_number() != own {
-            for _ in rt.forever() {}
-            unreachable!()
+            wait_without_end(rt)
         }
         locked.into_parts()
     }
+}
+
+// Never returns. A lock's contents are known by their type alone, which has no numbers in it: that the
+// object under the lock is the one that `new` put there is looked up, and where it weren't, a call would
+// answer nothing rather than something wrong.
+fn wait_without_end<R: Wait>(rt: &R) -> ! {
+    for _ in rt.forever() {}
+    unreachable!()
 }

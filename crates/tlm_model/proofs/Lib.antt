@@ -3,3 +3,4 @@ pub mod EachLemmas
 pub mod LogLemmas
 pub mod HistoryLemmas
 pub mod PartsLemmas
+pub mod RequestLemmas

@@ -2,6 +2,7 @@ pub mod Each
 pub mod Store
 pub mod Plan
 pub mod Route
+pub mod Actions
 pub mod Requests
 pub mod Rounds
 pub mod History

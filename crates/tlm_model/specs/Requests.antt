@@ -1,25 +1,17 @@
 -- What an initiator asks for, and when.
-use Rattle.std.specs.Prelude.{ℕ, ◌+◌, ◌*◌, ◌%◌, ◌/◌, ◌^◌, Bool, false, ◌&&◌, List, [], ◌∷◌, length, Option, Some, None, is_none, unwrap_or, if◌then◌else◌, ◌==◌}
+use Rattle.std.specs.Prelude.{ℕ, ◌+◌, Bool, false, ◌&&◌, List, [], ◌∷◌, length, Option, Some, None, is_none, if◌then◌else◌, ◌==◌}
 use Rattle.std.specs.List.{filter}
-use Rattle.tlm_types.specs.declared.words.Command.TheVariants.{Read as read_command, Write as write_command, Ignore as ignore_command}
 use Rattle.tlm_types.specs.declared.words.TxnId.{TxnId}
-use Rattle.tlm_types.specs.declared.entry.Access.{Access}
 use Rattle.tlm_types.specs.declared.entry.Entry.{Entry}
 use Rattle.tlm_types.specs.declared.entry.What.{What}
 use Rattle.tlm_types.specs.declared.entry.What.TheVariants.{Access as Accessed, Granted, Invalidated, Closed, Call, Take, Acquire, Release}
 use Rattle.tlm_model.specs.declared.operation.Operation.{Operation}
-use Rattle.tlm_model.specs.declared.operation.Operation.TheVariants.{Write, Read, Ignore, Debug, Copy, Add, Wait, Sync, Fence, Invalidate}
 use Rattle.tlm_model.specs.declared.platform.Platform.{Platform}
+use Rattle.tlm_model.specs.Actions.{Action, Plain, Alone, Pair, Pause, action_of, asks_of}
+pub use Rattle.tlm_model.specs.Actions.{Asked, Transport, DebugRead, Invalidation, write_of, read_of, ignore_of, debug_of, le_number, le_bytes, added}
 use Rattle.tlm_model.specs.Plan.{Initiator}
 use Rattle.tlm_model.specs.Route.{later, Route, route_of, latency_of}
 use Rattle.tlm_model.specs.Store.{zeros}
-
--- What a request asks for: transport of an access, a debug read, or an invalidation of so many bytes. The
--- offset of an access is 0 here.
-pub data Asked : Type 0 where
-  Transport : Access → Asked
-  DebugRead : Access → Asked
-  Invalidation : ℕ → Asked
 
 -- A request: its number, its address, what it asks for, the time at which a blocking or direct initiator
 -- issues it, and its stage: how often a four-phase initiator has waited before it for all that it had
@@ -31,43 +23,29 @@ pub record Request : Type 0 where
   pub time : ℕ
   pub stage : ℕ
 
-abbrev pub write_of : List ℕ → List ℕ → ℕ → Access
-write_of bytes enables width = record { command = write_command; offset = 0; length = length bytes; sent = bytes; enables = enables; width = width }
+abbrev pub paused : ℕ → Option ℕ → ℕ
+paused t None = t
+paused t (Some n) = later t n
 
-abbrev pub read_of : ℕ → List ℕ → ℕ → Access
-read_of n enables width = record { command = read_command; offset = 0; length = n; sent = zeros n; enables = enables; width = width }
+-- transport takes the latency of its walk, and nothing else takes time
+abbrev pub time_past : Platform → Initiator → ℕ → ℕ → Asked → ℕ
+time_past p i t a (Transport access) = later t (latency_of p i a)
+time_past p i t a (DebugRead access) = t
+time_past p i t a (Invalidation n) = t
 
-abbrev pub ignore_of : Access
-ignore_of = record { command = ignore_command; offset = 0; length = 0; sent = []; enables = []; width = 0 }
-
-abbrev pub debug_of : ℕ → Access
-debug_of n = record { command = read_command; offset = 0; length = n; sent = []; enables = []; width = n }
+abbrev pub time_by : Platform → Initiator → ℕ → Action → ℕ
+time_by p i t (Plain a access) = later t (latency_of p i a)
+time_by p i t (Alone a asked) = time_past p i t a asked
+time_by p i t (Pair from to n change) = later (later t (latency_of p i from)) (latency_of p i to)
+time_by p i t (Pause time sync) = paused t time
 
 -- the current time of a blocking or direct initiator after an operation
 abbrev pub time_after : Platform → Initiator → ℕ → Operation → ℕ
-time_after p i t (Write a bytes enables width) = later t (latency_of p i a)
-time_after p i t (Read a n enables width) = later t (latency_of p i a)
-time_after p i t (Ignore a) = later t (latency_of p i a)
-time_after p i t (Debug a n) = t
-time_after p i t (Copy from to n) = later (later t (latency_of p i from)) (latency_of p i to)
-time_after p i t (Add a n) = later (later t (latency_of p i a)) (latency_of p i a)
-time_after p i t (Wait n) = later t n
-time_after p i t Sync = t
-time_after p i t Fence = t
-time_after p i t (Invalidate a n) = t
+time_after p i t op = time_by p i t (action_of op)
 
 -- how many sequence numbers an operation takes
 abbrev pub numbers_of : Operation → ℕ
-numbers_of (Write a bytes enables width) = 1
-numbers_of (Read a n enables width) = 1
-numbers_of (Ignore a) = 1
-numbers_of (Debug a n) = 1
-numbers_of (Copy from to n) = 2
-numbers_of (Add a n) = 2
-numbers_of (Wait n) = 0
-numbers_of Sync = 0
-numbers_of Fence = 0
-numbers_of (Invalidate a n) = 1
+numbers_of op = length (asks_of op)
 
 -- the sequence numbers that a script takes
 abbrev pub numbers_in : List Operation → ℕ
@@ -104,54 +82,31 @@ buffer_by (Some r) n i s h = answered i s h
 abbrev pub buffer_of : Platform → Initiator → List Entry → ℕ → ℕ → ℕ → Option (List ℕ)
 buffer_of p i h s a n = buffer_by (route_of p i a) n i.number s h
 
--- the number of some bytes, the least first
-abbrev pub le_number : List ℕ → ℕ
-le_number [] = 0
-le_number (b ∷ bs) = b + 256 * le_number bs
-
--- a number as four bytes, the least first
-abbrev pub le_bytes : ℕ → List ℕ
-le_bytes x = x % 256 ∷ (x / 256) % 256 ∷ (x / 65536) % 256 ∷ (x / 16777216) % 256 ∷ []
-
-abbrev pub added : List ℕ → ℕ → List ℕ
-added bytes n = le_bytes ((le_number bytes + n) % 2 ^ 32)
-
 -- requests that use what an earlier one answered, once it has answered
 abbrev pub using : Option (List ℕ) → (List ℕ → List Request) → List Request
 using None next = []
 using (Some got) next = next got
 
+-- What an action asks for, from this number, time and stage on, where a history answers; `next` is what comes after it.
+-- A plain access waits for nothing, so what comes after it has its stage; each other request has a stage of its own.
+abbrev pub requests_by : Platform → Initiator → List Entry → ℕ → ℕ → ℕ → Action → (ℕ → ℕ → ℕ → List Request) → List Request
+requests_by p i h s t g (Plain a access) next =
+    record { seq = s; address = a; asked = Transport access; time = t; stage = g } ∷
+    next (s + 1) (later t (latency_of p i a)) g
+requests_by p i h s t g (Alone a asked) next =
+    record { seq = s; address = a; asked = asked; time = t; stage = g + 1 } ∷
+    next (s + 1) (time_past p i t a asked) (g + 2)
+requests_by p i h s t g (Pair from to n change) next =
+    record { seq = s; address = from; asked = Transport (read_of n [] n); time = t; stage = g + 1 } ∷
+    using (buffer_of p i h s from n) (λ got.
+    record { seq = s + 1; address = to; asked = Transport (write_of (change got) [] n); time = later t (latency_of p i from); stage = g + 2 } ∷
+    next (s + 2) (later (later t (latency_of p i from)) (latency_of p i to)) (g + 3))
+requests_by p i h s t g (Pause time sync) next = next s (paused t time) (g + 1)
+
 -- what these operations ask for, from this number, time and stage on, where a history answers
 abbrev pub requests_from : Platform → Initiator → List Entry → ℕ → ℕ → ℕ → List Operation → List Request
 requests_from p i h s t g [] = []
-requests_from p i h s t g (Write a bytes enables width ∷ ops) =
-    record { seq = s; address = a; asked = Transport (write_of bytes enables (unwrap_or width (length bytes))); time = t; stage = g } ∷
-    requests_from p i h (s + 1) (later t (latency_of p i a)) g ops
-requests_from p i h s t g (Read a n enables width ∷ ops) =
-    record { seq = s; address = a; asked = Transport (read_of n enables (unwrap_or width n)); time = t; stage = g } ∷
-    requests_from p i h (s + 1) (later t (latency_of p i a)) g ops
-requests_from p i h s t g (Ignore a ∷ ops) =
-    record { seq = s; address = a; asked = Transport ignore_of; time = t; stage = g } ∷
-    requests_from p i h (s + 1) (later t (latency_of p i a)) g ops
-requests_from p i h s t g (Debug a n ∷ ops) =
-    record { seq = s; address = a; asked = DebugRead (debug_of n); time = t; stage = g + 1 } ∷
-    requests_from p i h (s + 1) t (g + 2) ops
-requests_from p i h s t g (Copy from to n ∷ ops) =
-    record { seq = s; address = from; asked = Transport (read_of n [] n); time = t; stage = g + 1 } ∷
-    using (buffer_of p i h s from n) (λ got.
-    record { seq = s + 1; address = to; asked = Transport (write_of got [] n); time = later t (latency_of p i from); stage = g + 2 } ∷
-    requests_from p i h (s + 2) (later (later t (latency_of p i from)) (latency_of p i to)) (g + 3) ops)
-requests_from p i h s t g (Add a n ∷ ops) =
-    record { seq = s; address = a; asked = Transport (read_of 4 [] 4); time = t; stage = g + 1 } ∷
-    using (buffer_of p i h s a 4) (λ got.
-    record { seq = s + 1; address = a; asked = Transport (write_of (added got n) [] 4); time = later t (latency_of p i a); stage = g + 2 } ∷
-    requests_from p i h (s + 2) (later (later t (latency_of p i a)) (latency_of p i a)) (g + 3) ops)
-requests_from p i h s t g (Wait n ∷ ops) = requests_from p i h s (later t n) (g + 1) ops
-requests_from p i h s t g (Sync ∷ ops) = requests_from p i h s t (g + 1) ops
-requests_from p i h s t g (Fence ∷ ops) = requests_from p i h s t (g + 1) ops
-requests_from p i h s t g (Invalidate a n ∷ ops) =
-    record { seq = s; address = a; asked = Invalidation n; time = t; stage = g + 1 } ∷
-    requests_from p i h (s + 1) t (g + 2) ops
+requests_from p i h s t g (op ∷ ops) = requests_by p i h s t g (action_of op) (λ s t g. requests_from p i h s t g ops)
 
 -- what an initiator has asked for, where a history answers: request k stands at place k
 abbrev pub requests_of : Platform → Initiator → List Entry → List Request

@@ -1,10 +1,10 @@
 -- The syncs of an initiator (IEEE 1666-2011, clause 16.2: the quantum keeper).
-use Rattle.std.specs.Prelude.{ℕ, ◌+◌, ◌-◌, ◌*◌, ◌/◌, min, Bool, true, false, ◌||◌, List, [], ◌∷◌, if◌then◌else◌, ◌==◌, nat_le, nat_lt}
+use Rattle.std.specs.Prelude.{ℕ, ◌+◌, ◌-◌, ◌*◌, ◌/◌, min, Bool, ◌||◌, List, [], ◌∷◌, if◌then◌else◌, ◌==◌, nat_le, nat_lt}
 use Rattle.tlm_model.specs.declared.operation.Operation.{Operation}
-use Rattle.tlm_model.specs.declared.operation.Operation.TheVariants.{Write, Read, Ignore, Debug, Copy, Add, Wait, Sync, Fence, Invalidate}
 use Rattle.tlm_model.specs.declared.platform.Platform.{Platform}
 use Rattle.tlm_model.specs.declared.platform.Style.{Style}
 use Rattle.tlm_model.specs.declared.platform.Style.TheVariants.{Blocking, Direct, FourPhase}
+use Rattle.tlm_model.specs.Actions.{action_of, syncs_in}
 use Rattle.tlm_model.specs.Plan.{Initiator}
 use Rattle.tlm_model.specs.Route.{greatest_time}
 use Rattle.tlm_model.specs.Requests.{time_after, numbers_of}
@@ -14,16 +14,7 @@ abbrev pub next_point : ℕ → ℕ → ℕ
 next_point quantum now = if quantum == 0 then now else min ((now / quantum + 1) * quantum) greatest_time
 
 abbrev pub is_sync : Operation → Bool
-is_sync (Write a bytes enables width) = false
-is_sync (Read a n enables width) = false
-is_sync (Ignore a) = false
-is_sync (Debug a n) = false
-is_sync (Copy from to n) = false
-is_sync (Add a n) = false
-is_sync (Wait n) = false
-is_sync Sync = true
-is_sync Fence = false
-is_sync (Invalidate a n) = false
+is_sync op = syncs_in (action_of op)
 
 -- a sync stands after this operation, where now is the time of the last sync and t the time after it
 abbrev pub syncs_after : ℕ → ℕ → ℕ → Operation → Bool

@@ -8,6 +8,7 @@ use Rattle.tlm_types.specs.declared.words.Way.{Way}
 use Rattle.tlm_types.specs.declared.words.Way.TheVariants.{Blocking, FourPhase, Direct, Debug}
 use Rattle.tlm_types.specs.declared.words.MemoryTraits.{MemoryTraits}
 use Rattle.tlm_types.specs.declared.entry.Access.{Access}
+use Rattle.tlm_types.specs.Enables.{is_lane_enabled}
 
 -- a memory of zeros
 abbrev pub zeros : ℕ → List ℕ
@@ -19,7 +20,7 @@ place_of a k = a.offset + k % a.width
 
 -- data byte k is enabled: the enables repeat, and without any each byte is enabled (14.13)
 abbrev pub is_enabled : Access → ℕ → Bool
-is_enabled a k = if length a.enables == 0 then true else (slice_index a.enables (k % length a.enables) == 0xff)
+is_enabled a k = is_lane_enabled a.enables k
 
 -- how many places an access spans
 abbrev pub span_of : Access → ℕ

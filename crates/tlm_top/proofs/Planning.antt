@@ -2,7 +2,8 @@
 use Rattle.std.proofs.Common.{◌≡◌, ℕ, suc, ◌+◌, ◌≤◌, ◌^◌, arith, List, [], ◌∷◌, length, Result, Ok, Err, refl, ap, sym, subst, ◌∙◌}
 use Rattle.std.specs.List.{AllByRecursion}
 use Rattle.outside.specs.Causes.{Rose}
-use Rattle.platform_file.specs.Reading.{Refusal, ◌>>=◌, Fails}
+use Rattle.platform_file.specs.Reading.{Refusal, Fails}
+use Rattle.tlm_types.specs.Reading.{◌>>=◌}
 use Rattle.platform_file.specs.declared.fault.PlatformFault.{PlatformFault}
 use Rattle.platform_file.specs.declared.fault.PlatformFault.TheVariants.{Refused, Memory}
 use Rattle.traffic_script.specs.Proper.{AreProper}

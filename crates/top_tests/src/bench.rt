@@ -1,9 +1,8 @@
 // Calls of the top call over files and sinks in memory.
 use outside::{FailingWrite, MapLibrary, NamedFile, NoPace, Pace, VecSink};
-use std::alloc::{AllocError, Global};
+use std::alloc::Global;
 use std::process::Abort;
 use std::sync::Wait;
-use std::test::Fail;
 use std::thread::Threads;
 use tlm_top::run;
 use tlm_types::{Bytes, Text};
@@ -18,65 +17,96 @@ pub struct Came {
 }
 
 /// Words that are parted by spaces.
-pub fn words_of(alloc: Global, line: &str) -> Result<Vec<String>, AllocError> {
+pub fn words_of(rt: &impl Abort, alloc: Global, line: &str) -> Vec<String> {
     let mut words = Vec::new(alloc);
     for word in line.split_whitespace() {
-        words.push(String::from_str(alloc, word)?)?;
+        let word = String::from_str(alloc, word).expect(rt, "room");
+        words.push(word).expect(rt, "room");
     }
-    Ok(words)
+    words
 }
 
-/// A library that holds these files.
+/// A text of these parts.
+pub fn text_of(rt: &impl Abort, alloc: Global, parts: &[&str]) -> String {
+    let mut text = String::new(alloc);
+    for part in parts {
+        text.push_str(part).expect(rt, "room");
+    }
+    text
+}
+
+fn named_file(rt: &impl Abort, alloc: Global, name: &str, text: &str) -> NamedFile {
+    NamedFile {
+        name: Text::from_text(alloc, name).expect(rt, "room"),
+        bytes: Bytes::from_slice(alloc, text.as_bytes()).expect(rt, "room"),
+    }
+}
+
+/// A library that holds these files, whose loads of these numbers fail.
 pub fn library(
+    rt: &impl Abort,
     alloc: Global,
     files: &[(&str, &str)],
-    failing: Vec<u64>,
-) -> Result<MapLibrary, Fail> {
+    failing: &[u64],
+) -> MapLibrary {
     let mut named = Vec::new(alloc);
     for (name, text) in files {
-        named.push(NamedFile {
-            name: Text::from_text(alloc, name)?,
-            bytes: Bytes::from_slice(alloc, text.as_bytes())?,
-        })?;
+        let file = named_file(rt, alloc, name, text);
+        named.push(file).expect(rt, "room");
     }
-    Ok(MapLibrary::new(named, failing))
+    let failing = Vec::from_slice(alloc, failing).expect(rt, "room");
+    MapLibrary::new(named, failing)
 }
 
-/// A call with these words over a library.
-pub fn call<R: AllocGlobal + Threads + Wait + Sync, P: Pace + Sync>(
+/// A call with these words over a library. These writes of the report fail.
+pub fn call<R: AllocGlobal + Threads + Wait + Abort + Sync, P: Pace + Sync>(
     rt: &R,
     words: &str,
     mut lib: MapLibrary,
     failing: Vec<FailingWrite>,
     pace: &P,
-) -> Result<Came, Fail> {
+) -> Came {
     let alloc = rt.alloc();
-    let words = words_of(alloc, words)?;
+    let words = words_of(rt, alloc, words);
     let mut out = VecSink::new(alloc, failing);
     let mut diag = VecSink::new(alloc, Vec::new(alloc));
     let exit = run(rt, alloc, &words, &mut lib, &mut out, &mut diag, pace);
-    Ok(Came {
+    Came {
         number: exit.number(),
         loads: lib.loads(),
         out,
         diag,
-    })
+    }
 }
 
 /// The same, where nothing fails and nobody is held.
-pub fn calm<R: AllocGlobal + Threads + Wait + Sync>(
+pub fn calm<R: AllocGlobal + Threads + Wait + Abort + Sync>(
     rt: &R,
     words: &str,
     files: &[(&str, &str)],
-) -> Result<Came, Fail> {
-    let alloc = rt.alloc();
-    let lib = library(alloc, files, Vec::new(alloc))?;
-    call(rt, words, lib, Vec::new(alloc), &NoPace)
+) -> Came {
+    let lib = library(rt, rt.alloc(), files, &[]);
+    call(rt, words, lib, Vec::new(rt.alloc()), &NoPace)
 }
 
 /// What came is this number, this report and this line.
 pub fn check(rt: &impl Abort, came: &Came, number: u8, out: &str, diag: &str) {
-    assert_eq!(rt; came.number, number, "{diag}");
-    assert_eq!(rt; came.out.bytes(), out.as_bytes());
-    assert_eq!(rt; came.diag.bytes(), diag.as_bytes());
+    assert!(rt; came.number == number, "not the answer {number}: {diag}");
+    assert!(rt; came.out.bytes() == out.as_bytes());
+    assert!(rt; came.diag.bytes() == diag.as_bytes());
+}
+
+/// Where nothing fails, this number, this report and this line come of these words. The result is how many
+/// files were loaded.
+pub fn answer<R: AllocGlobal + Threads + Wait + Abort + Sync>(
+    rt: &R,
+    words: &str,
+    files: &[(&str, &str)],
+    number: u8,
+    out: &str,
+    diag: &str,
+) -> u64 {
+    let came = calm(rt, words, files);
+    check(rt, &came, number, out, diag);
+    came.loads
 }

@@ -1,7 +1,9 @@
 // Which files are loaded, in which order.
-use crate::bench::{call, calm, check, library};
+use crate::bench::{answer, call, calm, check, library};
 use outside::NoPace;
-use std::test::Fail;
+use std::process::Abort;
+use std::sync::Wait;
+use std::thread::Threads;
 
 // Three initiators, of which the first and the last name one script.
 const THREE: &str = "version = 1
@@ -35,42 +37,38 @@ static FAULTS: [&str; 4] = [
     "read fault: a.txt\n",
 ];
 
-#[test]
-fn each_file_is_loaded_as_often_as_it_is_named(rt: HostRuntime) -> Result<(), Fail> {
-    let came = calm(&rt, "run p.toml", &FILES)?;
-    assert_eq!(rt; came.number, 0);
-    assert_eq!(rt; came.loads, 4);
-    let came = calm(&rt, "script a.txt", &FILES)?;
-    assert_eq!(rt; came.number, 0);
-    assert_eq!(rt; came.loads, 1);
-    Ok(())
+// How many files are loaded for these words, which are done.
+fn loads_of<R: AllocGlobal + Threads + Wait + Abort + Sync>(rt: &R, words: &str) -> u64 {
+    let came = calm(rt, words, &FILES);
+    assert!(rt; came.number == 0);
+    came.loads
 }
 
 #[test]
-fn files_are_loaded_in_order(rt: HostRuntime) -> Result<(), Fail> {
-    let alloc = rt.alloc();
-    for (number, line) in FAULTS.iter().enumerate() {
-        let failing = vec![in alloc; number as u64]?;
-        let lib = library(alloc, &FILES, failing)?;
-        let came = call(&rt, "run p.toml", lib, Vec::new(alloc), &NoPace)?;
-        check(&rt, &came, 4, "", line);
-        assert_eq!(rt; came.loads, number as u64 + 1);
+fn each_file_is_loaded_as_often_as_it_is_named(rt: HostRuntime) {
+    assert!(rt; loads_of(&rt, "run p.toml") == 4);
+    assert!(rt; loads_of(&rt, "script a.txt") == 1);
+}
+
+// Where the load of this number fails, nothing is loaded after it, and the answer has this line.
+fn expect_fault<R: AllocGlobal + Threads + Wait + Abort + Sync>(rt: &R, load: u64, line: &str) {
+    let lib = library(rt, rt.alloc(), &FILES, &[load]);
+    let came = call(rt, "run p.toml", lib, Vec::new(rt.alloc()), &NoPace);
+    check(rt, &came, 4, "", line);
+    assert!(rt; came.loads == load.saturating_add(1));
+}
+
+#[test]
+fn files_are_loaded_in_order(rt: HostRuntime) {
+    for (load, line) in FAULTS.iter().enumerate() {
+        expect_fault(&rt, load as u64, line);
     }
-    Ok(())
 }
 
 // Where a script is refused, the next one isn't loaded.
 #[test]
-fn each_script_is_read_before_the_next_is_loaded(rt: HostRuntime) -> Result<(), Fail> {
+fn each_script_is_read_before_the_next_is_loaded(rt: HostRuntime) {
     let files = [("p.toml", THREE), ("a.txt", "syncs\n")];
-    let came = calm(&rt, "run p.toml", &files)?;
-    check(
-        &rt,
-        &came,
-        3,
-        "",
-        "script refused: i0 line 1: unknown_operation\n",
-    );
-    assert_eq!(rt; came.loads, 2);
-    Ok(())
+    let line = "script refused: i0 line 1: unknown_operation\n";
+    assert!(rt; answer(&rt, "run p.toml", &files, 3, "", line) == 2);
 }

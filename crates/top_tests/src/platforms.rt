@@ -1,7 +1,9 @@
 // Platform files, with their runs and their refusals.
-use crate::bench::{calm, check};
-use std::alloc::{AllocError, Global};
-use std::test::Fail;
+use crate::bench::{answer, text_of};
+use std::alloc::Global;
+use std::process::Abort;
+use std::sync::Wait;
+use std::thread::Threads;
 
 // A router before a memory, with addresses that lead nowhere.
 const BUS: &str = "version = 1
@@ -23,37 +25,30 @@ size = 256
 latency = 10
 ";
 
-const BUS_SCRIPT: &str = "read 0x0 1\nread 0x1000 1\nread 0x1 1\n";
+static BUS_FILES: [(&str, &str); 2] = [
+    ("p.toml", BUS),
+    ("a.txt", "read 0x0 1\nread 0x1000 1\nread 0x1 1\n"),
+];
 
-const BUS_ENDS: &str =
-    "initiator cpu blocking transactions 3 refused 1 syncs 3 end 35\nrefused cpu.1 15 read 0x1000\nmemory ram 256\nend 2\n";
+const BUS_REPORT: &str =
+    "tlm-report 1\n0 5 cpu.0 ram blocking read 0x0 1 be=- sw=1 00 ok\n1 25 cpu.2 ram blocking read 0x1 1 be=- sw=1 00 ok\ninitiator cpu blocking transactions 3 refused 1 syncs 3 end 35\nrefused cpu.1 15 read 0x1000\nmemory ram 256\nend 2\n";
 
-const BUS_ENTRIES: &str =
-    "0 5 cpu.0 ram blocking read 0x0 1 be=- sw=1 00 ok\n1 25 cpu.2 ram blocking read 0x1 1 be=- sw=1 00 ok\n";
+// The same without the lines of entries.
+const BUS_BARE: &str =
+    "tlm-report 1\ninitiator cpu blocking transactions 3 refused 1 syncs 3 end 35\nrefused cpu.1 15 read 0x1000\nmemory ram 256\nend 2\n";
+
+// Words, and the report that they ask for.
+static TRACES: [(&str, &str); 3] = [
+    ("run p.toml", BUS_REPORT),
+    ("run --trace=accesses p.toml --workers 2", BUS_REPORT),
+    ("run p.toml --trace none", BUS_BARE),
+];
 
 #[test]
-fn a_platform_is_run_under_each_trace(rt: HostRuntime) -> Result<(), Fail> {
-    let alloc = rt.alloc();
-    let files = [("p.toml", BUS), ("a.txt", BUS_SCRIPT)];
-    let whole = format!(in alloc; "tlm-report 1\n{BUS_ENTRIES}{BUS_ENDS}")?;
-    let bare = format!(in alloc; "tlm-report 1\n{BUS_ENDS}")?;
-    let rows = [
-        ("run p.toml", whole.as_str()),
-        ("run --trace=accesses p.toml --workers 2", whole.as_str()),
-        ("run p.toml --trace none", bare.as_str()),
-    ];
-    for (words, report) in rows {
-        let came = calm(&rt, words, &files)?;
-        check(&rt, &came, 0, report, "");
+fn a_platform_is_run_under_each_trace(rt: HostRuntime) {
+    for &(words, report) in &TRACES {
+        answer(&rt, words, &BUS_FILES, 0, report, "");
     }
-    Ok(())
-}
-
-// A platform of one initiator on one memory, with these lines for the platform and for the memory.
-fn lone(alloc: Global, platform: &str, memory: &str) -> Result<String, AllocError> {
-    format!(in alloc;
-        "version = 1\n{platform}\n[[initiator]]\nname = 'cpu'\nstyle = 'blocking'\nscript = 'a.txt'\nbind = 'ram'\n[[memory]]\nname = 'ram'\n{memory}\n"
-    )
 }
 
 const SEVEN_READS: &str =
@@ -93,15 +88,28 @@ static LONE: [(&str, &str, &str, &str); 5] = [
     ),
 ];
 
+// A platform of one initiator on one memory, with these lines for the platform and for the memory.
+fn lone<'a>(rt: &impl Abort, alloc: Global, platform: &'a str, memory: &'a str) -> String {
+    let initiator =
+        "\n[[initiator]]\nname = 'cpu'\nstyle = 'blocking'\nscript = 'a.txt'\nbind = 'ram'\n";
+    let parts = [
+        "version = 1\n",
+        platform,
+        initiator,
+        "[[memory]]\nname = 'ram'\n",
+        memory,
+        "\n",
+    ];
+    text_of(rt, alloc, &parts)
+}
+
 #[test]
-fn memories_and_quanta_are_those_of_the_file(rt: HostRuntime) -> Result<(), Fail> {
-    for (platform, memory, script, report) in LONE {
-        let file = lone(rt.alloc(), platform, memory)?;
+fn memories_and_quanta_are_those_of_the_file(rt: HostRuntime) {
+    for &(platform, memory, script, report) in &LONE {
+        let file = lone(&rt, rt.alloc(), platform, memory);
         let files = [("p.toml", file.as_str()), ("a.txt", script)];
-        let came = calm(&rt, "run p.toml", &files)?;
-        check(&rt, &came, 0, report, "");
+        answer(&rt, "run p.toml", &files, 0, report, "");
     }
-    Ok(())
 }
 
 // The routers between an initiator that is bound to `a` and a memory `ram`, and the line of the refusal.
@@ -124,16 +132,21 @@ static REFUSED: [(&str, &str); 4] = [
     ),
 ];
 
-#[test]
-fn platforms_are_refused(rt: HostRuntime) -> Result<(), Fail> {
-    let alloc = rt.alloc();
+fn expect_refused<R: AllocGlobal + Threads + Wait + Abort + Sync>(
+    rt: &R,
+    routers: &str,
+    diag: &str,
+) {
     let head =
         "version = 1\n[[initiator]]\nname = 'cpu'\nstyle = 'blocking'\nscript = 'a.txt'\nbind = 'a'\n";
-    let ram = "[[memory]]\nname = 'ram'\nsize = 16\n";
-    for (routers, diag) in REFUSED {
-        let file = format!(in alloc; "{head}{routers}{ram}")?;
-        let came = calm(&rt, "run p.toml", &[("p.toml", file.as_str())])?;
-        check(&rt, &came, 2, "", diag);
+    let memory = "[[memory]]\nname = 'ram'\nsize = 16\n";
+    let file = text_of(rt, rt.alloc(), &[head, routers, memory]);
+    answer(rt, "run p.toml", &[("p.toml", file.as_str())], 2, "", diag);
+}
+
+#[test]
+fn platforms_are_refused(rt: HostRuntime) {
+    for &(routers, diag) in &REFUSED {
+        expect_refused(&rt, routers, diag);
     }
-    Ok(())
 }

@@ -6,8 +6,8 @@ use outside::{MapLibrary, NoPace, Stream, StreamSink};
 use std::alloc::Global;
 use std::io;
 use std::io::Write;
+use std::process::Abort;
 use std::sync::Wait;
-use std::test::Fail;
 use std::thread::Threads;
 use tlm_top::serve;
 
@@ -19,22 +19,22 @@ struct Served<O: Drop> {
     diag: Vec<u8>,
 }
 
-fn serve_over<R: AllocGlobal + Threads + Wait + Sync, O: Stream + Drop>(
+fn serve_over<R: AllocGlobal + Threads + Wait + Abort + Sync, O: Stream + Drop>(
     rt: &R,
     words: &str,
     mut lib: MapLibrary,
     out: O,
-) -> Result<Served<O>, Fail> {
+) -> Served<O> {
     let alloc = rt.alloc();
-    let words = words_of(alloc, words)?;
-    let mut out = StreamSink::new(alloc, out)?;
-    let mut diag = StreamSink::new(alloc, Vec::new(alloc))?;
+    let words = words_of(rt, alloc, words);
+    let mut out = StreamSink::new(alloc, out).expect(rt, "room");
+    let mut diag = StreamSink::new(alloc, Vec::new(alloc)).expect(rt, "room");
     let exit = serve(rt, alloc, &words, &mut lib, &mut out, &mut diag, &NoPace);
-    Ok(Served {
+    Served {
         number: exit.number(),
         out: out.into_inner(),
         diag: diag.into_inner(),
-    })
+    }
 }
 
 const OVERLAP: &str = "version = 1
@@ -83,42 +83,48 @@ static ANSWERS: [(&str, u8, &str, &str); 5] = [
     ("script c.txt", 4, "", "read fault: c.txt\n"),
 ];
 
-// A library with a script, one that is refused, and a platform that is.
-fn files(alloc: Global) -> Result<MapLibrary, Fail> {
-    let files = [
-        ("a.txt", "write 0x10 deadbeef\nread 0x10 4\n"),
-        ("b.txt", "write 0x0 abc\n"),
-        ("p.toml", OVERLAP),
-    ];
-    library(alloc, &files, Vec::new(alloc))
+// A script, one that is refused, and a platform that is.
+static FILES: [(&str, &str); 3] = [
+    ("a.txt", "write 0x10 deadbeef\nread 0x10 4\n"),
+    ("b.txt", "write 0x0 abc\n"),
+    ("p.toml", OVERLAP),
+];
+
+// Of these words and files come this number, this report and this line.
+fn expect_streams<R: AllocGlobal + Threads + Wait + Abort + Sync>(
+    rt: &R,
+    files: &[(&str, &str)],
+    words: &str,
+    number: u8,
+    out: &str,
+    diag: &str,
+) {
+    let lib = library(rt, rt.alloc(), files, &[]);
+    let came = serve_over(rt, words, lib, Vec::new(rt.alloc()));
+    assert!(rt; came.number == number, "not the answer {number}: {words}");
+    assert!(rt; came.out.as_slice() == out.as_bytes());
+    assert!(rt; came.diag.as_slice() == diag.as_bytes());
 }
 
 #[test]
-fn streams_hold_the_report_or_the_line(rt: HostRuntime) -> Result<(), Fail> {
-    let alloc = rt.alloc();
-    for (words, number, out, diag) in ANSWERS {
-        let came = serve_over(&rt, words, files(alloc)?, Vec::new(alloc))?;
-        assert_eq!(rt; came.number, number, "{words}");
-        assert_eq!(rt; came.out.as_slice(), out.as_bytes());
-        assert_eq!(rt; came.diag.as_slice(), diag.as_bytes());
+fn streams_hold_the_report_or_the_line(rt: HostRuntime) {
+    for &(words, number, out, diag) in &ANSWERS {
+        expect_streams(&rt, &FILES, words, number, out, diag);
     }
-    Ok(())
 }
 
 #[test]
-fn a_file_too_long_is_told_on_the_stream(rt: HostRuntime) -> Result<(), Fail> {
-    let alloc = rt.alloc();
-    let feeds = vec![in alloc; b'\n'; 4_194_305]?;
-    let lib = library(
-        alloc,
-        &[("a.txt", str::from_utf8(&feeds)?)],
-        Vec::new(alloc),
-    )?;
-    let came = serve_over(&rt, "script a.txt", lib, Vec::new(alloc))?;
-    assert_eq!(rt; came.number, 7);
-    assert_eq!(rt; came.out.len(), 0);
-    assert_eq!(rt; came.diag.as_slice(), b"too long: a.txt\n".as_slice());
-    Ok(())
+fn a_file_too_long_is_told_on_the_stream(rt: HostRuntime) {
+    let feeds = vec![in rt.alloc(); b'\n'; 4_194_305].expect(&rt, "room");
+    let text = str::from_utf8(&feeds).expect(&rt, "a text");
+    expect_streams(
+        &rt,
+        &[("a.txt", text)],
+        "script a.txt",
+        7,
+        "",
+        "too long: a.txt\n",
+    );
 }
 
 // A stream that takes all, and whose flush fails.
@@ -143,9 +149,9 @@ impl Stream for Closed {
 
 // The report was collected whole, and is lost when it is written in the end.
 #[test]
-fn a_lost_report_is_a_write_fault(rt: HostRuntime) -> Result<(), Fail> {
-    let came = serve_over(&rt, "script a.txt", files(rt.alloc())?, Closed)?;
-    assert_eq!(rt; came.number, 5);
-    assert_eq!(rt; came.diag.as_slice(), b"write fault\n".as_slice());
-    Ok(())
+fn a_lost_report_is_a_write_fault(rt: HostRuntime) {
+    let lib = library(&rt, rt.alloc(), &FILES, &[]);
+    let came = serve_over(&rt, "script a.txt", lib, Closed);
+    assert!(rt; came.number == 5);
+    assert!(rt; came.diag.as_slice() == b"write fault\n".as_slice());
 }

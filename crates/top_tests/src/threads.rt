@@ -1,9 +1,10 @@
 // Runs by two worker threads.
-use crate::bench::{Came, call, calm, library};
+use crate::bench::{call, calm, library};
 use outside::Pace;
 use std::process::Abort;
+use std::sync::Wait;
 use std::sync::atomic::{AtomicU64, Ordering};
-use std::test::Fail;
+use std::thread::Threads;
 
 // Two initiators that raise one counter far ahead of one another.
 const COUNTER: &str = "version = 1
@@ -48,23 +49,24 @@ fn little_endian(digits: &str) -> Option<u32> {
 const COUNTER_ENDS: &str =
     "\ninitiator i0 blocking transactions 2000 refused 0 syncs 0 end 20000\ninitiator i1 blocking transactions 2000 refused 0 syncs 0 end 20000\nmemory ram 4096\n00000000 ";
 
+// The initiators have ended so, there are as many lines as that takes, and what was written last is kept.
+fn expect_counter(rt: &impl Abort, report: &str) {
+    assert!(rt; report.contains(COUNTER_ENDS));
+    assert!(rt; report.ends_with("\nend 4000\n"));
+    assert!(rt; report.lines().count() == 4006);
+    let (written, kept) = counters(report).expect(rt, "no counter");
+    assert!(rt; written == kept && 2 <= kept && kept <= 2000);
+}
+
 #[test]
-fn two_initiators_raise_one_counter(rt: HostRuntime) -> Result<(), Fail> {
+fn two_initiators_raise_one_counter(rt: HostRuntime) {
     let files = [
         ("p.toml", COUNTER),
         ("a.txt", "repeat 1000\nadd 0x0 1\nend\n"),
     ];
-    let came = calm(&rt, "run p.toml --workers 2", &files)?;
-    assert_eq!(rt; came.number, 0);
-    let report = str::from_utf8(came.out.bytes())?;
-    assert!(rt; report.contains(COUNTER_ENDS));
-    assert!(rt; report.ends_with("\nend 4000\n"));
-    assert_eq!(rt; report.lines().count(), 4006);
-    let (written, kept) = counters(report).ok_or("no counter")?;
-    assert_eq!(rt; written, kept);
-    assert!(rt; 2 <= kept);
-    assert!(rt; kept <= 2000);
-    Ok(())
+    let came = calm(&rt, "run p.toml --workers 2", &files);
+    assert!(rt; came.number == 0);
+    expect_counter(&rt, str::from_utf8(came.out.bytes()).expect(&rt, "a text"));
 }
 
 // How often a held initiator looks whether it may go on.
@@ -79,6 +81,14 @@ struct Holding {
 }
 
 impl Holding {
+    fn of(held: u32) -> Holding {
+        Holding {
+            held,
+            announced: AtomicU64::new(0),
+            gave_up: AtomicU64::new(0),
+        }
+    }
+
     fn hold(&self) {
         for _look in 0..LOOKS {
             if self.announced.load(Ordering::SeqCst) == 1 {
@@ -124,34 +134,26 @@ static TWO_FILES: [(&str, &str); 3] = [
     ("two.txt", "write 0x1 bb\nfence\nread 0x0 1\n"),
 ];
 
-// The first entry of the report is this one, and there are four.
-fn begins_with(rt: &impl Abort, came: &Came, entry: &str) -> Result<(), Fail> {
-    assert_eq!(rt; came.number, 0);
-    let report = str::from_utf8(came.out.bytes())?;
-    assert_eq!(rt; report.lines().nth(1), Some(entry));
+// With this initiator held, the other one's first access comes first, and there are four.
+fn expect_first<R: AllocGlobal + Threads + Wait + Abort + Sync>(rt: &R, held: u32, entry: &str) {
+    let pace = Holding::of(held);
+    let lib = library(rt, rt.alloc(), &TWO_FILES, &[]);
+    let came = call(
+        rt,
+        "run p.toml --workers 2",
+        lib,
+        Vec::new(rt.alloc()),
+        &pace,
+    );
+    assert!(rt; came.number == 0 && pace.gave_up.load(Ordering::SeqCst) == 0);
+    let report = str::from_utf8(came.out.bytes()).expect(rt, "a text");
+    assert!(rt; report.lines().nth(1) == Some(entry));
     assert!(rt; report.ends_with("\nend 4\n"));
-    Ok(())
 }
 
-// With two workers, each initiator can be held while the other one goes on: then the other one's first
-// access comes first.
+// With two workers, each initiator can be held while the other one goes on.
 #[test]
-fn two_at_once(rt: HostRuntime) -> Result<(), Fail> {
-    let alloc = rt.alloc();
-    let entries = [
-        "0 0 two.0 ram blocking write 0x1 1 be=- sw=1 bb ok",
-        "0 0 one.0 ram blocking write 0x0 1 be=- sw=1 aa ok",
-    ];
-    for (held, entry) in entries.iter().enumerate() {
-        let pace = Holding {
-            held: held as u32,
-            announced: AtomicU64::new(0),
-            gave_up: AtomicU64::new(0),
-        };
-        let lib = library(alloc, &TWO_FILES, Vec::new(alloc))?;
-        let came = call(&rt, "run p.toml --workers 2", lib, Vec::new(alloc), &pace)?;
-        assert_eq!(rt; pace.gave_up.load(Ordering::SeqCst), 0);
-        begins_with(&rt, &came, entry)?;
-    }
-    Ok(())
+fn two_at_once(rt: HostRuntime) {
+    expect_first(&rt, 0, "0 0 two.0 ram blocking write 0x1 1 be=- sw=1 bb ok");
+    expect_first(&rt, 1, "0 0 one.0 ram blocking write 0x0 1 be=- sw=1 aa ok");
 }

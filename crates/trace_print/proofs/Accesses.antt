@@ -13,7 +13,7 @@ use Rattle.tlm_model.specs.declared.platform.Style.{Style}
 use Rattle.tlm_model.specs.declared.platform.Style.TheVariants.{Blocking}
 use Rattle.tlm_model.specs.Each.{EachFrom}
 use Rattle.tlm_model.specs.Plan.{Plan, Initiator}
-use Rattle.report_model.specs.Report.{is_access}
+use Rattle.tlm_types.specs.Log.{is_access}
 use Rattle.tlm_model.specs.Requests.{Asked, Transport, DebugRead, Invalidation, Request, buffer_of, requests_from, requests_of}
 use Rattle.tlm_model.specs.Route.{Route, later, latency_of, route_of}
 use Rattle.tlm_model.specs.Scripts.{HasWay, IsCloser, IsEntryOf, IsGrantee, IsInvalidationOf, OfRequest}
@@ -23,11 +23,7 @@ use Rattle.good_history.specs.Laws.{AllDecoupled}
 use Rattle.good_history.proofs.Decoupled.{sound_is_decoupled}
 use Rattle.traffic_script.specs.Proper.{AreProper, IsProper}
 use Rattle.route_plan.specs.Valid.{IsValid}
-use Rattle.plat_core.specs.Core.{IsServable}
-use Rattle.plat_core.specs.Entry.{IsAccess}
-use Rattle.plat_core.proofs.CoreLemmas.{blocking_from}
-use Rattle.plat_core.proofs.ServableLemmas.{servable}
-use Rattle.plat_core.proofs.SoundLemmas.{no_fourphase}
+use Rattle.run_outcome.proofs.PlanLemmas.{are_blocking, blocking_from, no_fourphase}
 use Rattle.trace_print.proofs.OfRequests.{all-at, at-request, request-of, script-of}
 use Rattle.trace_print.proofs.Requested.{used-each}
 
@@ -42,20 +38,24 @@ Replies p before e = OfRequest p before e (λ i r. IsEntryOf (route_of p.platfor
 abbrev pub Ways : Plan → List Entry → Entry → Type 0
 Ways p before e = OfRequest p before e (λ i r. HasWay i.row.style r.asked e.what)
 
+-- an access or a debug read
+abbrev IsAccess : Asked → Type 0
+IsAccess asked = IsCloser asked → ⊥
+
 abbrev AsksAccess : Request → Type 0
 AsksAccess r = IsAccess r.asked
 
 -- a proper script asks for no invalidation
 asks-accesses : (p : Platform) (i : Initiator) (h : List Entry) (s t g : ℕ) (ops : List Operation) → AllByRecursion IsProper ops → AllByRecursion AsksAccess (requests_from p i h s t g ops)
 asks-accesses p i h s t g [] proper = tt
-asks-accesses p i h s t g (Write a bs enables width ∷ ops) proper = (tt, asks-accesses p i h (s + 1) (later t (latency_of p i a)) g ops proper.1)
-asks-accesses p i h s t g (Read a n enables width ∷ ops) proper = (tt, asks-accesses p i h (s + 1) (later t (latency_of p i a)) g ops proper.1)
-asks-accesses p i h s t g (Ignore a ∷ ops) proper = (tt, asks-accesses p i h (s + 1) (later t (latency_of p i a)) g ops proper.1)
-asks-accesses p i h s t g (Debug a n ∷ ops) proper = (tt, asks-accesses p i h (s + 1) t (g + 2) ops proper.1)
+asks-accesses p i h s t g (Write a bs enables width ∷ ops) proper = (λ closes. closes, asks-accesses p i h (s + 1) (later t (latency_of p i a)) g ops proper.1)
+asks-accesses p i h s t g (Read a n enables width ∷ ops) proper = (λ closes. closes, asks-accesses p i h (s + 1) (later t (latency_of p i a)) g ops proper.1)
+asks-accesses p i h s t g (Ignore a ∷ ops) proper = (λ closes. closes, asks-accesses p i h (s + 1) (later t (latency_of p i a)) g ops proper.1)
+asks-accesses p i h s t g (Debug a n ∷ ops) proper = (λ closes. closes, asks-accesses p i h (s + 1) t (g + 2) ops proper.1)
 asks-accesses p i h s t g (Copy from to n ∷ ops) proper =
-    (tt, used-each AsksAccess (buffer_of p i h s from n) _ (λ got is. (tt, asks-accesses p i h (s + 2) (later (later t (latency_of p i from)) (latency_of p i to)) (g + 3) ops proper.1)))
+    (λ closes. closes, used-each AsksAccess (buffer_of p i h s from n) _ (λ got is. (λ closes. closes, asks-accesses p i h (s + 2) (later (later t (latency_of p i from)) (latency_of p i to)) (g + 3) ops proper.1)))
 asks-accesses p i h s t g (Add a n ∷ ops) proper =
-    (tt, used-each AsksAccess (buffer_of p i h s a 4) _ (λ got is. (tt, asks-accesses p i h (s + 2) (later (later t (latency_of p i a)) (latency_of p i a)) (g + 3) ops proper.1)))
+    (λ closes. closes, used-each AsksAccess (buffer_of p i h s a 4) _ (λ got is. (λ closes. closes, asks-accesses p i h (s + 2) (later (later t (latency_of p i a)) (latency_of p i a)) (g + 3) ops proper.1)))
 asks-accesses p i h s t g (Wait n ∷ ops) proper = asks-accesses p i h s (later t n) (g + 1) ops proper.1
 asks-accesses p i h s t g (Sync ∷ ops) proper = asks-accesses p i h s t (g + 1) ops proper.1
 asks-accesses p i h s t g (Fence ∷ ops) proper = asks-accesses p i h s t (g + 1) ops proper.1
@@ -72,19 +72,14 @@ no-invalidation : (route : Option Route) (asked : Asked) (o : ObjectNo) (first l
 no-invalidation None asked o first last access h = h
 no-invalidation (Some r) (Transport a) o first last access h = h
 no-invalidation (Some r) (DebugRead a) o first last access h = h
-no-invalidation (Some r) (Invalidation n) o first last access h = access
-
-no-closing : (asked : Asked) → IsAccess asked → IsCloser asked → ⊥
-no-closing (Transport a) access h = h
-no-closing (DebugRead a) access h = h
-no-closing (Invalidation n) access h = access
+no-invalidation (Some r) (Invalidation n) o first last access h = access tt
 
 -- an entry of an access or a debug read of a blocking initiator, at a memory
 accessed-by : (route : Option Route) (asked : Asked) (o : ObjectNo) (w : What) → IsAccess asked → IsEntryOf route asked o w → HasWay Blocking asked w → IsDecoupled o w → is_access w ≡ true
 accessed-by route asked (Memory m) (Accessed way a status got) access is came plain = refl
 accessed-by route asked (Memory m) (Granted g f l k) access is came plain = absurd (no-grant asked came)
 accessed-by route asked (Memory m) (Invalidated f l) access is came plain = absurd (no-invalidation route asked (Memory m) f l access is)
-accessed-by route asked (Memory m) (Closed g) access is came plain = absurd (no-closing asked access came)
+accessed-by route asked (Memory m) (Closed g) access is came plain = absurd (access came)
 accessed-by route asked (Memory m) (Call c a) access is came plain = absurd plain
 accessed-by route asked (Memory m) (Take s) access is came plain = absurd plain
 accessed-by route asked (Memory m) (Acquire s) access is came plain = absurd plain
@@ -93,15 +88,12 @@ accessed-by route asked (Hop h) w access is came plain = absurd plain
 accessed-by route asked (Pool n) w access is came plain = absurd plain
 
 module _ (p : Plan) (valid : IsValid p) where
-  serves : IsServable p
-  serves = servable p valid.shape valid.scripts valid.proper
-
   entry-accessed : (before : List Entry) (e : Entry) → Replies p before e → Ways p before e → IsDecoupled e.object e.what → is_access e.what ≡ true
   entry-accessed before e reply way plain =
       let found = request-of p before e (λ i r. IsEntryOf (route_of p.platform i r.address) r.asked e.object e.what) reply in
       let i = found.initiator in
       let r = found.request in
-      let blocking = blocking_from 0 e.txn.initiator p.platform.initiators p.scripts i serves.blocking found.of_it in
+      let blocking = blocking_from 0 e.txn.initiator p.platform.initiators p.scripts i (are_blocking p.platform valid.shape.checked) found.of_it in
       let proper = script-of AreProper 0 e.txn.initiator p.platform.initiators p.scripts i valid.proper found.of_it in
       let access = all-at AsksAccess (requests_of p.platform i before) (asks-accesses p.platform i before 0 0 0 i.script proper.each) e.txn.seq r found.asked_for in
       let is = at-request p before e (λ i r. IsEntryOf (route_of p.platform i r.address) r.asked e.object e.what) reply found in
@@ -117,4 +109,4 @@ module _ (p : Plan) (valid : IsValid p) where
   are-accesses h sound =
       let kept = sound.requests in
       let runs = kept.scripts in
-      accessed-from [] h runs.replies runs.ways (sound_is_decoupled p h (no_fourphase p serves) sound)
+      accessed-from [] h runs.replies runs.ways (sound_is_decoupled p h (no_fourphase p (are_blocking p.platform valid.shape.checked)) sound)

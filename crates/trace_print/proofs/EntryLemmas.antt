@@ -19,7 +19,8 @@ use Rattle.tlm_types.specs.Log.{enables_of, facts_of, got_of, plain_of, sent_of}
 use Rattle.tlm_model.specs.declared.platform.Platform.{Platform}
 use Rattle.tlm_model.specs.declared.trace.Trace.{Trace}
 use Rattle.tlm_model.specs.declared.trace.Trace.TheVariants.{All, Accesses, None as no_entries}
-use Rattle.report_model.specs.Report.{command_word, entry_words, freed_words, initiator_name, is_access, kind_word, memory_name, object_word, phase_word, range_word, shown_by, status_word, sync_words, traced, txn_word, way_word, what_words}
+use Rattle.report_model.specs.Report.{command_word, entry_words, freed_words, initiator_name, kind_word, memory_name, object_word, phase_word, range_word, shown_by, status_word, sync_words, traced, txn_word, way_word, what_words}
+use Rattle.tlm_types.specs.Log.{is_access}
 use Rattle.tlm_model.specs.Text.{address_word, data_word, line_of}
 use Rattle.trace_print.specs.Pieces.{asked_text, seq_text, status_text, times_text, unmasked_text, width_text}
 use Rattle.trace_print.specs.Told.{access_words, shown_at, shown_of, text_of}

@@ -16,7 +16,7 @@ use Rattle.tlm_model.specs.declared.operation.Operation.TheVariants.{Write, Read
 use Rattle.tlm_model.specs.declared.platform.Platform.{Platform}
 use Rattle.tlm_model.specs.Each.{EachFrom}
 use Rattle.tlm_model.specs.Plan.{Plan, Initiator}
-use Rattle.report_model.specs.Report.{is_access}
+use Rattle.tlm_types.specs.Log.{is_access}
 use Rattle.tlm_model.specs.Requests.{Request, buffer_of, is_txn, requests_from, requests_of, using}
 use Rattle.tlm_model.specs.Route.{later, latency_of}
 use Rattle.tlm_model.specs.Scripts.{IsInOrder, OfRequest, RunsScripts, has_answer, is_answer}
@@ -24,7 +24,7 @@ use Rattle.tlm_model.proofs.HistoryLemmas.{AllByRecursion-push}
 use Rattle.traffic_script.specs.Proper.{AreProper}
 use Rattle.route_plan.specs.Valid.{IsValid}
 use Rattle.route_plan.proofs.SinglePaths.{not_none, or_true, some_same}
-use Rattle.plat_core.proofs.RunLemmas.{initiator_number, initiator_within}
+use Rattle.run_outcome.proofs.PlanLemmas.{initiator_number, initiator_within}
 use Rattle.trace_print.proofs.Accesses.{IsOfAccesses}
 use Rattle.trace_print.proofs.OfRequests.{at-request, request-of, script-of}
 use Rattle.trace_print.proofs.Requested.{requests-few}

@@ -31,7 +31,8 @@ use Rattle.tlm_model.specs.Each.{EachFrom}
 use Rattle.good_history.specs.Good.{IsGood}
 use Rattle.tlm_model.specs.History.{IsAnswer, IsLegalEntry, IsLegalFrom, IsNumberedFrom, Store, after, opening_store, put, zeros_of}
 use Rattle.tlm_model.specs.Plan.{Plan, Initiator}
-use Rattle.report_model.specs.Report.{is_access, shown_by}
+use Rattle.report_model.specs.Report.{shown_by}
+use Rattle.tlm_types.specs.Log.{is_access}
 use Rattle.tlm_model.specs.Requests.{Asked, Transport, DebugRead, Invalidation, Request, got_in, requests_of}
 use Rattle.tlm_model.specs.Route.{Found, Route, into_memory, into_router, into_window, is_within, later, latency_of, before_of, route_of, walk, window_of}
 use Rattle.tlm_model.specs.Scripts.{HasWay, IsAccessOf, IsEntryOf, IsWay, OfRequest}
@@ -44,9 +45,7 @@ use Rattle.platform_file.specs.Platform.{window_at}
 use Rattle.traffic_script.specs.Proper.{AreBytes, AreProper}
 use Rattle.route_plan.specs.Valid.{IsValid}
 use Rattle.route_plan.proofs.SinglePaths.{not_none, some_same}
-use Rattle.plat_core.proofs.CoreLemmas.{blocking_from}
-use Rattle.plat_core.proofs.RunLemmas.{initiator_within}
-use Rattle.plat_core.proofs.ServableLemmas.{servable}
+use Rattle.run_outcome.proofs.PlanLemmas.{are_blocking, blocking_from, initiator_within}
 use Rattle.trace_print.specs.Naming.{AreUsual, HasNumbers, HasUsualBytes, IsObject, IsTellable}
 use Rattle.trace_print.proofs.Accesses.{IsOfAccesses, Replies, Ways, are-accesses}
 use Rattle.trace_print.proofs.FewEntries.{few-entries}
@@ -275,8 +274,7 @@ told-entry p valid before got s stored e position accessed reply way time legal 
     let i = found.initiator in
     let r = found.request in
     let shape = valid.shape in
-    let serves = servable p shape valid.scripts valid.proper in
-    let blocking = blocking_from 0 e.txn.initiator p.platform.initiators p.scripts i serves.blocking found.of_it in
+    let blocking = blocking_from 0 e.txn.initiator p.platform.initiators p.scripts i (are_blocking p.platform shape.checked) found.of_it in
     let proper = script-of AreProper 0 e.txn.initiator p.platform.initiators p.scripts i valid.proper found.of_it in
     let all = requests-told p.platform i before got 0 0 0 (omega arith) i.script proper.each in
     let told = all-at IsToldRequest (requests_of p.platform i before) all e.txn.seq r found.asked_for in

@@ -8,8 +8,8 @@ use Rattle.tlm_model.specs.History.{last_store}
 use Rattle.tlm_model.specs.Plan.{Plan, initiators_of}
 use Rattle.report_model.specs.Report.{entry_words, initiator_lines, memories_from, report_lines, report_of, traced}
 use Rattle.tlm_model.specs.Text.{line_of}
-use Rattle.plat_core.specs.declared.outcome.Outcome.{Outcome}
-use Rattle.plat_core.specs.Outcome.{IsReportable}
+use Rattle.run_outcome.specs.declared.outcome.Outcome.{Outcome}
+use Rattle.run_outcome.specs.Outcome.{IsReportable}
 use Rattle.trace_print.specs.Told.{HaveSizes, ends_lines, stores_lines, text_of}
 use Rattle.trace_print.proofs.EndLemmas.{ends-are}
 use Rattle.trace_print.proofs.StoreLemmas.{have-sizes, length-last, stores-are}

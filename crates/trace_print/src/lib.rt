@@ -17,7 +17,7 @@ ghost use Rattle.std.specs.Fmt.{decimal};
 ghost use Rattle.report_model.specs.Report.{report_of};
 ghost use Rattle.tlm_model.specs.Text.{line_of};
 ghost use Rattle.trace_print.specs.Putting.{Puts, page};
-ghost use Rattle.plat_core.specs.Outcome.{IsReportable};
+ghost use Rattle.run_outcome.specs.Outcome.{IsReportable};
 ghost use Rattle.trace_print.specs.Writes.{IsPrinted};
 
 mod access;
@@ -36,8 +36,8 @@ use crate::line::{Line, end_line, flush, put};
 use crate::memories::put_memories;
 use crate::words::put_number;
 use outside::Sink;
-use plat_core::{LogReader, Outcome};
 use route_plan::Plan;
+use run_outcome::{LogReader, Outcome};
 use std::alloc::Global;
 use thiserror::Error;
 use tlm_model::Trace;

@@ -1,7 +1,7 @@
 -- What is read from here on, behind what was read so far.
 use Rattle.std.proofs.Common.{◌≡◌, List, [], ◌∷◌, ◌++◌, Result, Ok, Err, refl, ap, append_assoc}
 use Rattle.traffic_script.specs.declared.fault.ScriptCode.{ScriptCode}
-use Rattle.traffic_script.specs.Reading.{◌>>=◌}
+use Rattle.tlm_types.specs.Reading.{◌>>=◌}
 
 -- the front and then what is read
 abbrev pub behind : {A : Type 0} → List A → Result (List A) ScriptCode → Result (List A) ScriptCode

@@ -4,7 +4,7 @@ use Rattle.std.specs.Char.{is_digit, digit_value}
 use Rattle.std.specs.List.{list_all}
 use Rattle.traffic_script.specs.declared.fault.ScriptCode.{ScriptCode}
 use Rattle.traffic_script.specs.declared.fault.ScriptCode.TheVariants.{BadHex}
-use Rattle.traffic_script.specs.Reading.{◌>>=◌}
+use Rattle.tlm_types.specs.Reading.{◌>>=◌}
 use Rattle.traffic_script.specs.Numbers.{byte_of, bytes_of}
 use Rattle.traffic_script.proofs.Fronts.{behind, behind_more}
 use Rattle.traffic_script.proofs.ReadLemmas.{and-true}

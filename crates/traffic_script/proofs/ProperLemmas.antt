@@ -15,9 +15,10 @@ use Rattle.traffic_script.specs.declared.keyword.Keyword.{Keyword}
 use Rattle.traffic_script.specs.declared.keyword.Keyword.TheVariants as keyword
 use Rattle.traffic_script.specs.declared.statement.Statement.{Statement}
 use Rattle.traffic_script.specs.declared.statement.Statement.TheVariants.{Asks, Repeats, Ends}
-use Rattle.traffic_script.specs.Reading.{◌>>=◌}
+use Rattle.tlm_types.specs.Reading.{◌>>=◌}
 use Rattle.traffic_script.specs.Words.{words_of, text_of}
-use Rattle.traffic_script.specs.Numbers.{number_in, number_of, within, length_of, times_of, addend_of, byte_of, bytes_of, hex_of, few, is_enable, only_enables, data_of, enables_of}
+use Rattle.traffic_script.specs.Numbers.{number_in, number_of, within, length_of, times_of, addend_of, byte_of, bytes_of, hex_of, few, only_enables, data_of, enables_of}
+use Rattle.tlm_types.specs.Enables.{is_enable}
 use Rattle.traffic_script.specs.Options.{no_options, with_enables, with_width, with_option, with_options}
 use Rattle.traffic_script.specs.Statements.{keyword_of, write_of, read_of, ignore_of, debug_of, copy_of, add_of, wait_of, alone, repeat_of, asks, statement_by, statement_in, statement_of}
 use Rattle.traffic_script.specs.Proper.{IsLength, AreEnables, AreBytes, IsProper, AreTimes, IsProperStatement}

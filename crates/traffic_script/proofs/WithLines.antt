@@ -1,6 +1,7 @@
 -- One more line.
 use Rattle.std.proofs.Common.{◌≡◌, ℕ, ◌+◌, List, ◌∷◌, Ok, ap, ◌∙◌}
-use Rattle.traffic_script.specs.Reading.{◌>>=◌, placed}
+use Rattle.traffic_script.specs.Reading.{placed}
+use Rattle.tlm_types.specs.Reading.{◌>>=◌}
 use Rattle.traffic_script.specs.Drafts.{Draft}
 use Rattle.traffic_script.specs.Lines.{with_line, with_lines}
 

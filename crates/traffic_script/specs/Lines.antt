@@ -4,7 +4,8 @@ use Rattle.std.specs.Str.Lines.{lines}
 use Rattle.tlm_model.specs.declared.operation.Operation.{Operation}
 use Rattle.traffic_script.specs.declared.fault.ScriptCode.{ScriptCode}
 use Rattle.traffic_script.specs.declared.fault.ScriptCode.TheVariants.{TooManyLines}
-use Rattle.traffic_script.specs.Reading.{◌>>=◌, Refusal, placed}
+use Rattle.traffic_script.specs.Reading.{Refusal, placed}
+use Rattle.tlm_types.specs.Reading.{◌>>=◌}
 use Rattle.traffic_script.specs.Statements.{statement_of}
 use Rattle.traffic_script.specs.Drafts.{Draft, empty_draft, taken, finished}
 

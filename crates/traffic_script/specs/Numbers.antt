@@ -5,7 +5,8 @@ use Rattle.std.specs.List.{list_all, starts_with}
 use Rattle.std.specs.Str.Parse.{digits_value}
 use Rattle.traffic_script.specs.declared.fault.ScriptCode.{ScriptCode}
 use Rattle.traffic_script.specs.declared.fault.ScriptCode.TheVariants.{BadNumber, BadHex, BadLength}
-use Rattle.traffic_script.specs.Reading.{◌>>=◌}
+use Rattle.tlm_types.specs.Enables.{is_enable}
+use Rattle.tlm_types.specs.Reading.{◌>>=◌}
 
 -- the number that one or more digits of a base write, below 2^64; letters are of either case
 abbrev pub number_in : ℕ → List ℕ → Result ℕ ScriptCode
@@ -55,9 +56,6 @@ abbrev pub few : List ℕ → Result (List ℕ) ScriptCode
 few bytes = if nat_le (length bytes) 4096 then Ok bytes else Err BadLength
 
 -- byte enables are 00 or ff
-abbrev pub is_enable : ℕ → Bool
-is_enable b = b == 0 || b == 255
-
 abbrev pub only_enables : List ℕ → Result (List ℕ) ScriptCode
 only_enables bytes = if list_all is_enable bytes then Ok bytes else Err BadHex
 

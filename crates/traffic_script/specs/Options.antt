@@ -4,7 +4,7 @@ use Rattle.std.specs.List.{starts_with}
 use Rattle.traffic_script.specs.declared.fault.ScriptCode.{ScriptCode}
 use Rattle.traffic_script.specs.declared.fault.ScriptCode.TheVariants.{BadOption}
 use Rattle.traffic_script.specs.declared.options.Options.{Options}
-use Rattle.traffic_script.specs.Reading.{◌>>=◌}
+use Rattle.tlm_types.specs.Reading.{◌>>=◌}
 use Rattle.traffic_script.specs.Numbers.{number_of, enables_of}
 
 abbrev pub no_options : Options

@@ -1,5 +1,6 @@
 -- What is read, or the first refusal.
-use Rattle.std.specs.Prelude.{◌≡◌, ℕ, List, Result, Ok, Err, codes}
+use Rattle.std.specs.Prelude.{ℕ, List, Option, Some, None, Result, Ok, Err, codes}
+use Rattle.tlm_types.specs.Reading.{FailsAs, Returns}
 use Rattle.traffic_script.specs.declared.fault.ScriptCode.{ScriptCode}
 use Rattle.traffic_script.specs.declared.fault.ScriptCode.TheVariants.{TooManyLines, BadByte, UnknownOperation, Arity, BadNumber, BadHex, BadLength, BadOption, NestedRepeat, EndWithoutRepeat, EmptyRepeat, TooManyOperations, RepeatWithoutEnd, NotBuilt}
 use Rattle.traffic_script.specs.declared.fault.ScriptFault.{ScriptFault}
@@ -29,35 +30,34 @@ pub record Refusal : Type 0 where
   pub line : ℕ
   pub code : ScriptCode
 
--- what is read next, where something was read before
-infixl 10 ◌>>=◌
-abbrev pub ◌>>=◌ : {A B E : Type 0} → Result A E → (A → Result B E) → Result B E
-(Ok x) >>= f = f x
-(Err e) >>= f = Err e
-
 -- a code at a line
 abbrev pub placed : {A : Type 0} → ℕ → Result A ScriptCode → Result A Refusal
 placed n (Ok x) = Ok x
 placed n (Err code) = Err (record { line = n; code = code })
 
+-- what a fault says: nothing where memory ran out
+abbrev pub script_refusal_of : ScriptFault → Option Refusal
+script_refusal_of (script.Refused n code) = Some (record { line = n; code = code })
+script_refusal_of script.Memory = None
+
+-- the same where the line isn't known yet
+abbrev pub code_of : LineFault → Option ScriptCode
+code_of (line.Refused code) = Some code
+code_of line.Memory = None
+
 -- the fault is the refusal that reading gives, unless memory ran out
 abbrev pub Fails : {A : Type 0} → ScriptFault → Result A Refusal → Type 0
-Fails (script.Refused n code) read = read ≡ Err (record { line = n; code = code })
-Fails script.Memory read = Unit {0}
+Fails fault read = FailsAs (script_refusal_of fault) read
+
+abbrev pub FailsCode : {A : Type 0} → LineFault → Result A ScriptCode → Type 0
+FailsCode fault read = FailsAs (code_of fault) read
 
 -- what a function returned is what reading gives, unless memory ran out
 abbrev pub Gives : {A : Type 0} → Result A ScriptFault → Result A Refusal → Type 0
-Gives (Ok x) read = read ≡ Ok x
-Gives (Err fault) read = Fails fault read
-
--- the same where the line isn't known yet
-abbrev pub FailsCode : {A : Type 0} → LineFault → Result A ScriptCode → Type 0
-FailsCode (line.Refused code) read = read ≡ Err code
-FailsCode line.Memory read = Unit {0}
+Gives result read = Returns script_refusal_of (λ x. x) result read
 
 abbrev pub GivesCode : {A : Type 0} → Result A LineFault → Result A ScriptCode → Type 0
-GivesCode (Ok x) read = read ≡ Ok x
-GivesCode (Err fault) read = FailsCode fault read
+GivesCode result read = Returns code_of (λ x. x) result read
 
 -- a fault at a line
 abbrev pub fault_at : ℕ → LineFault → ScriptFault

@@ -9,7 +9,7 @@ use Rattle.traffic_script.specs.declared.keyword.Keyword.{Keyword}
 use Rattle.traffic_script.specs.declared.keyword.Keyword.TheVariants as keyword
 use Rattle.traffic_script.specs.declared.statement.Statement.{Statement}
 use Rattle.traffic_script.specs.declared.statement.Statement.TheVariants.{Asks, Repeats, Ends}
-use Rattle.traffic_script.specs.Reading.{◌>>=◌}
+use Rattle.tlm_types.specs.Reading.{◌>>=◌}
 use Rattle.traffic_script.specs.Words.{words_of, text_of}
 use Rattle.traffic_script.specs.Numbers.{number_of, length_of, times_of, addend_of, data_of}
 use Rattle.traffic_script.specs.Options.{no_options, with_options}

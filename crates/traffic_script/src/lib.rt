@@ -7,6 +7,7 @@
 //!   by the text's lines. Its copies, and the cursors made of them, share its pieces, so a copy takes
 //!   constant time, and no memory by the script's length. They may be in different threads.
 //! - `Cursor` walks through a script in constant time a step.
+//! - `asks_of` is what an operation asks for: accesses, debug reads and invalidations.
 //! - `ScriptFault` says why nothing was read: a line from 1 with a `ScriptCode`, or want of memory.
 //! - `worked` has worked scripts, proved by computing the definition.
 //!
@@ -16,6 +17,7 @@
 //! in proportion to the text.
 #![tactic(auto)]
 
+mod asks;
 mod builder;
 mod cursor;
 mod fault;
@@ -33,6 +35,7 @@ mod statement;
 mod words;
 pub mod worked;
 
+pub use asks::asks_of;
 pub use cursor::Cursor;
 pub use fault::{ScriptCode, ScriptFault};
 pub use piece::Piece;

@@ -4,7 +4,8 @@ ghost use Rattle.std.specs.Option.{SomeIff};
 ghost use Rattle.std.specs.Char.{is_digit, digit_value};
 ghost use Rattle.std.specs.List.{list_all};
 ghost use Rattle.traffic_script.specs.Reading.{GivesCode};
-ghost use Rattle.traffic_script.specs.Numbers.{number_in, number_of, within, length_of, times_of, addend_of, byte_of, bytes_of, hex_of, is_enable, data_of, enables_of};
+ghost use Rattle.traffic_script.specs.Numbers.{number_in, number_of, within, length_of, times_of, addend_of, byte_of, bytes_of, hex_of, data_of, enables_of};
+ghost use Rattle.tlm_types.specs.Enables.{is_enable};
 
 use crate::fault::{LineFault, ScriptCode};
 use std::alloc::Global;

@@ -1,7 +1,4 @@
 // A script.
-#[cfg(test)]
-mod tests;
-
 use crate::piece::Piece;
 use std::alloc::Global;
 use std::marker::Model;

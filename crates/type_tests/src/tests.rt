@@ -1,62 +1,66 @@
+use std::alloc::Global;
 use std::process::Abort;
-use std::test::Fail;
 use tlm_model::Rows;
 use tlm_types::{
     Bytes, Command, Facts, Head, Kind, Log, LoggedAccess, MemoryTraits, ObjectNo, Phase,
     RefusedItem, RefusedList, Response, Text, TlmSync, TxnId, Way, What, kind_of,
 };
 
+fn bytes_are_kept(rt: &impl Abort, alloc: Global) -> bool {
+    let copied = Bytes::from_slice(alloc, &[1, 2, 3]).expect(rt, "memory");
+    let moved = Bytes::from_vec(vec![in alloc; 9u8, 8].expect(rt, "memory"));
+    copied.as_slice() == [1, 2, 3].as_slice() && moved.as_slice() == [9, 8].as_slice()
+}
+
+fn texts_are_kept(rt: &impl Abort, alloc: Global) -> bool {
+    let copied = Text::from_text(alloc, "ram").expect(rt, "memory");
+    let moved = Text::from_string(String::from_str(alloc, "cpu").expect(rt, "memory"));
+    copied.as_text() == "ram" && moved.as_text() == "cpu"
+}
+
 #[test]
-fn lists_keep_what_they_are_made_of(rt: HostRuntime) -> Result<(), Fail> {
-    let alloc = rt.alloc();
-    let copied = Bytes::from_slice(alloc, &[1, 2, 3])?;
-    assert_eq!(rt; copied.as_slice(), [1, 2, 3].as_slice());
-    let moved = Bytes::from_vec(vec![in alloc; 9u8, 8]?);
-    assert_eq!(rt; moved.as_slice(), [9, 8].as_slice());
-    let copied = Text::from_text(alloc, "ram")?;
-    assert_eq!(rt; copied.as_text(), "ram");
-    let moved = Text::from_string(String::from_str(alloc, "cpu")?);
-    assert_eq!(rt; moved.as_text(), "cpu");
-    let rows = Rows::from_vec(vec![in alloc; 3u64, 5]?);
-    assert_eq!(rt; rows.as_slice(), [3, 5].as_slice());
-    Ok(())
+fn lists_keep_what_they_are_made_of(rt: HostRuntime) {
+    assert!(rt; bytes_are_kept(&rt, rt.alloc()));
+    assert!(rt; texts_are_kept(&rt, rt.alloc()));
+    let rows = Rows::from_vec(vec![in rt.alloc(); 3u64, 5].expect(&rt, "memory"));
+    assert!(rt; rows.as_slice() == [3, 5].as_slice());
 }
 
 #[test]
 fn burst_errors_are_minus_four(rt: HostRuntime) {
-    assert_eq!(rt; Response::BurstError.value(), -4);
+    assert!(rt; Response::BurstError.value() == -4);
 }
+
+const ROM: MemoryTraits = MemoryTraits {
+    size: 1,
+    latency: 0,
+    readable: true,
+    writable: false,
+    enables: true,
+    streaming: true,
+    dmi: true,
+    gates: 1,
+};
 
 #[test]
 fn a_rom_grants_reads(rt: HostRuntime) {
-    let rom = MemoryTraits {
-        size: 1,
-        latency: 0,
-        readable: true,
-        writable: false,
-        enables: true,
-        streaming: true,
-        dmi: true,
-        gates: 1,
-    };
-    assert_eq!(rt; kind_of(&rom), Kind::Read);
+    assert!(rt; kind_of(&ROM) == Kind::Read);
 }
 
+const ITEM: RefusedItem = RefusedItem {
+    seq: 1,
+    time: 15,
+    debug: false,
+    command: Command::Read,
+    address: 0x1000,
+};
+
 #[test]
-fn a_refused_list_keeps_its_items(rt: HostRuntime) -> Result<(), Fail> {
-    let mut list = RefusedList::with_room(rt.alloc(), 2)?;
+fn a_refused_list_keeps_its_items(rt: HostRuntime) {
+    let mut list = RefusedList::with_room(rt.alloc(), 2).expect(&rt, "memory");
     assert!(rt; list.is_empty());
-    let item = RefusedItem {
-        seq: 1,
-        time: 15,
-        debug: false,
-        command: Command::Read,
-        address: 0x1000,
-    };
-    list.push(item);
-    assert_eq!(rt; list.len(), 1);
-    assert_eq!(rt; list.item(0), item);
-    Ok(())
+    list.push(ITEM);
+    assert!(rt; list.len() == 1 && list.item(0) == ITEM);
 }
 
 const SENT: &[u8] = &[1, 2, 3, 4];
@@ -95,59 +99,81 @@ const CALL_HEAD: Head = Head {
     time: WIDE,
 };
 
-fn is_the_write(rt: &impl Abort, log: &Log) {
-    assert!(rt; !log.is_empty());
-    let Some(
-        LoggedAccess {
-            head,
-            facts,
-            sent,
-            enables,
-            got,
-        },
-    ) = log.access(0)
-    else {
-        panic!(rt; "the write is no access");
-    };
-    assert!(rt; head == WRITE_HEAD && facts == WRITE);
-    assert!(rt; sent == SENT && enables == ENABLES && got.is_empty());
+fn is_the_write(log: &Log) -> bool {
+    if log.is_empty() {
+        return false;
+    }
+    match log.access(0) {
+        Some(
+            LoggedAccess {
+                head,
+                facts,
+                sent,
+                enables,
+                got,
+            },
+        ) => {
+            head == WRITE_HEAD
+                && facts == WRITE
+                && sent == SENT
+                && enables == ENABLES
+                && got.is_empty()
+        }
+        None => false,
+    }
 }
 
-// Each part of the write by its own call.
-fn has_its_parts(rt: &impl Abort, log: &Log) {
-    assert!(rt; !log.is_empty());
-    assert!(rt; log.head(0) == WRITE_HEAD && log.what(0).is_none());
-    let Some(facts) = log.facts(0) else {
-        panic!(rt; "the write is no access");
-    };
-    assert!(rt; facts.command == Command::Write);
-    assert!(rt; log.sent(0) == SENT && log.enables(0) == ENABLES);
-    assert!(rt; log.got(0).is_empty());
+// Whether each part of the write is read by its own call.
+fn has_its_parts(log: &Log) -> bool {
+    if log.is_empty() {
+        return false;
+    }
+    match log.facts(0) {
+        Some(facts) if facts.command == Command::Write => {
+            log.head(0) == WRITE_HEAD
+                && log.what(0).is_none()
+                && log.sent(0) == SENT
+                && log.enables(0) == ENABLES
+                && log.got(0).is_empty()
+        }
+        _ => false,
+    }
 }
 
-fn is_the_call(rt: &impl Abort, log: &Log) {
-    assert!(rt; log.len() > 1);
-    assert!(rt; log.head(1) == CALL_HEAD && log.facts(1).is_none());
-    let Some(What::Call { phase, answer }) = log.what(1) else {
-        panic!(rt; "the call is another entry");
-    };
-    assert!(rt; phase == Phase::BeginReq && answer == TlmSync::Accepted);
+fn is_request(what: What) -> bool {
+    matches!(
+        what,
+        What::Call {
+            phase: Phase::BeginReq,
+            answer: TlmSync::Accepted,
+        }
+    )
 }
+
+fn is_the_call(log: &Log) -> bool {
+    if log.len() < 2 {
+        return false;
+    }
+    match log.what(1) {
+        Some(what) => log.head(1) == CALL_HEAD && log.facts(1).is_none() && is_request(what),
+        None => false,
+    }
+}
+
+const BEGUN: What = What::Call {
+    phase: Phase::BeginReq,
+    answer: TlmSync::Accepted,
+};
 
 #[test]
-fn a_log_reads_back_what_was_pushed(rt: HostRuntime) -> Result<(), Fail> {
-    let mut log = Log::with_room(rt.alloc(), 2, 6)?;
+fn a_log_reads_back_what_was_pushed(rt: HostRuntime) {
+    let mut log = Log::with_room(rt.alloc(), 2, 6).expect(&rt, "memory");
     assert!(rt; log.is_empty());
-    log.make_room(6)?;
-    log.push_access(WRITE_HEAD, WRITE, SENT, ENABLES, &[])?;
-    let begun = What::Call {
-        phase: Phase::BeginReq,
-        answer: TlmSync::Accepted,
-    };
-    log.push(CALL_HEAD, begun)?;
-    assert_eq!(rt; log.len(), 2);
-    is_the_write(&rt, &log);
-    has_its_parts(&rt, &log);
-    is_the_call(&rt, &log);
-    Ok(())
+    log.make_room(6).expect(&rt, "memory");
+    let written = log.push_access(WRITE_HEAD, WRITE, SENT, ENABLES, &[]);
+    assert!(rt; written.is_ok() && log.push(CALL_HEAD, BEGUN).is_ok());
+    assert!(rt; log.len() == 2);
+    assert!(rt; is_the_write(&log));
+    assert!(rt; has_its_parts(&log));
+    assert!(rt; is_the_call(&log));
 }

@@ -11,8 +11,8 @@ use Rattle.hop_bench.specs.Legs.{Answers}
 use Rattle.hop_bench.proofs.OwnItems.{known_leg, own_fetch, own_item}
 use Rattle.hop_bench.proofs.hop_steps.fetch.Goals as goal
 
-pub returns-in-Down-Some-default-Waiting-default-default-default-clause-leg : goal.returns-in-Down-Some-default-Waiting-default-default-default-clause-leg
-returns-in-Down-Some-default-Waiting-default-default-default-clause-leg g c = λ h there.
+pub returns-clause-leg : goal.returns-clause-leg
+returns-clause-leg g c = λ h there.
     let w = c.in-Down-Some-default-Waiting-default-default-default in
     let down = subst (λ (r : HopReply ℕ). LegsFit h r) w.is (c.ask-reply.ensures.legs h there) in
     let some = subst (λ (r : Option (Slip × LaneState × TxnId × ℕ × ℕ)). LegsFit h (Down r)) w.field-0-is down in
@@ -21,8 +21,8 @@ returns-in-Down-Some-default-Waiting-default-default-default-clause-leg g c = λ
 pub ask-reply-requires-clause-own : goal.ask-reply-requires-clause-own
 ask-reply-requires-clause-own g c = own_fetch g.N.Naming.frame g.N.Naming.tokens c.args.place.now.number c.args.place.now.own c.args.note.knows.known
 
-pub returns-in-Down-Some-default-Waiting-default-default-default-clause-known : goal.returns-in-Down-Some-default-Waiting-default-default-default-clause-known
-returns-in-Down-Some-default-Waiting-default-default-default-clause-known g c =
+pub returns-clause-known : goal.returns-clause-known
+returns-clause-known g c =
     let w = c.in-Down-Some-default-Waiting-default-default-default in
     let number = c.args.place.now.number in
     let known = c.ask-reply.result.note.knows.known in
@@ -30,8 +30,8 @@ returns-in-Down-Some-default-Waiting-default-default-default-clause-known g c =
     let some = subst (λ (r : Option (Slip × LaneState × TxnId × ℕ × ℕ)). Answers number FetchDown (Down r) known) w.field-0-is down in
     known_leg number _ known some
 
-pub returns-in-Down-Some-default-Waiting-default-default-default-clause-own : goal.returns-in-Down-Some-default-Waiting-default-default-default-clause-own
-returns-in-Down-Some-default-Waiting-default-default-default-clause-own g c =
+pub returns-clause-own : goal.returns-clause-own
+returns-clause-own g c =
     let w = c.in-Down-Some-default-Waiting-default-default-default in
     let number = c.args.place.now.number in
     let known = c.ask-reply.result.note.knows.known in

@@ -1,6 +1,7 @@
 use Rattle.std.proofs.Common.{sym, ◌∙◌}
 use Rattle.std.proofs.lemmas.Result.{IfOk-weaker}
-use Rattle.plat_core.specs.Outcome.{IsOutcome, IsWhole}
+use Rattle.plat_core.specs.Outcome.{IsOutcome}
+use Rattle.run_outcome.specs.Outcome.{IsWhole}
 use Rattle.plat_core.proofs.ReportLemmas.{whole_of}
 use Rattle.plat_core.proofs.schedule.run_in_order.Goals as goal
 

@@ -1,9 +1,9 @@
 use Rattle.std.proofs.Common.{Bool, get_or, take, sym, ap, ◌∙◌}
 use Rattle.std.specs.List.{list_all}
-use Rattle.plat_core.proofs.ListLemmas.{take_all}
-use Rattle.plat_core.proofs.AnswerLemmas.{and_true}
+use Rattle.run_outcome.proofs.ListLemmas.{take_all}
+use Rattle.initiator_run.proofs.AnswerLemmas.{and_true}
 use Rattle.std.proofs.lemmas.List.Folds.{list_all-map, list_all_at, list_all_more}
-use Rattle.plat_core.specs.Run.{Run}
+use Rattle.initiator_run.specs.Run.{Run}
 use Rattle.plat_core.proofs.steps.all_finished.Goals as goal
 
 pub returns-then-not-has_finished : goal.returns-then-not-has_finished

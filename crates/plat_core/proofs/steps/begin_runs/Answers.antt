@@ -6,11 +6,11 @@ use Rattle.tlm_model.specs.declared.platform.Platform.{Platform}
 use Rattle.tlm_model.specs.Plan.{initiators_of}
 use Rattle.traffic_script.specs.Proper.{AreProper}
 use Rattle.plat_core.specs.Core.{begun_run, no_runs}
-use Rattle.plat_core.specs.Run.{Run, begun}
+use Rattle.initiator_run.specs.Run.{Run, begun}
 use Rattle.plat_core.proofs.BeginLemmas.{no_run_at}
-use Rattle.plat_core.proofs.CoreLemmas.{initiators_count}
-use Rattle.plat_core.proofs.ListLemmas.{take_all, take_push}
-use Rattle.plat_core.proofs.ServableLemmas.{more_proper, servable}
+use Rattle.route_plan.proofs.ShareLemmas.{count_initiators}
+use Rattle.run_outcome.proofs.ListLemmas.{take_all, take_push}
+use Rattle.initiator_run.proofs.ServableLemmas.{more_proper, servable}
 use Rattle.plat_core.proofs.steps.begin_runs.Goals as goal
 
 pub loop-number-init : goal.loop-number-init
@@ -41,7 +41,7 @@ returns-clause-runs c =
     let p = c.args.plan.now in
     let rows : length c.as_slice-number-end.result.now ≡ length p.platform.initiators = ap length (c.as_slice-number-end.ensures ∙ ap (λ (x : Platform). x.initiators) c.platform-2.ensures.same) in
     let scripts : length p.scripts ≡ length p.platform.initiators = c.loop-number.invariant.scripts (omega (arith, rows, c.loop-number-test.false, c.platform-2.ensures.shape.bounded.some_initiator)) in
-    c.loop-number.invariant.runs ∙ take_all c.loop-number.number (no_runs p) (omega (arith, length-map (initiators_of p) (begun_run p), initiators_count 0 p.platform.initiators p.scripts scripts, rows, c.loop-number-test.false))
+    c.loop-number.invariant.runs ∙ take_all c.loop-number.number (no_runs p) (omega (arith, length-map (initiators_of p) (begun_run p), count_initiators 0 p.platform.initiators p.scripts scripts, rows, c.loop-number-test.false))
 
 pub returns-clause-servable : goal.returns-clause-servable
 returns-clause-servable c =

@@ -1,8 +1,8 @@
 use Rattle.std.proofs.Common.{◌∙◌, ap, sym, map}
 use Rattle.std.proofs.lemmas.Iterator.Adapters.{YieldsList-from_vec}
 use Rattle.std.proofs.lemmas.Iterator.Consumers.{YieldsList-end}
-use Rattle.plat_core.specs.Run.{end_at}
-use Rattle.plat_core.proofs.ListLemmas.{map-same, map_push}
+use Rattle.initiator_run.specs.Run.{end_at}
+use Rattle.run_outcome.proofs.ListLemmas.{map-same, map_push}
 use Rattle.plat_core.proofs.steps.into_ends.Goals as goal
 
 pub loop-run-init : goal.loop-run-init

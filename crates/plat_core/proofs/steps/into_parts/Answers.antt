@@ -5,8 +5,8 @@ use Rattle.tlm_types.specs.Log.{LogView}
 use Rattle.tlm_model.specs.Log.{log_bytes}
 use Rattle.region_object.specs.Region.{LoggedMemory}
 use Rattle.plat_core.specs.Core.{logs_of}
-use Rattle.plat_core.specs.Places.{entries_of_logs}
-use Rattle.plat_core.proofs.ListLemmas.{map-push, map-same, map_push}
+use Rattle.run_outcome.specs.Places.{entries_of_logs}
+use Rattle.run_outcome.proofs.ListLemmas.{map-push, map-same, map_push}
 use Rattle.plat_core.proofs.steps.into_parts.Goals as goal
 
 pub loop-region-init : goal.loop-region-init

@@ -2,7 +2,7 @@ use Rattle.std.proofs.Common.{◌≡◌, ℕ, ◌*◌, ◌<◌, length, Some, ap
 use Rattle.std.specs.Prelude.{slice_get}
 use Rattle.tlm_model.specs.declared.platform.Platform.{Platform}
 use Rattle.tlm_model.specs.Plan.{Plan}
-use Rattle.plat_core.specs.Core.{IsServable}
+use Rattle.initiator_run.specs.Served.{IsServable}
 use Rattle.plat_run.proofs.BeginLemmas.{job_begun}
 use Rattle.plat_run.proofs.begin.begin_initiator.Goals as goal
 

@@ -3,7 +3,7 @@ use Rattle.std.proofs.lemmas.List.{take_all}
 use Rattle.std.specs.Prelude.{map, slice_get}
 use Rattle.tlm_types.specs.declared.entry.Entry.{Entry}
 use Rattle.report_model.specs.Report.{entry_words, traced}
-use Rattle.plat_core.specs.Places.{MergedView}
+use Rattle.run_outcome.specs.Places.{MergedView}
 use Rattle.trace_print.specs.Told.{text_of}
 use Rattle.trace_print.proofs.EntryLemmas.{entries-next, next-entry, traced-nothing}
 use Rattle.trace_print.proofs.Putting.{puts-as, puts-more, puts-nothing}

@@ -1,6 +1,6 @@
 use Rattle.std.proofs.Common.{◌≡◌, take}
 use Rattle.std.specs.List.{list_all}
-use Rattle.traffic_script.specs.Numbers.{is_enable}
+use Rattle.tlm_types.specs.Enables.{is_enable}
 use Rattle.traffic_script.proofs.numbers.only_enables.Given as goal
 
 abbrev pub invariant-loop-byte : goal.invariant-loop-byte

@@ -1,7 +1,7 @@
 use Rattle.std.proofs.Common.{◌∙◌, List, length, ap, sym, subst}
 use Rattle.tlm_model.specs.History.{IsNumbered}
 use Rattle.tlm_types.specs.declared.entry.Entry.{Entry}
-use Rattle.plat_core.specs.Merge.{merged}
+use Rattle.run_outcome.specs.Merge.{merged}
 use Rattle.plat_core.proofs.OutcomeLemmas.{outcome_is}
 use Rattle.plat_core.proofs.steps.Core.into_outcome.Goals as goal
 

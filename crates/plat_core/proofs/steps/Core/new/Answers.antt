@@ -6,7 +6,7 @@ use Rattle.generic_payload.specs.Payload.{PayloadView}
 use Rattle.time_board.specs.Rounds.{new_member}
 use Rattle.plat_core.specs.Core.{are_finished, begun_run}
 use Rattle.plat_core.proofs.BeginLemmas.{core_begun, no_flags, no_history}
-use Rattle.plat_core.proofs.CoreLemmas.{initiators_count}
+use Rattle.route_plan.proofs.ShareLemmas.{count_initiators}
 use Rattle.plat_core.proofs.RoundsKept.{rounds_begun}
 use Rattle.plat_core.proofs.ViewLemmas.{view_is}
 use Rattle.plat_core.proofs.steps.Core.new.Goals as goal
@@ -20,9 +20,9 @@ pub invariant_of-result : goal.invariant_of-result
 invariant_of-result c =
     let p = c.args.plan.now in
     let size : length c.in_ok-runs.runs.items ≡ length p.platform.initiators =
-    ap length c.in_ok-runs.ensures.runs ∙ (length-map (initiators_of p) (begun_run p) ∙ initiators_count 0 p.platform.initiators p.scripts c.in_ok-runs.ensures.servable.scripts) in
+    ap length c.in_ok-runs.ensures.runs ∙ (length-map (initiators_of p) (begun_run p) ∙ count_initiators 0 p.platform.initiators p.scripts c.in_ok-runs.ensures.servable.scripts) in
     let count : length c.as_slice.result.now ≡ length p.platform.initiators = ap length (c.as_slice.ensures ∙ ap (λ (x : Platform). x.initiators) c.platform.ensures.same) in (
-      core_begun p c.in_ok-runs.runs.items c.in_ok-regions.regions.items c.in_ok-runs.ensures.servable c.in_ok-runs.ensures.runs c.in_ok-regions.ensures (initiators_count 0 p.platform.initiators p.scripts c.in_ok-runs.ensures.servable.scripts),
+      core_begun p c.in_ok-runs.runs.items c.in_ok-regions.regions.items c.in_ok-runs.ensures.servable c.in_ok-runs.ensures.runs c.in_ok-regions.ensures (count_initiators 0 p.platform.initiators p.scripts c.in_ok-runs.ensures.servable.scripts),
       rounds_begun p _ c.in_ok-runs.runs.items c.in_ok-rounds.rounds c.in_ok-runs.ensures.runs (no_history p c.in_ok-regions.regions.items _ c.in_ok-regions.ensures) (c.in_ok-rounds.ensures ∙ ap (λ (n : ℕ). replicate n new_member) (count ∙ sym size)),
       ap (λ (x : PayloadView). x.room) c.in_ok-payload.ensures,
     )

@@ -3,8 +3,8 @@ use Rattle.std.proofs.Math.ListN.{set}
 use Rattle.region_object.specs.Region.{LoggedMemory}
 use Rattle.plat_core.specs.Core.{CoreView, GoesOn, HasRisen, HasStopped, IsStep, progress}
 use Rattle.plat_core.specs.declared.steps.CoreStep.TheVariants.{Made, Waits, Finished}
-use Rattle.plat_core.specs.declared.turn.Turn.TheVariants as turn
-use Rattle.plat_core.specs.Turns.{HasRoomAt, IsTurn}
+use Rattle.initiator_run.specs.declared.turn.Turn.TheVariants as turn
+use Rattle.initiator_run.specs.Turns.{HasRoomAt, IsTurn}
 use Rattle.plat_core.proofs.CoreLemmas.{few_made, room_for_access, run_at, run_under_way, written}
 use Rattle.plat_core.proofs.ProgressLemmas.{few_steps, stops_done}
 use Rattle.plat_core.proofs.SteppedLemmas.{Turns, flag_is, given_up, in_round, stepped_ended, stepped_made, stepped_waits}

@@ -1,5 +1,5 @@
 use Rattle.std.proofs.Common.{ap, sym, subst, rules}
-use Rattle.plat_core.specs.Run.{Run}
+use Rattle.initiator_run.specs.Run.{Run}
 use Rattle.plat_run.specs.Job.{IsInitiator}
 use Rattle.plat_run.proofs.actor.Actor.into_parts.Goals as goal
 

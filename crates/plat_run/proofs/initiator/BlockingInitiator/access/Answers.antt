@@ -3,10 +3,10 @@ use Rattle.tlm_model.specs.Plan.{Plan}
 use Rattle.generic_payload.specs.Payload.{PayloadView}
 use Rattle.script_engine.specs.State.{op_of}
 use Rattle.plat_build.specs.Calls.{CanPay}
-use Rattle.plat_core.specs.Moves.{HasReached}
-use Rattle.plat_core.specs.Run.{Run}
-use Rattle.plat_core.specs.Steps.{StepsOnce}
-use Rattle.plat_core.proofs.OnceLemmas.{StepsOnce-by_access}
+use Rattle.initiator_run.specs.Moves.{HasReached}
+use Rattle.initiator_run.specs.Run.{Run}
+use Rattle.initiator_run.specs.Steps.{StepsOnce}
+use Rattle.initiator_run.proofs.OnceLemmas.{StepsOnce-by_access}
 use Rattle.plat_run.specs.Job.{IsInitiator}
 use Rattle.plat_run.proofs.AccessLemmas.{goes_on, reached_as, room_again, set_out, whole_back}
 use Rattle.plat_run.proofs.MoveLemmas.{number_below}

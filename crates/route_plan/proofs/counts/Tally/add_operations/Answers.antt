@@ -1,6 +1,6 @@
 use Rattle.std.proofs.Common.{ℕ, ◌+◌, ◌*◌, take, sum_by, ap, arith}
 use Rattle.route_plan.specs.Counted.{Counted, counted_in, counted_of}
-use Rattle.route_plan.specs.Planned.{asks_of}
+use Rattle.tlm_model.specs.Actions.{asks_of}
 use Rattle.route_plan.proofs.CountLemmas.{both_more, total_more}
 use Rattle.route_plan.proofs.counts.Tally.add_operations.Goals as goal
 

@@ -1,0 +1,130 @@
+-- A run after what is next in its script.
+use Rattle.std.proofs.Common.{◌≡◌, ℕ, ◌+◌, List, [], ◌∷◌, ◌++◌, length, map, Option, Some, None, false, refl, ap, sym, subst, ◌∙◌, add-zero, arith}
+use Rattle.std.specs.List.{AllByRecursion, filter}
+use Rattle.tlm_types.specs.declared.entry.Entry.{Entry}
+use Rattle.tlm_model.specs.declared.operation.Operation.{Operation}
+use Rattle.tlm_model.specs.declared.platform.Platform.{Platform}
+use Rattle.tlm_model.specs.Plan.{Initiator}
+use Rattle.tlm_model.specs.Requests.{Request, has_no_route}
+use Rattle.generic_payload.specs.Payload.{PayloadView}
+use Rattle.quantum_keeper.specs.Keeper.{Keeper, current_time}
+use Rattle.script_engine.specs.declared.op.Op.{Op}
+use Rattle.script_engine.specs.declared.op.Op.TheVariants as next
+use Rattle.script_engine.specs.Laws.{PassesInOrder}
+use Rattle.script_engine.specs.State.{Due, State, op_of, is_fenced, payload_of, passed_over, passed_by, told_first, told_at}
+use Rattle.script_engine.specs.Asking.{asked_by, requests_at, stage_after, time_after_op}
+use Rattle.initiator_run.specs.Come.{HasMade, HasCounted, HasCome}
+use Rattle.initiator_run.specs.Served.{IsServed}
+use Rattle.initiator_run.specs.Run.{Run, with_sync, waited, passed, refused_item, IsQuiet}
+use Rattle.initiator_run.proofs.ComeLemmas.{HasMade-quiet}
+use Rattle.initiator_run.proofs.RoundLemmas.{rounds_passed}
+use Rattle.initiator_run.proofs.CountLemmas.{HasCounted-moved, time_stepped, with_sync_time, with_sync_engine, with_sync_refused}
+
+pub passed_initiator : (e : State) (ops : List Operation) → (passed_over e ops).initiator ≡ e.initiator
+passed_initiator e [] = refl
+passed_initiator e (op ∷ ops) = refl
+
+pub passed_served : (e : State) (ops : List Operation) → e.remaining ≡ ops → AllByRecursion IsServed ops → AllByRecursion IsServed (passed_over e ops).remaining
+passed_served e [] same served = subst (AllByRecursion IsServed) (sym same) served
+passed_served e (op ∷ ops) same served = served.1
+
+told_initiator : (e : State) (got : List ℕ) (due : Option Due) (ops : List Operation) → (told_first e got ops).initiator ≡ e.initiator
+told_initiator e got due [] = refl
+told_initiator e got due (op ∷ ops) = refl
+
+pub told_at_initiator : (e : State) (got : List ℕ) (due : Option Due) → (told_at e got due).initiator ≡ e.initiator
+told_at_initiator e got None = told_initiator e got None e.remaining
+told_at_initiator e got (Some w) = refl
+
+told_first_served : (e : State) (got : List ℕ) (ops : List Operation) → e.remaining ≡ ops → AllByRecursion IsServed ops → AllByRecursion IsServed (told_first e got ops).remaining
+told_first_served e got [] same served = subst (AllByRecursion IsServed) (sym same) served
+told_first_served e got (op ∷ ops) same served = served.1
+
+pub told_served : (e : State) (got : List ℕ) (due : Option Due) → AllByRecursion IsServed e.remaining → AllByRecursion IsServed (told_at e got due).remaining
+told_served e got None served = told_first_served e got e.remaining refl served
+told_served e got (Some w) served = served
+
+-- a run is where its history leaves it, with the sync that is due
+pub come_by : (p : Platform) (i : Initiator) (h : List Entry) (op : Op) (r : Run) (stage : ℕ) (made : List Request)
+    → HasMade p i h made (λ m. requests_at p i m (current_time r.keeper) stage r.engine) → length made ≡ r.engine.seq
+    → r.refused.items ≡ map refused_item (filter (λ q. has_no_route p i q q.asked) made)
+    → HasCounted p i (with_sync op r) → AllByRecursion IsServed r.engine.remaining → HasCome p i h (with_sync op r)
+come_by p i h op r stage made asked count refused counted served = record {
+  stage = stage;
+  made = made;
+  asked = HasMade-quiet p i h made _ _
+      (λ m. ap (λ (t : ℕ). requests_at p i (h ++ m) t stage r.engine) (sym (with_sync_time op r))
+      ∙ ap (λ (e : State). requests_at p i (h ++ m) (current_time (with_sync op r).keeper) stage e) (sym (with_sync_engine op r)))
+      asked;
+  count = count ∙ ap (λ (e : State). e.seq) (sym (with_sync_engine op r));
+  refused = ap (λ (x : _). x.items) (with_sync_refused op r) ∙ refused;
+  counted = counted;
+  served = subst (λ (e : State). AllByRecursion IsServed e.remaining) (sym (with_sync_engine op r)) served;
+}
+
+quiet_asks : (op : Op) (payload : PayloadView) (t g : ℕ) → IsQuiet op → asked_by op payload t g ≡ []
+quiet_asks (next.Wait n) payload t g q = refl
+quiet_asks next.Sync payload t g q = refl
+quiet_asks next.Fence payload t g q = refl
+quiet_asks op payload t g q = absurd q
+
+pub quiet_is_not_fenced : (op : Op) → IsQuiet op → is_fenced op ≡ false
+quiet_is_not_fenced (next.Wait n) q = refl
+quiet_is_not_fenced next.Sync q = refl
+quiet_is_not_fenced next.Fence q = refl
+quiet_is_not_fenced op q = absurd q
+
+quiet_is_not_done : (op : Op) → IsQuiet op → op ≡ next.Done → ⊥
+quiet_is_not_done op q done = subst IsQuiet done q
+
+quiet_time : (p : Platform) (i : Initiator) (op : Op) (k : Keeper) → IsQuiet op → current_time (waited op k) ≡ time_after_op p i (current_time k) op
+quiet_time p i (next.Wait n) k q = time_stepped k n
+quiet_time p i next.Sync k q = refl
+quiet_time p i next.Fence k q = refl
+quiet_time p i op k q = absurd q
+
+waited_quantum : (op : Op) (k : Keeper) → ((waited op k).quantum ≡ k.quantum) × ((waited op k).last_sync ≡ k.last_sync)
+waited_quantum (next.Access s a n command plain fenced) k = (refl, refl)
+waited_quantum op k = (refl, refl)
+
+-- a wait, a sync or a fence
+pub HasCome-quiet : (p : Platform) (i : Initiator) (h : List Entry) (r : Run) → PassesInOrder → IsQuiet (op_of r.engine) → HasCome p i h r → HasCome p i h (passed (op_of r.engine) r)
+HasCome-quiet p i h r passes quiet come =
+    come_by p i h op next (stage_after op come.stage) come.made
+    (HasMade-quiet p i h come.made _ _
+    (λ m. passes.requests p i (h ++ m) t come.stage 0 r.engine unfenced
+    ∙ (ap (λ (x : List Request). x ++ requests_at p i (h ++ m) (time_after_op p i t op) (stage_after op come.stage) e) (quiet_asks op (payload_of r.engine 0) t come.stage quiet)
+    ∙ ap (λ (x : ℕ). requests_at p i (h ++ m) x (stage_after op come.stage) e) (sym (quiet_time p i op r.keeper quiet))))
+    come.asked)
+    (come.count ∙ sym (passes.seq r.engine 0 t 0 unfenced ∙ (ap (λ (x : List Request). r.engine.seq + length x) (quiet_asks op (payload_of r.engine 0) t 0 quiet) ∙ add-zero r.engine.seq)))
+    come.refused
+    (HasCounted-moved p i r op e k come.counted (record {
+      initiator = passed_initiator r.engine r.engine.remaining;
+      quantum = (waited_quantum op r.keeper).0;
+      last_sync = (waited_quantum op r.keeper).1;
+      time = quiet_time p i op r.keeper quiet;
+      end = passes.end p i t r.engine unfenced;
+      syncs = passes.syncs p i r.keeper.last_sync t r.engine unfenced (quiet_is_not_done op quiet);
+      seq = omega (arith, passes.seq r.engine 0 t 0 unfenced);
+      rounds = λ s. rounds_passed p i r.keeper.last_sync t s r.engine unfenced (quiet_is_not_done op quiet);
+      numbers = passes.numbers r.engine unfenced;
+    }))
+    (passed_served r.engine r.engine.remaining refl come.served)
+  where
+    op : Op
+    op = op_of r.engine
+
+    e : State
+    e = passed_by r.engine
+
+    k : Keeper
+    k = waited op r.keeper
+
+    t : ℕ
+    t = current_time r.keeper
+
+    next : Run
+    next = record r { engine = e; keeper = k }
+
+    unfenced : is_fenced op ≡ false
+    unfenced = quiet_is_not_fenced op quiet

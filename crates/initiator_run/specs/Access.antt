@@ -1,0 +1,87 @@
+-- The access that a run makes at a memory.
+use Rattle.std.specs.Prelude.{ℕ, ◌≡◌, List, Some}
+use Rattle.tlm_types.specs.declared.entry.Entry.{Entry}
+use Rattle.tlm_types.specs.declared.words.ObjectNo.TheVariants.{Memory as memory_object}
+use Rattle.tlm_types.specs.declared.words.TxnId.{TxnId}
+use Rattle.tlm_types.specs.declared.words.Way.TheVariants.{Blocking}
+use Rattle.tlm_model.specs.Log.{log_bytes}
+use Rattle.tlm_model.specs.Plan.{Plan, Initiator}
+use Rattle.tlm_model.specs.Requests.{Asked}
+use Rattle.tlm_model.specs.Route.{Route as RouteOfModel, later, route_of, before_of, latency_of}
+use Rattle.generic_payload.specs.Payload.{PayloadView}
+use Rattle.region_object.specs.declared.call.RegionCall.{RegionCall}
+use Rattle.region_object.specs.declared.call.RegionCall.TheVariants.{Access, Debug}
+use Rattle.region_object.specs.declared.call.RegionReply.{RegionReply}
+use Rattle.region_object.specs.declared.call.RegionReply.TheVariants.{Accessed, Moved}
+use Rattle.region_object.specs.Region.{LoggedMemory, reply_of}
+use Rattle.route_plan.specs.declared.step.Route.{Route}
+use Rattle.script_engine.specs.declared.op.Op.{Op}
+use Rattle.script_engine.specs.declared.op.Op.TheVariants as next
+use Rattle.script_engine.specs.State.{op_of, payload_of}
+use Rattle.quantum_keeper.specs.Keeper.{current_time}
+use Rattle.initiator_run.specs.Entry.{way_of, access_at, answered_by, got_for, back}
+use Rattle.initiator_run.specs.Run.{Run, request_for}
+
+-- how many data bytes the payload of an initiator has room for
+abbrev pub payload_room : ℕ
+payload_room = 4096
+
+-- a memory that has these entries, and is else as before
+pub record HasLog (old new : LoggedMemory) (entries : List Entry) : Type 0 where
+  pub number : new.number ≡ old.number
+  pub traits : new.traits ≡ old.traits
+  pub room : new.log.room ≡ old.log.room
+  pub all : new.log.entries ≡ entries
+
+abbrev pub place_of : Route → RouteOfModel
+place_of route = record { memory = route.memory; offset = route.offset }
+
+-- a route is that of an address of an initiator
+pub record IsRouteOf (p : Plan) (i : Initiator) (address : ℕ) (route : Route) : Type 0 where
+  pub leads : route_of p.platform i address ≡ Some (place_of route)
+  pub before : route.before ≡ before_of p.platform i address
+  pub latency : route.latency ≡ latency_of p.platform i address
+
+-- the moment at which an access arrives that was issued at this time: a debug read takes no time
+abbrev pub time_at : Op → ℕ → ℕ → ℕ
+time_at (next.Access s a n command plain fenced) t before = later t before
+time_at op t before = t
+
+-- the call of an access or a debug read that was issued at this time
+abbrev pub call_at : Op → TxnId → ℕ → ℕ → PayloadView → RegionCall
+call_at (next.Access s a n command plain fenced) txn t before payload = Access txn (later t before) Blocking payload
+call_at op txn t before payload = Debug txn t payload
+
+abbrev pub payload_in_reply : RegionReply → PayloadView
+payload_in_reply (Accessed payload) = payload
+payload_in_reply (Moved payload moved) = payload
+
+-- the payload that a memory answers a call with
+abbrev pub payload_back : LoggedMemory → RegionCall → PayloadView
+payload_back m call = payload_in_reply (reply_of m call)
+
+-- what a run asks for next
+abbrev pub asked_next : Run → Asked
+asked_next r = (request_for (op_of r.engine) (payload_of r.engine payload_room) (current_time r.keeper) 0).asked
+
+-- the entry of what a run asks for next, at a memory and at this position
+abbrev pub entry_made : Run → LoggedMemory → Route → ℕ → Entry
+entry_made r m route position = record {
+  position = position;
+  object = memory_object m.number;
+  txn = record { initiator = r.engine.initiator; seq = r.engine.seq };
+  time = time_at (op_of r.engine) (current_time r.keeper) route.before;
+  what = answered_by m.traits (log_bytes m.traits m.log.entries) (way_of (asked_next r)) (access_at (place_of route) (asked_next r));
+}
+
+-- the data bytes with which its payload comes back
+abbrev pub bytes_back : Run → LoggedMemory → Route → List ℕ
+bytes_back r m route =
+    back (payload_of r.engine payload_room).command (payload_of r.engine payload_room).bytes
+    (got_for m.traits (log_bytes m.traits m.log.entries) (asked_next r) (place_of route))
+
+-- the call that carries what a run asks for next along this route
+abbrev pub next_call : Run → Route → RegionCall
+next_call r route =
+    call_at (op_of r.engine) (record { initiator = r.engine.initiator; seq = r.engine.seq }) (current_time r.keeper) route.before
+    (record (payload_of r.engine payload_room) { address = route.offset })

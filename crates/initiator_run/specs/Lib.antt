@@ -1,0 +1,10 @@
+pub mod Served
+pub mod Entry
+pub mod Run
+pub mod Board
+pub mod Come
+pub mod Access
+pub mod Left
+pub mod Moves
+pub mod Steps
+pub mod Turns

@@ -1,0 +1,70 @@
+-- What a turn of an initiator does to its run and to the memories.
+use Rattle.std.specs.Prelude.{ℕ, ◌≡◌, ◌<◌, true, List, [], ◌∷◌, ◌++◌, length, Some, IsSomeAnd, slice_get, slice_set}
+use Rattle.tlm_model.specs.Plan.{Plan}
+use Rattle.region_object.specs.Region.{LoggedMemory}
+use Rattle.route_plan.specs.declared.step.Route.{Route}
+use Rattle.time_board.specs.declared.rounds.Member.{Member}
+use Rattle.script_engine.specs.State.{op_of, is_fenced}
+use Rattle.initiator_run.specs.declared.turn.Turn.{Turn}
+use Rattle.initiator_run.specs.declared.turn.Turn.TheVariants.{Made, Waits, Ended, NoMemory}
+use Rattle.initiator_run.specs.Access.{HasLog, bytes_back, entry_made}
+use Rattle.initiator_run.specs.Board.{IsWaiting}
+use Rattle.initiator_run.specs.Moves.{HasEnded, HasReached, Keeps}
+use Rattle.initiator_run.specs.Run.{Run, accessed}
+
+-- one memory has a log with these entries, and is else as before; the others are as before
+pub record HasLogAt (old new : List LoggedMemory) (k : ℕ) (region next : LoggedMemory) : Type 0 where
+  pub was : slice_get old k ≡ Some region
+  pub now : new ≡ slice_set old k next
+
+-- there is such a memory, and it has room for one more entry
+abbrev pub HasRoomAt : List LoggedMemory → ℕ → Type 0
+HasRoomAt regions k = IsSomeAnd (slice_get regions k) (λ m. length m.log.entries < m.log.room)
+
+-- the run has moved to an access with a route, and made it
+pub record HasMadeAccess (p : Plan) (old new : Run) (before after : List LoggedMemory) (position : ℕ) : Type 0 where
+  pub middle : Run
+  pub route : Route
+  pub region : LoggedMemory
+  pub next : LoggedMemory
+  pub got : List ℕ
+  pub keeps : Keeps p old middle
+  pub finished : middle.finished ≡ old.finished
+  pub reached : HasReached p middle route
+  pub through : middle.round ≡ middle.syncs
+  pub memory : HasLogAt before after route.memory region next
+  pub logged : HasLog region next (region.log.entries ++ entry_made middle region route position ∷ [])
+  pub told : is_fenced (op_of middle.engine) ≡ true → got ≡ bytes_back middle region route
+  pub run : new ≡ accessed (op_of middle.engine) route.latency got middle
+
+-- the run has moved to an access with a route, and memory was refused
+pub record HasMoved (p : Plan) (old new : Run) (before after : List LoggedMemory) : Type 0 where
+  pub keeps : Keeps p old new
+  pub finished : new.finished ≡ old.finished
+  pub route : Route
+  pub reached : HasReached p new route
+  pub place : ℕ
+  pub region : LoggedMemory
+  pub next : LoggedMemory
+  pub memory : HasLogAt before after place region next
+  pub logged : HasLog region next region.log.entries
+
+-- the run has moved to the end of its script
+pub record HasMovedToEnd (p : Plan) (old new : Run) (before after : List LoggedMemory) : Type 0 where
+  pub keeps : Keeps p old new
+  pub ended : HasEnded new
+  pub through : new.round ≡ new.syncs
+  pub same : after ≡ before
+
+-- the run has moved to a sync that isn't let through
+pub record HasMovedToWait (p : Plan) (old new : Run) (members : List Member) (before after : List LoggedMemory) : Type 0 where
+  pub keeps : Keeps p old new
+  pub finished : new.finished ≡ old.finished
+  pub waiting : IsWaiting members new
+  pub same : after ≡ before
+
+abbrev pub IsTurn : Plan → Run → Run → List Member → List LoggedMemory → List LoggedMemory → ℕ → Turn → Type 0
+IsTurn p old new members before after position Made = HasMadeAccess p old new before after position
+IsTurn p old new members before after position Waits = HasMovedToWait p old new members before after
+IsTurn p old new members before after position Ended = HasMovedToEnd p old new before after
+IsTurn p old new members before after position NoMemory = HasMoved p old new before after

@@ -1,0 +1,24 @@
+//! The run of one blocking initiator, for those who run initiators side by side.
+//!
+//! - `InitiatorRun` is an initiator under way: where its script stands, its local time, its syncs and
+//!   the round that it has been let into. `step` makes a `Move` without an entry: an access or debug read
+//!   that has no route is noted as refused, one that has is a `NextAccess`, and `complete` goes on after it.
+//! - `take_turn` makes its moves up to and with its next entry at a memory, as far as the rounds let it; a
+//!   `Turn` tells how that ended.
+//! - `look_through` tells that a plan is servable: its initiators are blocking, and no script has an
+//!   `invalidate`.
+//!
+//! Promises: a move keeps to the script by the replies so far (`Keeps`), makes at most one sync
+//! (`SyncsOnce`) and takes at most one operation, or access of one (`StepsOnce`); where it makes no
+//! entry there is less of the script left (`IsMove`). A turn ends with an entry, at the end of the script,
+//! or just where the last sync isn't let through (`IsTurn`, `HasGoneOn`; IEEE 1666-2011, clause 16.2). The
+//! only error is want of memory, after which no entry was made.
+#![tactic(auto)]
+
+mod run;
+mod served;
+mod turn;
+
+pub use run::{InitiatorRun, Move, NextAccess};
+pub use served::look_through;
+pub use turn::{Turn, take_turn};

@@ -1,0 +1,461 @@
+// The run of one initiator: its script, its local time, and what is counted of it.
+ghost use Rattle.std.specs.Prelude.{◌≡◌, ◌+◌, ◌*◌, ◌^◌, ◌<◌, ◌≤◌, [], ◌∷◌, ◌++◌, length, IfOk, OnOk, OnErr, IsTrue, ◌↔◌, ◌≢◌, true, false};
+ghost use Rattle.tlm_model.specs.Plan.{Plan as PlanView};
+ghost use Rattle.region_object.specs.Call.{IsFit};
+ghost use Rattle.region_object.specs.Region.{entry_of as entry_of_call};
+ghost use Rattle.traffic_script.specs.Proper.{AreProper};
+ghost use Rattle.script_engine.specs.State.{is_fenced, length_of, op_of, payload_of};
+ghost use Rattle.quantum_keeper.specs.Keeper.{current_time};
+ghost use Rattle.time_board.specs.Rounds.{AreClose};
+ghost use Rattle.initiator_run.specs.Access.{HasLog, bytes_back, call_at, entry_made, payload_back};
+ghost use Rattle.initiator_run.specs.Board.{HasGoneOn, IsInRound, IsLet, SyncsOnce};
+ghost use Rattle.initiator_run.specs.Moves.{Advances, IsMove, IsUnderWay, Keeps, steps_left};
+ghost use Rattle.initiator_run.specs.Steps.{StepsOnce};
+ghost use Rattle.initiator_run.specs.Run.{IsAccessOp, IsQuiet, accessed, address_of, begun, end_at, engine_after, is_debug, passed, refused_op, with_refusal, with_sync};
+
+use generic_payload::Payload;
+use outside::Pace;
+use quantum_keeper::QuantumKeeper;
+use region_object::Region;
+use route_plan::{Plan, Route};
+use script_engine::{Engine, Op};
+use std::alloc::Global;
+use std::marker::Model;
+use time_board::{Advance, Rounds};
+use tlm_types::{Command, EndOf, Memory, Ps, RefusedItem, RefusedList, TxnId, Way};
+use traffic_script::Script;
+
+/// A blocking initiator under way. Contracts see where its script stands, its local time, its syncs, the
+/// round that it has been let into, and what had no route.
+#[derive(Drop)]
+pub struct InitiatorRun {
+    engine: Engine,
+    keeper: QuantumKeeper,
+    syncs: u64,
+    round: u64,
+    refused: RefusedList,
+    finished: bool,
+}
+
+impl Model for InitiatorRun {
+    ghost use Rattle.initiator_run.specs.Run.{Run};
+
+    ghost Value = { Run };
+
+    ghost view = { λ r. record {
+      engine = r.engine;
+      keeper = r.keeper;
+      syncs = r.syncs;
+      round = r.round;
+      refused = r.refused;
+      finished = r.finished;
+    } };
+}
+
+/// An access or a debug read that is next, with its route.
+#[derive(Drop)]
+pub struct NextAccess {
+    pub op: Op,
+    pub route: Route,
+}
+
+/// What a run does next.
+pub enum Move {
+    /// It has moved on, and made no entry.
+    Went,
+    /// The access or debug read that is next has a route.
+    Reached(NextAccess),
+    /// Its script has ended.
+    Ended,
+}
+
+/// Where the moves of a run have led to.
+pub(crate) enum Stop {
+    /// The access or debug read that is next has a route.
+    Reached(NextAccess),
+    /// Others have to move before its last sync is let through.
+    Waits,
+    /// Its script has ended.
+    Ended,
+}
+
+impl InitiatorRun {
+    /// A run of an initiator of this number with its whole script before it. Its only error is want of
+    /// memory.
+    pub fn new(
+        alloc: Global,
+        initiator: u32,
+        script: Script,
+        quantum: Ps,
+    ) -> Result<InitiatorRun, Memory>
+        ensures run { IfOk result (λ run. run ≡ begun initiator script quantum (2 * length script)) }
+        ensures proper { IfOk result (λ _. AreProper script) }
+    {
+        let room = 2 * script.len() as u32;
+        InitiatorRun::of_engine(alloc, Engine::new(initiator, script), quantum, room)
+    }
+
+    /// A run of an engine that has its whole script before it, with room for so many refusals. Its only
+    /// error is want of memory.
+    pub fn of_engine(
+        alloc: Global,
+        engine: Engine,
+        quantum: Ps,
+        room: u32,
+    ) -> Result<InitiatorRun, Memory>
+        ensures { IfOk result (λ run. run ≡ record (begun 0 [] quantum room) { engine = engine }) }
+    {
+        let refused = RefusedList::with_room(alloc, room)?;
+        Ok(InitiatorRun {
+            engine,
+            keeper: QuantumKeeper::new(quantum),
+            syncs: 0,
+            round: 0,
+            refused,
+            finished: false,
+        })
+    }
+
+    /// The number of its initiator.
+    pub fn initiator(&self) -> u32
+        ensures { result ≡ self.now.engine.initiator }
+    {
+        self.engine.initiator()
+    }
+
+    /// Its local time, in picoseconds.
+    pub fn current(&self) -> Ps
+        ensures { result ≡ current_time self.now.keeper }
+    {
+        self.keeper.current()
+    }
+
+    /// Whether its last sync has not been let through yet.
+    pub fn owes_sync(&self) -> bool
+        ensures { IsTrue result ↔ (self.now.round ≢ self.now.syncs) }
+    {
+        self.round != self.syncs
+    }
+
+    /// Its last sync has been let through.
+    pub fn pass_sync(&mut self)
+        ensures { self.new ≡ record self.old { round = self.old.syncs } }
+    {
+        self.round = self.syncs;
+    }
+
+    /// Makes it the payload of the access or debug read that is next, with the address that the
+    /// initiator gives.
+    pub fn fill_next(&self, payload: &mut Payload)
+        requires { payload.old.room ≡ 4096 }
+        ensures { payload.new ≡ payload_of self.now.engine 4096 }
+    {
+        self.engine.fill(payload);
+    }
+
+    /// How far it has come.
+    pub fn into_end(self) -> EndOf
+        ensures { result ≡ end_at self }
+    {
+        EndOf {
+            transactions: self.engine.transactions(),
+            syncs: self.syncs,
+            end: self.keeper.current(),
+            refused: self.refused,
+        }
+    }
+
+    /// Whether a step of it has found its script at the end.
+    pub fn has_finished(&self) -> bool
+        ensures { result ≡ self.now.finished }
+    {
+        self.finished
+    }
+
+    /// Makes all moves without an entry, up to the next access or debug read that has a route, which is
+    /// answered, to the end of the script, or to a sync that the rounds don't let through. The pace is
+    /// told of each access and debug read.
+    pub(crate) fn advance<P: Pace>(
+        &mut self,
+        plan: &Plan,
+        rounds: &mut Rounds,
+        payload: &mut Payload,
+        pace: &P,
+    ) -> Stop
+        requires way { IsUnderWay plan.now self.old }
+        requires going { self.old.finished ≡ false }
+        requires round { IsInRound rounds.old self.old.engine.initiator self.old }
+        requires close { AreClose rounds.old }
+        requires roomy { payload.old.room ≡ 4096 }
+        ensures keeps { Keeps plan.now self.old self.new }
+        ensures cases { Advances plan.now self.old self.new rounds.new result }
+        ensures rounds { HasGoneOn self.old self.new rounds.old rounds.new }
+        ensures roomy { payload.new.room ≡ payload.old.room }
+    {
+        while self.is_let_through(rounds) {
+            match self.step(plan, payload, pace) {
+                Move::Went => {}
+                Move::Reached(next) => return Stop::Reached(next),
+                Move::Ended => {
+                    rounds.finish(self.engine.initiator());
+                    return Stop::Ended;
+                }
+            }
+        }
+        Stop::Waits
+    }
+
+    // Whether its last sync is let through the rounds, now or earlier.
+    fn is_let_through(&mut self, rounds: &mut Rounds) -> bool
+        requires few { self.old.syncs < 2 ^ 64 }
+        requires going { self.old.finished ≡ false }
+        requires round { IsInRound rounds.old self.old.engine.initiator self.old }
+        requires close { AreClose rounds.old }
+        ensures run { self.new ≡ record self.old { round = self.new.round } }
+        ensures rounds { HasGoneOn self.old self.new rounds.old rounds.new }
+        ensures through { IsLet rounds.new self.new result }
+    {
+        if self.round == self.syncs {
+            return true;
+        }
+        match rounds.advance(self.engine.initiator()) {
+            Advance::Advanced { round } => {
+                self.round = round;
+                true
+            }
+            Advance::NotYet { .. } => false,
+        }
+    }
+
+    /// One move without an entry, if one is next, with the sync that is due after it. The pace is told of
+    /// an access or a debug read.
+    #[inline(always)]
+    pub fn step<P: Pace>(&mut self, plan: &Plan, payload: &mut Payload, pace: &P) -> Move
+        requires way { IsUnderWay plan.now self.old }
+        requires roomy { payload.old.room ≡ 4096 }
+        ensures keeps { Keeps plan.now self.old self.new }
+        ensures syncs { SyncsOnce self.old self.new }
+        ensures once { StepsOnce self.old.engine self.new.engine }
+        ensures cases { IsMove plan.now self.old self.new result }
+        ensures roomy { payload.new.room ≡ payload.old.room }
+    {
+        let op = self.engine.next();
+        match op {
+            Op::Access { address, .. } | Op::Debug { address, .. } => {
+                pace.before(self.engine.initiator(), self.engine.transactions());
+                self.look_up(plan, &op, address, payload)
+            }
+            Op::Wait(_) | Op::Sync | Op::Fence => {
+                self.pass(&op);
+                Move::Went
+            }
+            Op::Invalidate { .. } => unreachable!(),
+            Op::Done => {
+                self.finished = true;
+                Move::Ended
+            }
+        }
+    }
+
+    // Finds the route of the access or debug read that is next. Without one it is refused.
+    #[inline(always)]
+    fn look_up(&mut self, plan: &Plan, op: &Op, address: u64, payload: &mut Payload) -> Move
+        requires way { IsUnderWay plan.now self.old }
+        requires next { op.now ≡ op_of self.old.engine }
+        requires access { IsAccessOp op.now }
+        requires address { address ≡ address_of op.now }
+        requires roomy { payload.old.room ≡ 4096 }
+        ensures keeps { Keeps plan.now self.old self.new }
+        ensures syncs { SyncsOnce self.old self.new }
+        ensures once { StepsOnce self.old.engine self.new.engine }
+        ensures cases { IsMove plan.now self.old self.new result }
+        ensures roomy { payload.new.room ≡ payload.old.room }
+    {
+        let initiator = self.engine.initiator();
+        match plan.route(initiator, address) {
+            Some(route) => Move::Reached(NextAccess { op: *op, route }),
+            None => {
+                self.refuse(op, address, plan.latency(initiator, address), payload);
+                Move::Went
+            }
+        }
+    }
+
+    // Notes an access or a debug read that has no route, and goes on after it.
+    fn refuse(&mut self, op: &Op, address: u64, latency: Ps, payload: &mut Payload)
+        requires next { op.now ≡ op_of self.old.engine }
+        requires access { IsAccessOp op.now }
+        requires address { address ≡ address_of op.now }
+        requires items { length self.old.refused.items < self.old.refused.room }
+        requires roomy { payload.old.room ≡ 4096 }
+        ensures run { self.new ≡ accessed op.now latency (payload_of self.old.engine 4096).bytes (with_refusal op.now self.old) }
+        ensures roomy { payload.new.room ≡ payload.old.room }
+    {
+        self.engine.fill(payload);
+        let item = self.refused_item(op, address, payload.command());
+        self.refused.push(item);
+        self.complete(op, latency, payload);
+    }
+
+    // How the access or debug read that is next is noted, whose payload has this command.
+    fn refused_item(&self, op: &Op, address: u64, command: Command) -> RefusedItem
+        requires next { op.now ≡ op_of self.now.engine }
+        requires access { IsAccessOp op.now }
+        requires address { address ≡ address_of op.now }
+        requires command { command ≡ (payload_of self.now.engine 4096).command }
+        ensures { refused_op op.now (current_time self.now.keeper) ≡ result ∷ [] }
+    {
+        RefusedItem {
+            seq: self.engine.transactions(),
+            time: self.keeper.current(),
+            debug: is_debug(op),
+            command,
+            address,
+        }
+    }
+
+    // Goes on after a wait, a sync or a fence.
+    fn pass(&mut self, op: &Op)
+        requires next { op.now ≡ op_of self.old.engine }
+        requires quiet { IsQuiet op.now }
+        ensures run { self.new ≡ passed op.now self.old }
+        ensures keeps { (p : PlanView) → Keeps p self.old self.new }
+        ensures syncs { self.old.syncs < 2 ^ 64 → SyncsOnce self.old self.new }
+        ensures once { StepsOnce self.old.engine self.new.engine }
+        ensures fewer { steps_left self.new.engine < steps_left self.old.engine }
+    {
+        if let Op::Wait(time) = op {
+            self.keeper.inc(*time);
+        }
+        self.engine.passed();
+        self.finish_operation(op);
+    }
+
+    /// Goes on after an access or a debug read, whose payload has come back, with the sync that is due.
+    pub fn complete(&mut self, op: &Op, latency: Ps, payload: &Payload)
+        requires next { op.now ≡ op_of self.old.engine }
+        requires access { IsAccessOp op.now }
+        requires whole { is_fenced op.now ≡ true → length payload.now.bytes ≡ length_of op.now }
+        ensures { self.new ≡ accessed op.now latency payload.now.bytes self.old }
+    {
+        self.tell(op, payload);
+        if let Op::Access { .. } = op {
+            self.keeper.inc(latency);
+        }
+        self.finish_operation(op);
+    }
+
+    fn tell(&mut self, op: &Op, payload: &Payload)
+        requires next { op.now ≡ op_of self.old.engine }
+        requires whole { is_fenced op.now ≡ true → length payload.now.bytes ≡ length_of op.now }
+        ensures { self.new ≡ record self.old { engine = engine_after self.old.engine payload.now.bytes } }
+    {
+        match op {
+            Op::Access { fenced: true, .. } => self.engine.told(payload),
+            _ => self.engine.passed(),
+        }
+    }
+
+    // Makes the sync that is due after what has just been done.
+    fn finish_operation(&mut self, op: &Op)
+        ensures { self.new ≡ with_sync op.now self.old }
+    {
+        let is_sync = matches!(op, Op::Sync);
+        if self.engine.at_end_of_operation() && (is_sync || self.keeper.need_sync()) {
+            self.keeper.sync();
+            self.syncs = self.syncs.saturating_add(1);
+        }
+    }
+
+    /// Makes the access or debug read that is next at its memory, as the entry at this position, and goes
+    /// on after it. Its only error is want of memory, after which nothing has changed but the payload.
+    pub(crate) fn access(
+        &mut self,
+        region: &mut Region,
+        next: &NextAccess,
+        position: u64,
+        payload: &mut Payload,
+    ) -> Result<(), Memory>
+        requires next { next.now.op ≡ op_of self.old.engine }
+        requires access { IsAccessOp (op_of self.old.engine) }
+        requires room { length region.old.log.entries < region.old.log.room }
+        requires roomy { payload.old.room ≡ 4096 }
+        ensures ok { OnOk result ((self.new ≡ accessed (op_of self.old.engine) next.now.route.latency payload.new.bytes self.old)
+            × HasLog region.old region.new (region.old.log.entries ++ entry_made self.old region.old next.now.route position ∷ [])
+            × (is_fenced (op_of self.old.engine) ≡ true → payload.new.bytes ≡ bytes_back self.old region.old next.now.route)) }
+        ensures err { OnErr result ((self.new ≡ self.old) × HasLog region.old region.new region.old.log.entries) }
+        ensures roomy { payload.new.room ≡ 4096 }
+    {
+        self.fill(&next.route, payload);
+        let txn = self.next_txn();
+        let time = self.keeper.current();
+        send(
+            region,
+            position,
+            &next.op,
+            txn,
+            time,
+            next.route.before,
+            payload,
+        )?;
+        self.complete(&next.op, next.route.latency, payload);
+        Ok(())
+    }
+
+    // Makes it the payload of the access or debug read that is next, at the end of its route.
+    fn fill(&self, route: &Route, payload: &mut Payload)
+        requires { payload.old.room ≡ 4096 }
+        ensures { payload.new ≡ record (payload_of self.now.engine 4096) { address = route.now.offset } }
+    {
+        self.engine.fill(payload);
+        payload.set_address(route.offset);
+    }
+
+    /// The transaction that is next.
+    pub fn next_txn(&self) -> TxnId
+        ensures { result ≡ record { initiator = self.now.engine.initiator; seq = self.now.engine.seq } }
+    {
+        TxnId {
+            initiator: self.engine.initiator(),
+            seq: self.engine.transactions(),
+        }
+    }
+}
+
+fn is_debug(op: &Op) -> bool
+    ensures { result ≡ is_debug op.now }
+{
+    matches!(op, Op::Debug { .. })
+}
+
+// Makes the call of an access or a debug read that was issued at this time, as the entry at this
+// position: an access arrives after the routers.
+fn send(
+    region: &mut Region,
+    position: u64,
+    op: &Op,
+    txn: TxnId,
+    time: Ps,
+    before: Ps,
+    payload: &mut Payload,
+) -> Result<(), Memory>
+    requires access { IsAccessOp op.now }
+    requires fit { IsFit (call_at op.now txn time before payload.old) }
+    requires room { length region.old.log.entries < region.old.log.room }
+    ensures ok { let call = call_at op.now txn time before payload.old in
+        OnOk result (HasLog region.old region.new (region.old.log.entries ++ entry_of_call region.old position call ∷ [])
+        × (payload.new ≡ payload_back region.old call)) }
+    ensures err { OnErr result (HasLog region.old region.new region.old.log.entries × (payload.new ≡ payload.old)) }
+{
+    region.make_room_for(payload)?;
+    match op {
+        Op::Debug { .. } => {
+            region.debug(position, txn, time, payload);
+        }
+        _ => {
+            let arrival = time.saturating_add(before);
+            region.transport(position, txn, arrival, Way::Blocking, payload);
+        }
+    }
+    Ok(())
+}

@@ -1,0 +1,4 @@
+pub mod ListLemmas
+pub mod MergeLemmas
+pub mod PlaceLemmas
+pub mod PlanLemmas

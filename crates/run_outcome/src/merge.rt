@@ -1,0 +1,107 @@
+// Logs that are read as one, in the order of the positions of their entries.
+ghost use Rattle.std.specs.Prelude.{◌≡◌, ◌<◌, length, IfOk, slice_get};
+ghost use Rattle.tlm_model.specs.History.{IsNumbered};
+ghost use Rattle.run_outcome.specs.Merge.{merged};
+ghost use Rattle.run_outcome.specs.Places.{entries_of_logs};
+
+mod window;
+
+use std::alloc::Global;
+use std::marker::Model;
+use tlm_types::{Log, Memory};
+use window::Window;
+
+/// The entries of several logs in the order of their positions, which count from 0. They stay in their
+/// logs. Contracts see the list of them.
+#[derive(Drop)]
+pub struct MergedLog {
+    logs: Vec<Log>,
+    count: u64,
+}
+
+impl Model for MergedLog {
+    ghost use Rattle.std.specs.Prelude.{◌≡◌, length};
+    ghost use Rattle.tlm_model.specs.History.{IsNumbered};
+    ghost use Rattle.run_outcome.specs.Merge.{merged};
+    ghost use Rattle.run_outcome.specs.Places.{MergedView, entries_of_logs};
+
+    ghost Value = { MergedView };
+
+    ghost view = { λ m. record { entries = merged (entries_of_logs m.logs.items) } };
+
+    ghost invariant = { λ m. IsNumbered (merged (entries_of_logs m.logs.items)) × (m.count ≡ length (merged (entries_of_logs m.logs.items))) };
+}
+
+impl MergedLog {
+    /// These logs as one. The positions of their entries are those from 0 on, each once: `count` in
+    /// all. It copies none of them.
+    pub fn of_logs(logs: Vec<Log>, count: u64) -> MergedLog
+        requires numbered { IsNumbered (merged (entries_of_logs logs.items)) }
+        requires counted { count ≡ length (merged (entries_of_logs logs.items)) }
+        ensures { result.entries ≡ merged (entries_of_logs logs.items) }
+    {
+        MergedLog { logs, count }
+    }
+
+    /// How many entries there are.
+    pub fn len(&self) -> u64
+        ensures { result ≡ length self.now.entries }
+    {
+        self.count
+    }
+
+    /// A reader of the entries. Its only error is want of memory.
+    pub fn reader(&self, alloc: Global) -> Result<LogReader<'_>, Memory>
+        ensures { IfOk result (λ reader. reader ≡ self.now) }
+    {
+        let window = Window::over(alloc, self.logs.len())?;
+        Ok(LogReader {
+            logs: self.logs.as_slice(),
+            count: self.count,
+            window,
+        })
+    }
+}
+
+/// Reads the entries of merged logs, whose list contracts see. To read all in order takes constant time
+/// an entry where each log has its entries in the order of their positions, as logs of a run do.
+#[derive(Drop)]
+pub struct LogReader<'a> {
+    logs: &'a [Log],
+    count: u64,
+    window: Window,
+}
+
+impl<'a> Model for LogReader<'a> {
+    ghost use Rattle.std.specs.Prelude.{◌≡◌, length};
+    ghost use Rattle.tlm_model.specs.History.{IsNumbered};
+    ghost use Rattle.run_outcome.specs.Merge.{merged};
+    ghost use Rattle.run_outcome.specs.Places.{MergedView, entries_of_logs};
+
+    ghost Value = { MergedView };
+
+    ghost view = { λ r. record { entries = merged (entries_of_logs r.logs.now) } };
+
+    ghost invariant = { λ r. IsNumbered (merged (entries_of_logs r.logs.now)) × (r.count ≡ length (merged (entries_of_logs r.logs.now))) };
+}
+
+impl<'a> LogReader<'a> {
+    /// How many entries there are.
+    pub fn len(&self) -> u64
+        ensures { result ≡ length self.now.entries }
+    {
+        self.count
+    }
+
+    /// The log that has the entry of this position, and its index there.
+    pub fn at(&mut self, position: u64) -> (&'a Log, u64)
+        requires { position < length self.old.entries }
+        ensures entries { self.new ≡ self.old }
+        ensures within { result.1 < length result.0.now.entries }
+        ensures same { slice_get result.0.now.entries result.1 ≡ slice_get self.old.entries position }
+    {
+        let logs = self.logs;
+        let place = self.window.place_of(logs, position);
+        (&logs[place.log], place.index)
+    }
+}
