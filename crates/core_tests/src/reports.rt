@@ -1,12 +1,11 @@
+// The report of a run: its lines as the sink gets them.
+use crate::bench::plan_of;
 use outside::{FailingWrite, NoPace, VecSink};
 use plat_core::run_in_order;
-use platform_file::read_platform;
-use route_plan::{Plan, plan, shape};
 use std::alloc::Global;
 use std::process::Abort;
 use tlm_model::Trace;
 use trace_print::{PrintFault, print};
-use traffic_script::read_script;
 
 /// A blocking initiator at a memory of 256 bytes and 10 ps.
 const PLATFORM: &str = "version = 1\n\
@@ -15,18 +14,9 @@ const PLATFORM: &str = "version = 1\n\
 
 const SCRIPT: &str = "write 0x10 deadbeef\nread 0x10 4\n";
 
-fn plan_of(rt: &impl Abort, alloc: Global) -> Plan {
-    let script = read_script(alloc, SCRIPT.as_bytes()).expect(rt, "a script");
-    let scripts = vec![in alloc; script].expect(rt, "room");
-    let platform = read_platform(alloc, PLATFORM.as_bytes()).expect(rt, "a platform");
-    let shape = shape(alloc, &platform).expect(rt, "a shape");
-    assert!(rt; scripts.len() == shape.platform().initiators.as_slice().len());
-    plan(alloc, shape, scripts.as_slice()).expect(rt, "a plan")
-}
-
 /// Runs that script and prints the report to the sink.
 fn print_run<R: Abort>(rt: &R, alloc: Global, out: &mut VecSink) -> Result<(), PrintFault> {
-    let plan = plan_of(rt, alloc);
+    let plan = plan_of(rt, alloc, PLATFORM, SCRIPT);
     let outcome = run_in_order(alloc, &plan, &NoPace).expect(rt, "a run");
     print(alloc, out, &plan, &outcome, Trace::All)
 }
