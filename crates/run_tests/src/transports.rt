@@ -61,6 +61,21 @@ fn can_pay<N: Naming<Plan, TlmLaw>>(
     }
 }
 
+// What an initiator goes on with after the access or debug read of this number.
+fn come_back<N: Naming<Plan, TlmLaw>>(carried: Carried, wallet: Wallet, seq: u64) -> Bag
+    requires { IsBag N.table N.tokens carried.payload carried.note wallet }
+    ensures { IsBag N.table N.tokens result.payload result.note result.wallet }
+{
+    let Carried { payload, note, at } = carried;
+    Bag {
+        payload,
+        note,
+        wallet,
+        seq: seq.saturating_add(1),
+        at,
+    }
+}
+
 // Makes the access of the payload.
 fn access<N: Naming<Plan, TlmLaw>, R: Wait + Abort>(rt: &R, net: &Net<N>, who: u32, bag: Bag) -> Bag
     requires who { who < length net.now.platform.initiators }
@@ -80,23 +95,8 @@ fn access<N: Naming<Plan, TlmLaw>, R: Wait + Abort>(rt: &R, net: &Net<N>, who: u
         initiator: who,
         seq,
     };
-    let Carried { payload, note, at } = b_transport(
-        net,
-        rt,
-        who,
-        payload,
-        note,
-        &mut wallet,
-        txn,
-        at,
-    );
-    Bag {
-        payload,
-        note,
-        wallet,
-        seq: seq.saturating_add(1),
-        at,
-    }
+    let carried = b_transport(net, rt, who, payload, note, &mut wallet, txn, at);
+    come_back::<N>(carried, wallet, seq)
 }
 
 // Makes the debug read of the payload.
@@ -118,23 +118,8 @@ fn look<N: Naming<Plan, TlmLaw>, R: Wait + Abort>(rt: &R, net: &Net<N>, who: u32
         initiator: who,
         seq,
     };
-    let Carried { payload, note, at } = transport_dbg(
-        net,
-        rt,
-        who,
-        payload,
-        note,
-        &mut wallet,
-        txn,
-        at,
-    );
-    Bag {
-        payload,
-        note,
-        wallet,
-        seq: seq.saturating_add(1),
-        at,
-    }
+    let carried = transport_dbg(net, rt, who, payload, note, &mut wallet, txn, at);
+    come_back::<N>(carried, wallet, seq)
 }
 
 // The last access or debug read ended so, and at this time.
