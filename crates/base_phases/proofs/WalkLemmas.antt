@@ -9,7 +9,7 @@ use Rattle.tlm_types.specs.declared.words.TlmSync.{TlmSync}
 use Rattle.tlm_types.specs.declared.words.TlmSync.TheVariants.{Accepted, Updated, Completed}
 use Rattle.base_phases.specs.declared.phases.LaneState.{LaneState}
 use Rattle.base_phases.specs.declared.phases.LaneState.TheVariants.{Free, Requested, Waiting, Responding}
-use Rattle.base_phases.specs.Sequences.{Call, sequences, IsBegun, IsWhole}
+use Rattle.base_phases.specs.Sequences.{Call, sequences, IsBegun, IsSequence}
 use Rattle.base_phases.specs.Walks.{after_call, state_after, is_begin, IsRound}
 
 -- after a call that isn't allowed there is no state
@@ -104,11 +104,11 @@ each_at P (x ∷ xs) h zero y e = let same : x ≡ y = cc in subst P same h.0
 each_at P (x ∷ xs) h (suc k) y e = each_at P xs h.1 k y e
 
 -- a sequence ends on a free lane
-pub whole_free : (calls : List Call) → IsWhole calls → state_after calls ≡ Some Free
+pub whole_free : (calls : List Call) → IsSequence calls → state_after calls ≡ Some Free
 whole_free calls w = each_at (λ (s : List Call). state_after s ≡ Some Free) sequences (refl, (refl, (refl, (refl, (refl, (refl, (refl, (refl, (refl, (refl, (refl, tt))))))))))) w.0 calls w.1
 
 -- a sequence has one BEGIN_REQ
-pub whole_once : (calls : List Call) → IsWhole calls → count_by is_begin calls ≡ 1
+pub whole_once : (calls : List Call) → IsSequence calls → count_by is_begin calls ≡ 1
 whole_once calls w = each_at (λ (s : List Call). count_by is_begin s ≡ 1) sequences (refl, (refl, (refl, (refl, (refl, (refl, (refl, (refl, (refl, (refl, (refl, tt))))))))))) w.0 calls w.1
 
 -- a walk begins with BEGIN_REQ
@@ -120,10 +120,10 @@ starts ((BeginResp, a) ∷ cs) s e some_call = absurd (stuck cs s e)
 starts ((EndResp, a) ∷ cs) s e some_call = absurd (stuck cs s e)
 
 -- a walk with one BEGIN_REQ that leaves the lane free is a whole sequence
-pub whole : (calls : List Call) → state_after calls ≡ Some Free → count_by is_begin calls ≤ 1 → ¬ (calls ≡ []) → IsWhole calls
+pub whole : (calls : List Call) → state_after calls ≡ Some Free → count_by is_begin calls ≤ 1 → ¬ (calls ≡ []) → IsSequence calls
 whole calls e z some_call =
     let b = begun calls Free e z in
-    let w : IsWhole (calls ++ b.1) = (b.0, b.2) in
+    let w : IsSequence (calls ++ b.1) = (b.0, b.2) in
     let back : fold after_call (Some Free) b.1 ≡ Some Free = ap (λ (q : Option LaneState). fold after_call q b.1) (sym e) ∙ sym (fold-append after_call (Some Free) calls b.1) ∙ whole_free (calls ++ b.1) w in
     let both = begins-append calls b.1 in
     let one = whole_once (calls ++ b.1) w in
@@ -155,7 +155,7 @@ at_most_one true = omega arith
 at_most_one false = omega arith
 
 -- a walk from Free to Free that is not Free in between is a sequence
-pub round_whole : (calls : List Call) → IsRound calls → IsWhole calls
+pub round_whole : (calls : List Call) → IsRound calls → IsSequence calls
 round_whole [] r = absurd (r.some refl)
 round_whole (c ∷ cs) r =
     let later : count_by is_begin cs ≡ 0 = none_found cs (λ bs a es e. r.busy c bs (BeginReq, a) es (ap (λ (l : List Call). c ∷ l) e) (begins_free (c ∷ bs) a es Free (ap (λ (l : List Call). state_after (c ∷ l)) (sym e) ∙ r.ended))) in
@@ -163,11 +163,11 @@ round_whole (c ∷ cs) r =
     let m = at_most_one (is_begin c) in
     whole (c ∷ cs) r.ended (omega arith) r.some
 
-not_empty : (calls : List Call) → IsWhole calls → ¬ (calls ≡ [])
+not_empty : (calls : List Call) → IsSequence calls → ¬ (calls ≡ [])
 not_empty calls w e = let n = whole_once calls w in let z : count_by is_begin calls ≡ 0 = ap (count_by is_begin) e in absurd (omega arith)
 
 -- a sequence is not Free in between, since a free lane would need a second BEGIN_REQ
-stays_busy : (calls : List Call) → IsWhole calls → (first : Call) (before : List Call) (next : Call) (behind : List Call) → calls ≡ (first ∷ before) ++ (next ∷ behind) → ¬ (state_after (first ∷ before) ≡ Some Free)
+stays_busy : (calls : List Call) → IsSequence calls → (first : Call) (before : List Call) (next : Call) (behind : List Call) → calls ≡ (first ∷ before) ++ (next ∷ behind) → ¬ (state_after (first ∷ before) ≡ Some Free)
 stays_busy calls w first before next behind e still =
     let end : fold after_call (Some Free) (next ∷ behind) ≡ Some Free = ap (λ (q : Option LaneState). fold after_call q (next ∷ behind)) (sym still) ∙ sym (fold-append after_call (Some Free) (first ∷ before) (next ∷ behind)) ∙ ap state_after (sym e) ∙ whole_free calls w in
     let a = starts (first ∷ before) Free still (λ q. cc) in
@@ -176,5 +176,5 @@ stays_busy calls w first before next behind e still =
     let both = ap (count_by is_begin) e ∙ begins-append (first ∷ before) (next ∷ behind) in
     absurd (omega arith)
 
-pub whole_round : (calls : List Call) → IsWhole calls → IsRound calls
+pub whole_round : (calls : List Call) → IsSequence calls → IsRound calls
 whole_round calls w = record { some = not_empty calls w; ended = whole_free calls w; busy = stays_busy calls w }

@@ -26,8 +26,8 @@ sequences =
     ∷ []
 
 -- the calls are one of the sequences
-abbrev pub IsWhole : List Call → Type 0
-IsWhole calls = (k : ℕ) × (slice_get sequences k ≡ Some calls)
+abbrev pub IsSequence : List Call → Type 0
+IsSequence calls = (k : ℕ) × (slice_get sequences k ≡ Some calls)
 
 -- the calls are a prefix of one of the sequences
 abbrev pub IsBegun : List Call → Type 0

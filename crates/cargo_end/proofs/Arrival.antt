@@ -26,7 +26,7 @@ use Rattle.flow_law.proofs.More.{end_more, finds_more}
 use Rattle.route_plan.specs.Paths.{once}
 use Rattle.route_plan.specs.Planned.{by_fourphase, leads_to}
 use Rattle.cargo_model.specs.Called.{IsCalled}
-use Rattle.cargo_model.specs.Known.{number_of}
+use Rattle.cargo_model.specs.Known.{object_number}
 use Rattle.cargo_model.specs.Laws.{Case, knows}
 use Rattle.cargo_model.specs.Origins.{AreThere}
 use Rattle.cargo_model.specs.Travel.{IsReplied, memory_number}
@@ -152,12 +152,12 @@ one_at o e false q = ap (λ (c : Bool). length (cond {A = List Entry} c (e ∷ [
 module _ (s : Case) (asked : Asked s) (z : Purse) (replies : List Entry) (way : IsPassage s.pass) (there : AreThere s.p s.x s.pass (route s asked)) (style : asked.initiator.row.style ≡ FourPhase)
     (number : asked.initiator.number ≡ s.x.initiator) (left : HasLeft s asked z) (reply : AreReplies (route s asked) replies) where
   abbrev rest : ObjectNo → ℕ
-  rest o = left_of z (number_of s.p.platform o)
+  rest o = left_of z (object_number s.p.platform o)
 
   -- nothing is left of other objects than those of the access
   elsewhere : (o : ObjectNo) → ((j : ℕ) → j < hop_count s.pass → o ≢ Hop (hop_at s.pass j)) → o ≢ Pool s.x.initiator → ((r : Route) → route s asked ≡ Some r → o ≢ Memory r.memory) → rest o ≡ 0
   elsewhere o hops pool memory =
-      left.none (number_of s.p.platform o)
+      left.none (object_number s.p.platform o)
       (λ j l e. hops j l (only_object s.p.platform o (Hop (hop_at s.pass j)) (there.hops j l) e))
       (λ e. pool (only_object s.p.platform o (Pool s.x.initiator) there.pool e))
       (λ n q e. at_memory_too (route s asked) refl n q e)
@@ -165,7 +165,7 @@ module _ (s : Case) (asked : Asked s) (z : Purse) (replies : List Entry) (way : 
       same : (a b : ℕ) → Some a ≡ Some b → a ≡ b
       same a b q = cc
 
-      at_memory_too : (t : Option Route) → route s asked ≡ t → (n : ℕ) → memory_number s.p t ≡ Some n → number_of s.p.platform o ≢ n
+      at_memory_too : (t : Option Route) → route s asked ≡ t → (n : ℕ) → memory_number s.p t ≡ Some n → object_number s.p.platform o ≢ n
       at_memory_too None r n q e = cc
       at_memory_too (Some r) is n q e = memory r is (only_object s.p.platform o (Memory r.memory) (there.memory r is) (e ∙ sym (same _ _ q)))
 
@@ -281,7 +281,7 @@ module _ (s : Case) (asked : Asked s) (z : Purse) (replies : List Entry) (way : 
           sums a b c d q e r = omega arith
 
           by_test : (b : Bool) → (t.memory == n) ≡ b → rest (Memory n) ≡ 0
-          by_test true q = subst (λ (i : ℕ). rest (Memory i) ≡ 0) (eqb-true t.memory n q) (left.memory (number_of s.p.platform (Memory t.memory)) (ap (memory_number s.p) is)).0
+          by_test true q = subst (λ (i : ℕ). rest (Memory i) ≡ 0) (eqb-true t.memory n q) (left.memory (object_number s.p.platform (Memory t.memory)) (ap (memory_number s.p) is)).0
           by_test false q = elsewhere (Memory n) (λ j l d. memory_hop _ _ d) (λ d. memory_pool _ _ d)
               (λ u e d. (let f : (t.memory == n) ≡ true = eq-eqb t.memory n (ap (λ (v : Route). v.memory) (route_same t u (sym is ∙ e)) ∙ sym (memory_same _ _ d)) in cc))
 

@@ -15,7 +15,7 @@ use Rattle.flow_model.specs.World.{IsPassage, hop_count}
 use Rattle.flow_model.specs.Events.{Event, Finds, FindsAt, IsTake}
 use Rattle.flow_model.specs.Platform.{passage_of, world_of}
 use Rattle.route_plan.specs.Planned.{at_hop, at_memory, at_pool}
-use Rattle.cargo_model.specs.Known.{number_of}
+use Rattle.cargo_model.specs.Known.{object_number}
 use Rattle.cargo_model.specs.Laws.{Case, HasEnded, LeftAtEnd, knows}
 use Rattle.cargo_model.specs.Origins.{AreThere}
 use Rattle.cargo_model.specs.Tickets.{Stocks}
@@ -49,7 +49,7 @@ module _ (s : Case) where
 
   -- the wallet says how many calls it made on a hop
   abbrev pub calls_by : Purse → ℕ → ℕ
-  calls_by z o = 4 - left_of z (number_of s.p.platform (Hop o))
+  calls_by z o = 4 - left_of z (object_number s.p.platform (Hop o))
 
   abbrev pub ArrivesDriven : Type 0
   ArrivesDriven = (asked : Asked) (z : Purse) (issued : ℕ) → HasLeft asked z → FindsAt (knows s) (IsTake s.x) issued → IsDriven (world_of s.p) (knows s) s.x s.pass issued (calls_by z)
@@ -63,7 +63,7 @@ module _ (s : Case) where
   abbrev pub ArrivesPaid : Type 0
   ArrivesPaid = (asked : Asked) (z : Purse) (replies : List Entry) → IsPassage s.pass → AreThere s.p s.x s.pass (route asked) → asked.initiator.row.style ≡ FourPhase → asked.initiator.number ≡ s.x.initiator →
       HasLeft asked z → AreReplies (route asked) replies → (o : ObjectNo) →
-      spent_by z replies o + left_of z (number_of s.p.platform o) ≡ given_at s.p asked.initiator asked.request.address o
+      spent_by z replies o + left_of z (object_number s.p.platform o) ≡ given_at s.p asked.initiator asked.request.address o
 
   -- the known Access is the reply to the request, and the payload of a read has its bytes
   pub record Replies (asked : Asked) (v : PayloadView) (r : Route) (e : Event) : Type 0 where

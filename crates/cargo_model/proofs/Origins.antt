@@ -19,7 +19,7 @@ use Rattle.tlm_model.proofs.RequestLemmas.{ask_at}
 use Rattle.flow_model.specs.World.{Passage, hop_at, hop_count}
 use Rattle.flow_model.specs.Events.{Among}
 use Rattle.flow_model.specs.Platform.{accessed, addresses_of, passage_by, passage_to}
-use Rattle.cargo_model.specs.Known.{number_of, objects_of}
+use Rattle.cargo_model.specs.Known.{object_number, objects_of}
 use Rattle.cargo_model.specs.Origins.{ApartLaw, AskedLaw}
 use Rattle.cargo_model.specs.Travel.{memory_number}
 
@@ -83,10 +83,10 @@ found o (r ∷ os) q e = go (λ f. found o os q f) (is_object o r) refl e
     go more false f g = more (subst (λ (k : ℕ). slice_get (r ∷ os) k ≡ Some q) (one_more (position_or_len (is_object o) os)) g)
 
 -- an object that has the number of one that is there is that one
-pub only_object : (p : Platform) (o q : ObjectNo) → Among (objects_of p) q → number_of p o ≡ number_of p q → o ≡ q
+pub only_object : (p : Platform) (o q : ObjectNo) → Among (objects_of p) q → object_number p o ≡ object_number p q → o ≡ q
 only_object p o q n e = sym (is_that o q (found o (objects_of p) q (ap (slice_get (objects_of p)) e ∙ stands q (objects_of p) n)))
 
-pub one_object : (p : Platform) (o q : ObjectNo) → Among (objects_of p) o → Among (objects_of p) q → number_of p o ≡ number_of p q → o ≡ q
+pub one_object : (p : Platform) (o q : ObjectNo) → Among (objects_of p) o → Among (objects_of p) q → object_number p o ≡ object_number p q → o ≡ q
 one_object p o q m n e = same o q (sym (stands o (objects_of p) m) ∙ (ap (slice_get (objects_of p)) e ∙ stands q (objects_of p) n))
   where
     same : (o q : ObjectNo) → Some o ≡ Some q → o ≡ q
@@ -106,12 +106,12 @@ apart_law p x pass route way there = record {
     number_same : (a b : ℕ) → Some a ≡ Some b → a ≡ b
     number_same a b e = cc
 
-    at_hop : (r : Option Route) → route ≡ r → (m j : ℕ) → memory_number p r ≡ Some m → j < hop_count pass → number_of p.platform (Hop (hop_at pass j)) ≢ m
+    at_hop : (r : Option Route) → route ≡ r → (m j : ℕ) → memory_number p r ≡ Some m → j < hop_count pass → object_number p.platform (Hop (hop_at pass j)) ≢ m
     at_hop None s m j q l e = cc
     at_hop (Some r) s m j q l e =
         let f = one_object p.platform (Hop (hop_at pass j)) (Memory r.memory) (there.hops j l) (there.memory r s) (e ∙ sym (number_same _ _ q)) in cc
 
-    at_pool : (r : Option Route) → route ≡ r → (m : ℕ) → memory_number p r ≡ Some m → number_of p.platform (Pool x.initiator) ≢ m
+    at_pool : (r : Option Route) → route ≡ r → (m : ℕ) → memory_number p r ≡ Some m → object_number p.platform (Pool x.initiator) ≢ m
     at_pool None s m q e = cc
     at_pool (Some r) s m q e =
         let f = one_object p.platform (Pool x.initiator) (Memory r.memory) there.pool (there.memory r s) (e ∙ sym (number_same _ _ q)) in cc

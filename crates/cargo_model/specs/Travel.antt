@@ -28,7 +28,7 @@ use Rattle.flow_model.specs.Platform.{passage_of, world_of}
 use Rattle.cargo_model.specs.declared.cargo.Cargo.{Cargo}
 use Rattle.cargo_model.specs.Called.{IsCalled, IsReturned, IsSent}
 use Rattle.cargo_model.specs.Counts.{calls_down, request_ends}
-use Rattle.cargo_model.specs.Known.{Known, number_of, objects_of}
+use Rattle.cargo_model.specs.Known.{Known, object_number, objects_of}
 use Rattle.cargo_model.specs.Stops.{Stop, stop_at}
 use Rattle.cargo_model.specs.Tickets.{Numbers, PullsOwed, Stocks}
 
@@ -47,13 +47,13 @@ gone (Back owed) = 1
 -- the memory's number in the history, where there is a route
 abbrev pub memory_number : Plan → Option Route → Option ℕ
 memory_number p None = None
-memory_number p (Some r) = Some (number_of p.platform (Memory r.memory))
+memory_number p (Some r) = Some (object_number p.platform (Memory r.memory))
 
 -- the numbers of the objects that an access adds entries to
 abbrev pub numbers_of : Plan → TxnId → Passage → Option Route → Numbers
 numbers_of p x pass route = record {
-  hop = λ k. number_of p.platform (Hop (hop_at pass k));
-  pool = number_of p.platform (Pool x.initiator);
+  hop = λ k. object_number p.platform (Hop (hop_at pass k));
+  pool = object_number p.platform (Pool x.initiator);
   memory = memory_number p route;
 }
 
@@ -63,7 +63,7 @@ logged_by a = length a.sent + length a.enables
 
 -- a reference of the initiator's pool: a token of the pool's second book, whose owner comes after those of all objects
 abbrev pub reference : Plan → TableId → TxnId → ℕ → ℕ → Slip
-reference p tokens x position part = record { table = tokens; owner = length (objects_of p.platform) + number_of p.platform (Pool x.initiator); name = name_of position part; amount = 1 }
+reference p tokens x position part = record { table = tokens; owner = length (objects_of p.platform) + object_number p.platform (Pool x.initiator); name = name_of position part; amount = 1 }
 
 -- the Take of x at this position
 pub record IsTaken (x : TxnId) (position slot : ℕ) (e : Event) : Type 0 where
@@ -200,5 +200,5 @@ pub record IsFetched (p : Plan) (tokens : TableId) (K : Event → Type 0) (x : T
 pub record IsVouched (p : Plan) (tokens : TableId) (number : ℕ) (x : TxnId) (c : Cargo) (known : List (HistoryEntry Content)) : Type 0 where
   pub pass : Passage
   pub hop : ℕ
-  pub place : number ≡ number_of p.platform (Hop (hop_at pass hop))
+  pub place : number ≡ object_number p.platform (Hop (hop_at pass hop))
   pub way : GoesDown p tokens (Known p.platform known) x pass There hop c ⊎ GoesUp p tokens (Known p.platform known) x pass There hop c

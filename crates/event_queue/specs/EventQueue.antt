@@ -14,12 +14,12 @@ module _ {T : Type 0} where
   AreInOrder entries = IsNonDecreasingBy (λ (e : ℕ × T). e.0) entries
 
   -- the place of the first entry that is later than a time, or else the end
-  abbrev pub place_of : List (ℕ × T) → ℕ → ℕ
-  place_of entries at = position_or_len (λ (e : ℕ × T). nat_lt at e.0) entries
+  abbrev pub place_after : List (ℕ × T) → ℕ → ℕ
+  place_after entries at = position_or_len (λ (e : ℕ × T). nat_lt at e.0) entries
 
   -- the entries with one more, which stands behind all whose time is at most its own
   abbrev pub notified : List (ℕ × T) → T → ℕ → List (ℕ × T)
-  notified entries item at = insert entries (place_of entries at) (at, item)
+  notified entries item at = insert entries (place_after entries at) (at, item)
 
   -- the time of the first entry
   abbrev pub first_time : List (ℕ × T) → Option ℕ

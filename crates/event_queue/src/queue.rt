@@ -1,6 +1,6 @@
 // The queue.
 ghost use Rattle.std.specs.Prelude.{◌≡◌, ◌<◌, ◌≤◌, ◌↔◌, ◌++◌, [], ◌∷◌, length, All, IsNone, IfNone, IfSome, IfOk, IsTrue};
-ghost use Rattle.event_queue.specs.EventQueue.{place_of, notified, first_time};
+ghost use Rattle.event_queue.specs.EventQueue.{place_after, notified, first_time};
 
 use std::alloc::Global;
 use std::marker::Model;
@@ -27,7 +27,7 @@ impl<T> Model for EventQueue<T> {
 
 // The place of the first entry that is later than this time, or else the end.
 fn find_place<T>(entries: &[(u64, T)], at: u64) -> usize
-    ensures { result ≡ place_of entries.now at }
+    ensures { result ≡ place_after entries.now at }
 {
     for (k, entry) in entries.iter().enumerate() {
         if at < entry.0 {

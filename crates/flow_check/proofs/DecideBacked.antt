@@ -15,7 +15,7 @@ use Rattle.tlm_model.specs.Route.{later}
 use Rattle.hop_model.specs.Board.{ends_response}
 use Rattle.flow_model.specs.World.{World, Passage, hop_at, hop_count, row_of}
 use Rattle.flow_model.specs.Events.{Event, Among, Finds, FindsAt, IsCall, IsPhase, IsOwn, IsTake, IsAcquire, IsAccess}
-use Rattle.flow_model.specs.Numbers.{ArrIs, EndIs, IsAnswered, IsByReturn, IsEnder, IsEnding, IsResponding, IsResponse, NumberOf, Past, ReqIs, RspFrom, UpFrom, released_hop, served_hop}
+use Rattle.flow_model.specs.Numbers.{ArrIs, EndIs, BringsResponse, IsByReturn, IsEnder, IsEnding, IsResponding, IsResponse, NumberOf, Past, ReqIs, RspFrom, UpFrom, released_hop, served_hop}
 use Rattle.flow_model.specs.Backed.{AccessBacked, AcquireBacked, BackedBy, CallAfter, CallBacked, Delays, EndsRequest, EndsRequestBy, EndsResponse, IsBacked, ReleaseBacked, SequenceBacked, TimeBacked}
 use Rattle.flow_check.proofs.Decide.{bind, either, find, find_at, guard_accept, guard_less, guard_true, is_mode, is_phase, is_same_object, is_same_txn, less, same_nat}
 
@@ -58,7 +58,7 @@ brings_by (Updated BeginResp) = Some tt
 brings_by Completed = Some tt
 brings_by _ = None
 
-abbrev is_answered : (x : TxnId) (o : ℕ) (e : Event) → Option (IsAnswered x o e)
+abbrev is_answered : (x : TxnId) (o : ℕ) (e : Event) → Option (BringsResponse x o e)
 is_answered x o e = bind (has_phase x o BeginReq e) (λ c. bind (brings_by c.answer) (λ q. Some (record { answer = c.answer; call = c.call; brings = q })))
 
 abbrev completed_by : (x : TxnId) (o : ℕ) (e : Event) (a : TlmSync) → IsCall x o BeginReq a e → Option (IsCall x o BeginReq Completed e)
@@ -126,12 +126,12 @@ module _ (w : World) (before : List Event) (x : TxnId) where
   up o [] = past o
   up o (p ∷ rest) =
       either (bind (at_phase p BeginResp) (λ f. Some (f.0, inl f.1)))
-      (bind (find (IsAnswered x p) (is_answered x p) before) (λ f. bind (up p rest) (λ u. Some (u.0, inr (f, u.1)))))
+      (bind (find (BringsResponse x p) (is_answered x p) before) (λ f. bind (up p rest) (λ u. Some (u.0, inr (f, u.1)))))
 
   abbrev rsp : (o : ℕ) (rest : List ℕ) → Option (At (λ t. RspFrom w (Among before) x o rest t))
   rsp o rest =
       either (bind (at_phase o BeginResp) (λ f. Some (f.0, inl f.1)))
-      (bind (find (IsAnswered x o) (is_answered x o) before) (λ f. bind (up o rest) (λ u. Some (u.0, inr (f, u.1)))))
+      (bind (find (BringsResponse x o) (is_answered x o) before) (λ f. bind (up o rest) (λ u. Some (u.0, inr (f, u.1)))))
 
   abbrev by_response : (o : ℕ) (e : Event) → Option (IsEnder x o e × (IsPhase x o BeginResp e ⊎ IsPhase x o EndResp e))
   by_response o e = bind (is_ender x o e) (λ n. either (bind (has_phase x o BeginResp e) (λ q. Some (n, inl q))) (bind (has_phase x o EndResp e) (λ q. Some (n, inr q))))

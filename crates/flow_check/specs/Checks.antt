@@ -6,7 +6,7 @@ use Rattle.tlm_types.specs.declared.words.TlmSync.TheVariants.{Accepted, Updated
 use Rattle.tlm_types.specs.declared.words.ReqMode.{ReqMode}
 use Rattle.tlm_types.specs.declared.words.RespMode.{RespMode}
 use Rattle.tlm_types.specs.declared.words.RespMode.TheVariants as Resp
-use Rattle.base_phases.specs.Sequences.{Call, IsWhole, sequences}
+use Rattle.base_phases.specs.Sequences.{Call, IsSequence, sequences}
 use Rattle.hop_model.specs.Table.{IsBegunIn, ending, sequences_of}
 use Rattle.flow_model.specs.Ends.{is_same_phase}
 
@@ -51,7 +51,7 @@ abbrev pub RowsAreFound : Type 0
 RowsAreFound = (row : ReqMode) (resp : RespMode) (calls : List Call) → (IsTrue (begins_row row resp calls) → IsBegunIn (sequences_of row resp) calls) × (IsBegunIn (sequences_of row resp) calls → IsTrue (begins_row row resp calls))
 
 abbrev pub WholesAreFound : Type 0
-WholesAreFound = (calls : List Call) → (IsTrue (is_whole calls) → IsWhole calls) × (IsWhole calls → IsTrue (is_whole calls))
+WholesAreFound = (calls : List Call) → (IsTrue (is_whole calls) → IsSequence calls) × (IsSequence calls → IsTrue (is_whole calls))
 
 -- the calls are one of the three endings
 abbrev pub is_ending : List Call → Bool

@@ -13,7 +13,7 @@ use Rattle.tlm_types.specs.declared.entry.Entry.{Entry}
 use Rattle.tlm_types.specs.declared.entry.What.{What}
 use Rattle.tlm_types.specs.declared.entry.What.TheVariants.{Call as Called}
 use Rattle.tlm_model.specs.History.{is_object, entries_at}
-use Rattle.base_phases.specs.Sequences.{Call, IsBegun, IsWhole, sequences}
+use Rattle.base_phases.specs.Sequences.{Call, IsBegun, IsSequence, sequences}
 use Rattle.hop_model.specs.Calls.{calls_in, calls_of}
 use Rattle.hop_model.specs.Table.{IsBegunIn, sequences_of}
 use Rattle.flow_model.specs.Events.{Event, Among, at, entries, hop_log}
@@ -156,5 +156,5 @@ one_slice (s ∷ ss) cs (inl q) = (zero, ap (λ (l : List Saying). Some (calls l
 one_slice (s ∷ ss) cs (inr p) = let r = one_slice ss cs p in (suc r.0, r.1)
 
 -- one of the eleven, in the words of each
-pub whole_says : (cs : List Saying) → IsOneOf eleven cs → IsWhole (calls cs)
+pub whole_says : (cs : List Saying) → IsOneOf eleven cs → IsSequence (calls cs)
 whole_says cs p = subst (λ (l : List (List Call)). (k : ℕ) × (slice_get l k ≡ Some (calls cs))) (sym sequences_are) (one_slice eleven cs p)

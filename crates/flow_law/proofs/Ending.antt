@@ -11,7 +11,7 @@ use Rattle.flow_model.specs.Backed.{ReleaseBacked}
 use Rattle.flow_model.specs.Events.{Event, Among, Finds, IsPhase, IsAcquire, IsReleased, hop_log}
 use Rattle.flow_model.specs.Numbers.{IsEnding, IsEnder, UpFrom, UpIs, RspIs, EndIs, released_hop}
 use Rattle.flow_model.specs.Points.{IsFreed}
-use Rattle.base_phases.specs.Sequences.{Call, IsWhole}
+use Rattle.base_phases.specs.Sequences.{Call, IsSequence}
 use Rattle.hop_model.specs.Calls.{calls_of}
 use Rattle.std.proofs.lemmas.List.Elements.{filter_map-append}
 use Rattle.flow_model.specs.World.{World, Passage, hop_count, hop_at, row_of}
@@ -213,7 +213,7 @@ eleven_end_last = ((tt), ((λ z. z, tt), ((λ z. z, (λ z. z, tt)), ((λ z. z, t
 
 module _ (w : World) (slots : ℕ → ℕ) (issued : List Entry → TxnId → ℕ) (h : List Event) (pr : Given w slots issued h) where
   -- an END_RESP on a later hop stands after the whole sequence on the hop before
-  pub in_turn : AtSplits (λ before e. (x : TxnId) (pass : Passage) → w.passage x ≡ Some pass → (k : ℕ) → k + 1 < hop_count pass → IsPhase x (hop_at pass (k + 1)) EndResp e → IsWhole (calls_of x (hop_log (hop_at pass k) before))) h
+  pub in_turn : AtSplits (λ before e. (x : TxnId) (pass : Passage) → w.passage x ≡ Some pass → (k : ℕ) → k + 1 < hop_count pass → IsPhase x (hop_at pass (k + 1)) EndResp e → IsSequence (calls_of x (hop_log (hop_at pass k) before))) h
   in_turn before e after q x pass is k below i =
       let b = backed_at w slots issued h pr before after e q x (hop_at pass (k + 1)) EndResp i.answer i.call pass is (k + 1) below refl in
       let f = b.order.ended k refl in
@@ -221,4 +221,4 @@ module _ (w : World) (slots : ℕ → ℕ) (issued : List Entry → TxnId → �
       let split : sayings x o h ≡ sayings x o before ++ sayings x o (e ∷ after) = ap (sayings x o) q ∙ filter_map-append (said x o) before (e ∷ after) in
       let p : IsPrefixOf eleven (sayings x o before) = prefix_of_front eleven (sayings x o before) (sayings x o (e ∷ after)) (subst (λ (l : List Saying). IsPrefixOf eleven l) split (proper w slots issued h pr x o)) in
       let one = whole_of eleven (sayings x o before) (says f.is.phase f.is.answer) eleven_end_last p (said_in x o before f.event f.is.phase f.is.answer f.known f.is.call) f.is.ends in
-      subst IsWhole (sym (calls_at x o before)) (whole_says (sayings x o before) one)
+      subst IsSequence (sym (calls_at x o before)) (whole_says (sayings x o before) one)

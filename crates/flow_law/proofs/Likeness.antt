@@ -9,7 +9,7 @@ use Rattle.tlm_types.specs.declared.entry.Entry.{Entry}
 use Rattle.tlm_types.specs.declared.entry.What.TheVariants.{Acquire}
 use Rattle.flow_model.specs.World.{World, Passage, hop_at}
 use Rattle.flow_model.specs.Events.{Event, Finds, FindsAt, IsCall, IsPhase, IsOwn, IsTake, IsAcquire, IsAccess}
-use Rattle.flow_model.specs.Numbers.{Past, ArrIs, UpFrom, RspFrom, EndIs, NumberOf, IsEnder, IsResponse, IsAnswered}
+use Rattle.flow_model.specs.Numbers.{Past, ArrIs, UpFrom, RspFrom, EndIs, NumberOf, IsEnder, IsResponse, BringsResponse}
 use Rattle.flow_model.specs.Backed.{CallAfter, AccessAfter, AcquireAfter, EndsResponse}
 
 -- f is e, but for its number, which an Acquire at the pool of its initiator keeps
@@ -68,7 +68,7 @@ pub response_kind : (x : TxnId) (o : ℕ) → IsKind (IsResponse x o)
 unfolding IsKind
 response_kind x o e f s c = record { phase = c.phase; answer = c.answer; call = same_call x o c.phase c.answer e f s c.call; responds = c.responds }
 
-pub answered_kind : (x : TxnId) (o : ℕ) → IsKind (IsAnswered x o)
+pub answered_kind : (x : TxnId) (o : ℕ) → IsKind (BringsResponse x o)
 unfolding IsKind
 answered_kind x o e f s c = record { answer = c.answer; call = same_call x o BeginReq c.answer e f s c.call; brings = c.brings }
 

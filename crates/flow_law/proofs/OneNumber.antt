@@ -10,7 +10,7 @@ use Rattle.tlm_types.specs.declared.words.TxnId.{TxnId}
 use Rattle.tlm_types.specs.declared.entry.What.TheVariants.{Call}
 use Rattle.tlm_model.specs.Route.{later}
 use Rattle.flow_model.specs.Events.{Event, Among, Finds, FindsAt, IsCall, IsPhase, IsOwn, IsTakeOf, at, IsAcquire}
-use Rattle.flow_model.specs.Numbers.{ReqIs, Past, ArrIs, UpFrom, RspFrom, EndIs, IsAnswered, IsEnder}
+use Rattle.flow_model.specs.Numbers.{ReqIs, Past, ArrIs, UpFrom, RspFrom, EndIs, BringsResponse, IsEnder}
 use Rattle.flow_model.specs.World.{World, Passage, hop_at}
 use Rattle.flow_law.specs.Ending.{IsOneNumber}
 use Rattle.flow_law.proofs.Forms.{says, sayings, Given, AtSplits, acquires}
@@ -63,7 +63,7 @@ module _ (w : World) (slots : ℕ → ℕ) (issued : List Entry → TxnId → �
   one_response o s t f g = same_time f.event g.event s t (response_same o f.event g.event f.known f.is g.known g.is) f.time g.time
 
   -- a BEGIN_REQ that brought the response leaves no BEGIN_RESP
-  not_both : (o t : ℕ) → Finds (Among h) (IsAnswered x o) → FindsAt (Among h) (IsPhase x o BeginResp) t → ⊥
+  not_both : (o t : ℕ) → Finds (Among h) (BringsResponse x o) → FindsAt (Among h) (IsPhase x o BeginResp) t → ⊥
   not_both o t f g = answered_begin w slots issued h pr x o f.event f.known f.is g.event g.known (own_of o BeginResp g.event g.is) (inr refl)
 
   one_up : (o : ℕ) (rest : List ℕ) (s t : ℕ) → UpFrom w (Among h) x o rest s → UpFrom w (Among h) x o rest t → s ≡ t

@@ -6,7 +6,7 @@ use Rattle.std.proofs.lemmas.List.{length-map}
 use Rattle.tlm_types.specs.declared.words.ObjectNo.TheVariants.{Hop}
 use Rattle.tlm_types.specs.declared.words.TxnId.{TxnId}
 use Rattle.tlm_types.specs.declared.entry.Entry.{Entry}
-use Rattle.base_phases.specs.Sequences.{Call, IsWhole}
+use Rattle.base_phases.specs.Sequences.{Call, IsSequence}
 use Rattle.base_phases.specs.Walks.{is_begin}
 use Rattle.hop_model.specs.Calls.{calls_of, is_of}
 use Rattle.flow_model.specs.Events.{Event, Among, at, entries, hop_log}
@@ -107,7 +107,7 @@ told_from (s ∷ ss) zero sequence q all f = (s, f s (inl refl), some_list (call
     some_list a b q = cc
 told_from (s ∷ ss) (suc k) sequence q all f = told_from ss k sequence q all (λ t m. f t (inr m))
 
-told : (sequence : List Call) → IsWhole sequence → Told sequence
+told : (sequence : List Call) → IsSequence sequence → Told sequence
 told sequence w =
     let r = told_from eleven w.0 sequence (subst (λ (l : List (List Call)). slice_get l w.0 ≡ Some sequence) sequences_are w.1) eleven (λ s m. m) in
     record { says = r.0; among = r.1; is = r.2 }

@@ -12,7 +12,7 @@ use Rattle.tlm_types.specs.declared.entry.What.{What}
 use Rattle.tlm_types.specs.declared.entry.What.TheVariants.{Access as Accessed, Call, Take, Acquire, Release}
 use Rattle.tlm_model.specs.Each.{EachFrom}
 use Rattle.tlm_model.specs.History.{entries_at}
-use Rattle.base_phases.specs.Sequences.{IsWhole}
+use Rattle.base_phases.specs.Sequences.{IsSequence}
 use Rattle.hop_model.specs.ByRules.{request_end}
 use Rattle.hop_model.specs.Calls.{calls_of}
 use Rattle.flow_model.specs.World.{World, Passage, hop_count, hop_at}
@@ -231,7 +231,7 @@ module _ (w : World) (issued : List Entry → TxnId → ℕ) (h : List Event) (c
 
   pub in_turn : EndsInTurn w h → EndsInTurn w (numbered (entries h))
   in_turn f = marked _ h (λ before e after q x pass is k below i.
-      subst (λ (l : List Entry). IsWhole (calls_of x l)) (sym (log_same before after e q (hop_at pass k)))
+      subst (λ (l : List Entry). IsSequence (calls_of x l)) (sym (log_same before after e q (hop_at pass k)))
       (at_each _ h f before e after q x pass is k below (phase_back before after e q x (hop_at pass (k + 1)) EndResp i)))
 
   -- an Acquire with a time is at the pool of its initiator, by the orders

@@ -17,7 +17,7 @@ use Rattle.tlm_model.specs.Route.{later, greatest_time}
 use Rattle.hop_model.specs.ByRules.{request_end as hop_request_end}
 use Rattle.flow_model.specs.Backed.{TimeBacked, BackedBy, EndsRequestBy as EndsRequestMarked}
 use Rattle.flow_model.specs.Events.{Event, Among, Finds, IsCall, IsPhase, IsOwn, at, hop_log}
-use Rattle.flow_model.specs.Numbers.{ReqIs, UpFrom, RspFrom, NumberOf, released_hop, IsByReturn, served_hop, IsAnswered}
+use Rattle.flow_model.specs.Numbers.{ReqIs, UpFrom, RspFrom, NumberOf, released_hop, IsByReturn, served_hop, BringsResponse}
 use Rattle.flow_model.specs.Points.{CallTimed, TimedBy, IsTimed}
 use Rattle.flow_model.specs.World.{World, Passage, hop_count, hop_at, row_by, row_of, is_refused}
 use Rattle.hop_model.specs.Calls.{request_by}
@@ -178,7 +178,7 @@ module _ (w : World) (slots : ℕ → ℕ) (issued : List Entry → TxnId → �
       s.after_own f (among_at (Hop o) r.place.before f r.known i.call.object) (subst (λ (y : TxnId). IsOwn y o f) (sym j.call.txn) i)
 
   -- a BEGIN_REQ that brought the response is the only call before END_RESP
-  pub answered_begin : (x : TxnId) (o : ℕ) (g : Event) → Among h g → IsAnswered x o g → (f : Event) → Among h f → (i : IsOwn x o f) → ¬ ((i.phase ≡ EndReq) ⊎ (i.phase ≡ BeginResp))
+  pub answered_begin : (x : TxnId) (o : ℕ) (g : Event) → Among h g → BringsResponse x o g → (f : Event) → Among h f → (i : IsOwn x o f) → ¬ ((i.phase ≡ EndReq) ⊎ (i.phase ≡ BeginResp))
   answered_begin x o g m ans f n i q =
       let s = among_split h f n in
       let c = came w slots issued h pr s.before s.after f s.is x o i.phase i.answer i.call in

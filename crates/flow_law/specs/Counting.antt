@@ -3,7 +3,7 @@
 use Rattle.std.specs.Prelude.{ℕ, ◌≡◌, ◌≢◌, ◌≤◌, List, length, sum_by, count_by, AllPairs}
 use Rattle.tlm_types.specs.declared.words.TxnId.{TxnId}
 use Rattle.tlm_types.specs.declared.entry.Entry.{Entry}
-use Rattle.base_phases.specs.Sequences.{Call, IsWhole}
+use Rattle.base_phases.specs.Sequences.{Call, IsSequence}
 use Rattle.hop_model.specs.Calls.{calls_of, is_of}
 use Rattle.hop_model.specs.Protocol.{BeginsOnce}
 use Rattle.flow_model.specs.Events.{Event, Among, hop_log}
@@ -27,7 +27,7 @@ CountingLaw = (xs : List TxnId) (spent : TxnId → ℕ) (log : List Entry) → A
 -- the calls of x have a whole sequence of this length among them
 pub record HasSequence (log : List Entry) (x : TxnId) (n : ℕ) : Type 0 where
   pub sequence : List Call
-  pub is : IsWhole sequence
+  pub is : IsSequence sequence
   pub long : length sequence ≡ n
   pub all : (call : Call) → Among sequence call → Among (calls_of x log) call
 

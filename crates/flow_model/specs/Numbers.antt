@@ -44,7 +44,7 @@ pub record IsResponse (x : TxnId) (o : ℕ) (e : Event) : Type 0 where
   pub responds : IsResponding phase answer
 
 -- a BEGIN_REQ that brought the response
-pub record IsAnswered (x : TxnId) (o : ℕ) (e : Event) : Type 0 where
+pub record BringsResponse (x : TxnId) (o : ℕ) (e : Event) : Type 0 where
   pub answer : TlmSync
   pub call : IsCall x o BeginReq answer e
   pub brings : IsByReturn answer
@@ -78,11 +78,11 @@ module _ (w : World) (K : Event → Type 0) (x : TxnId) where
   -- up of the hop o, after which these hops are passed
   abbrev pub UpFrom : ℕ → List ℕ → ℕ → Type 0
   UpFrom o [] t = Past o t
-  UpFrom o (p ∷ rest) t = FindsAt K (IsPhase x p BeginResp) t ⊎ (Finds K (IsAnswered x p) × UpFrom p rest t)
+  UpFrom o (p ∷ rest) t = FindsAt K (IsPhase x p BeginResp) t ⊎ (Finds K (BringsResponse x p) × UpFrom p rest t)
 
   -- rsp of the hop o: up where the request was answered with the response, else the time of BEGIN_RESP
   abbrev pub RspFrom : ℕ → List ℕ → ℕ → Type 0
-  RspFrom o rest t = FindsAt K (IsPhase x o BeginResp) t ⊎ (Finds K (IsAnswered x o) × UpFrom o rest t)
+  RspFrom o rest t = FindsAt K (IsPhase x o BeginResp) t ⊎ (Finds K (BringsResponse x o) × UpFrom o rest t)
 
   abbrev pub UpIs : Passage → ℕ → ℕ → Type 0
   UpIs pass k t = UpFrom (hop_at pass k) (drop (k + 1) pass.hops) t

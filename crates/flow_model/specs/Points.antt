@@ -10,7 +10,7 @@ use Rattle.tlm_types.specs.declared.entry.What.{What}
 use Rattle.tlm_types.specs.declared.entry.What.TheVariants.{Access as Accessed, Call, Take, Acquire, Release}
 use Rattle.tlm_model.specs.Each.{AtEach}
 use Rattle.tlm_model.specs.History.{entries_at}
-use Rattle.base_phases.specs.Sequences.{IsWhole}
+use Rattle.base_phases.specs.Sequences.{IsSequence}
 use Rattle.hop_model.specs.ByRules.{KeepsRules, request_end}
 use Rattle.hop_model.specs.Calls.{calls_of}
 use Rattle.hop_model.specs.Table.{IsBegunIn, sequences_of}
@@ -64,7 +64,7 @@ HasTable w h = (x : TxnId) (pass : Passage) → w.passage x ≡ Some pass → (k
 -- An END_RESP on a later hop stands after the whole sequence on the hop before: a router ends a response below once it has
 -- ended above.
 abbrev pub EndsInTurn : World → List Event → Type 0
-EndsInTurn w h = AtEach (λ before e. (x : TxnId) (pass : Passage) → w.passage x ≡ Some pass → (k : ℕ) → k + 1 < hop_count pass → IsPhase x (hop_at pass (k + 1)) EndResp e → IsWhole (calls_of x (hop_log (hop_at pass k) before))) h
+EndsInTurn w h = AtEach (λ before e. (x : TxnId) (pass : Passage) → w.passage x ≡ Some pass → (k : ℕ) → k + 1 < hop_count pass → IsPhase x (hop_at pass (k + 1)) EndResp e → IsSequence (calls_of x (hop_log (hop_at pass k) before))) h
 
 -- Each call is answered as the modes of the two ends say.
 abbrev pub KeepsModes : World → List Entry → Type 0

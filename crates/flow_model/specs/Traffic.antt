@@ -17,7 +17,7 @@ use Rattle.tlm_model.specs.History.{entries_at}
 use Rattle.tlm_model.specs.Plan.{Plan, Initiator}
 use Rattle.tlm_model.specs.Requests.{Request, requests_of}
 use Rattle.tlm_model.specs.Scripts.{OfRequest, comes_first}
-use Rattle.base_phases.specs.Sequences.{IsWhole}
+use Rattle.base_phases.specs.Sequences.{IsSequence}
 use Rattle.hop_model.specs.Calls.{calls_of}
 use Rattle.hop_model.specs.Protocol.{IsExclusive as IsExclusiveHop}
 use Rattle.hop_model.specs.Table.{sequences_of}
@@ -78,7 +78,7 @@ IsIssuedBy direct_style time issued what = Unit {0}
 -- an access that a four-phase initiator waits for has ended on its first hop, which has the number of its initiator
 abbrev pub HasEnded : Plan → List Entry → Initiator → Request → Option Passage → Type 0
 HasEnded p before i r None = Unit {0}
-HasEnded p before i r (Some pass) = IsWhole (calls_of (record { initiator = i.number; seq = r.seq }) (entries_at (Hop i.number) before))
+HasEnded p before i r (Some pass) = IsSequence (calls_of (record { initiator = i.number; seq = r.seq }) (entries_at (Hop i.number) before))
 
 abbrev pub IsWaitedFor : Plan → List Entry → Initiator → Request → Request → Type 0
 IsWaitedFor p before i q r = IsTrue (comes_first i.row.style r q) → HasEnded p before i r ((world_of p).passage (record { initiator = i.number; seq = r.seq }))

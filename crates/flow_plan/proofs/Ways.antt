@@ -15,7 +15,7 @@ use Rattle.tlm_model.specs.declared.platform.Target.TheVariants.{Router, Memory}
 use Rattle.tlm_model.specs.declared.platform.WindowRow.{WindowRow}
 use Rattle.tlm_model.specs.declared.operation.Operation.{Operation}
 use Rattle.tlm_model.specs.Plan.{Plan, Initiator, initiators_from, initiators_of}
-use Rattle.tlm_model.specs.Route.{Found, into_memory, into_router, into_window, is_within, later, walk, window_hop, window_of}
+use Rattle.tlm_model.specs.Route.{Found, into_memory, into_router, into_window, window_has, later, walk, window_hop, window_of}
 use Rattle.flow_model.specs.World.{IsPassage, Passage}
 use Rattle.flow_model.specs.Platform.{addresses_of, passage_by, passage_to, world_of}
 use Rattle.flow_plan.specs.Valid.{HasNoCycle, LeadsOver, WorldLaw}
@@ -31,7 +31,7 @@ Way p (Router r) (h ∷ hs) = (row : RouterRow) × (index : ℕ) × (window : Wi
 
 found_at : (n : ℕ) (ws : List WindowRow) (a : ℕ) (f : Found) → window_of n ws a ≡ Some f → (k : ℕ) × (f.index ≡ n + k) × (slice_get ws k ≡ Some f.window)
 found_at n [] a f q = cc
-found_at n (v ∷ ws) a f q = go (λ r. found_at (n + 1) ws a f r) (is_within v a) q
+found_at n (v ∷ ws) a f q = go (λ r. found_at (n + 1) ws a f r) (window_has v a) q
   where
     go : (window_of (n + 1) ws a ≡ Some f → (k : ℕ) × (f.index ≡ (n + 1) + k) × (slice_get ws k ≡ Some f.window)) → (b : Bool) → cond b (Some (record { index = n; window = v })) (window_of (n + 1) ws a) ≡ Some f → (k : ℕ) × (f.index ≡ n + k) × (slice_get (v ∷ ws) k ≡ Some f.window)
     go more true q =

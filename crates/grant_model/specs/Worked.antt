@@ -110,8 +110,8 @@ abbrev pub lone_direct : List Operation → Plan
 lone_direct script = direct_plan (Memory 0) [] 2 script
 
 -- a write, and its grant
-abbrev pub begun : List Entry → List Entry
-begun rest = entry 0 0 0 (wrote 0 aa Ok) ∷ entry 1 0 10 (granted 0) ∷ rest
+abbrev pub granted_write : List Entry → List Entry
+granted_write rest = entry 0 0 0 (wrote 0 aa Ok) ∷ entry 1 0 10 (granted 0) ∷ rest
 
 -- gate 1 before gate 0
 unfoldable pub falling : List Entry
@@ -130,7 +130,7 @@ halved = entry 0 0 0 (wrote 0 aa Ok) ∷ entry 1 0 10 (Granted 0 0 0x7f Both) �
 
 -- a grant for an access whose streaming width was written
 unfoldable pub unasked : List Entry
-unasked = begun []
+unasked = granted_write []
 
 -- an access that was OK, and no grant
 unfoldable pub unanswered : List Entry
@@ -138,19 +138,19 @@ unanswered = entry 0 0 0 (wrote 0 aa Ok) ∷ entry 1 1 10 (read 0 aa Ok) ∷ []
 
 -- a use of a closed gate
 unfoldable pub late : List Entry
-late = begun (entry 2 1 10 (Invalidated 0 0) ∷ entry 3 1 10 (Closed 0) ∷ entry 4 2 10 (used 0 0 aa) ∷ [])
+late = granted_write (entry 2 1 10 (Invalidated 0 0) ∷ entry 3 1 10 (Closed 0) ∷ entry 4 2 10 (used 0 0 aa) ∷ [])
 
 -- a grant that isn't used
 unfoldable pub unused : List Entry
-unused = begun (entry 2 1 10 (read 0 aa Ok) ∷ [])
+unused = granted_write (entry 2 1 10 (read 0 aa Ok) ∷ [])
 
 -- a closing without an invalidation
 unfoldable pub causeless : List Entry
-causeless = begun (entry 2 1 10 (Closed 0) ∷ [])
+causeless = granted_write (entry 2 1 10 (Closed 0) ∷ [])
 
 -- an invalidation that returns before it has closed
 unfoldable pub hasty : List Entry
-hasty = begun (entry 2 1 10 (Invalidated 0 0) ∷ entry 3 2 10 (read 0 aa Ok) ∷ [])
+hasty = granted_write (entry 2 1 10 (Invalidated 0 0) ∷ entry 3 2 10 (read 0 aa Ok) ∷ [])
 
 abbrev pub cut_plan : Plan
 cut_plan = lone_direct (write_aa ∷ Invalidate 0 1 ∷ read_one ∷ [])
@@ -174,7 +174,7 @@ unfoldable pub asking : List Entry
 asking = entry 0 0 0 (wrote 0 aa Ok) ∷ []
 
 unfoldable pub unclosed : List Entry
-unclosed = begun (entry 2 1 10 (Invalidated 0 0) ∷ [])
+unclosed = granted_write (entry 2 1 10 (Invalidated 0 0) ∷ [])
 
 pub record EachEndCounts : Type 0 where
   pub asking_kept : KeepsGrants pair_plan asking

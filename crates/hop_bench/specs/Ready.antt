@@ -5,7 +5,7 @@ use Rattle.token_book.specs.Account.{Slip}
 use Rattle.flow_model.specs.Events.{Event}
 use Rattle.payload_pool.specs.declared.baton.Baton.{Baton}
 use Rattle.payload_pool.specs.Pool.{PoolView}
-use Rattle.payload_pool.specs.Calls.{IsWhole}
+use Rattle.payload_pool.specs.Calls.{IsIntact}
 
 -- it has room for so many entries, the first of them at this position
 pub record IsReady (left : ℕ) (tokens : TableId) (position : ℕ) (v : PoolView) : Type 0 where
@@ -24,4 +24,4 @@ pub record IsMine (tokens : TableId) (t : Slip) : Type 0 where
 -- a baton of it that may be put back
 pub record IsBaton (tokens : TableId) (b : Baton) : Type 0 where
   pub mine : IsMine tokens b.own
-  pub whole : IsWhole 16 b
+  pub whole : IsIntact 16 b

@@ -4,7 +4,7 @@ use Rattle.std.specs.List.{count_by}
 use Rattle.tlm_types.specs.declared.words.TxnId.{TxnId}
 use Rattle.tlm_types.specs.declared.entry.Entry.{Entry}
 use Rattle.tlm_model.specs.Each.{EachFrom, AtEach}
-use Rattle.base_phases.specs.Sequences.{Call, IsWhole}
+use Rattle.base_phases.specs.Sequences.{Call, IsSequence}
 use Rattle.base_phases.specs.Walks.{is_begin, state_after}
 use Rattle.base_phases.proofs.WalkLemmas.{begins-append, begun, whole}
 use Rattle.hop_model.specs.Board.{Board, Rules, Steps, Reaches, start}
@@ -34,7 +34,7 @@ agrees r log d h once x =
 pub follows : (r : Rules) (log : List Entry) (d : Board) → Reaches r start log d → BeginsOnce log → FollowsPhases log
 follows r log d h once = λ x. begun (calls_of x log) (state_in (of_txn x) d.lanes) (agrees r log d h once x) (once.once x)
 
-pub ended_whole : (r : Rules) (log : List Entry) (d : Board) → Reaches r start log d → BeginsOnce log → (x : TxnId) → has_lane (of_txn x) d ≡ false → ¬ (calls_of x log ≡ []) → IsWhole (calls_of x log)
+pub ended_whole : (r : Rules) (log : List Entry) (d : Board) → Reaches r start log d → BeginsOnce log → (x : TxnId) → has_lane (of_txn x) d ≡ false → ¬ (calls_of x log ≡ []) → IsSequence (calls_of x log)
 ended_whole r log d h once x none some_call = whole (calls_of x log) (agrees r log d h once x ∙ ap Some (none_any (of_txn x) d.lanes none)) (once.once x) some_call
 
 pub calls-append : (x : TxnId) (ps bs : List Entry) → calls_of x (ps ++ bs) ≡ calls_of x ps ++ calls_of x bs

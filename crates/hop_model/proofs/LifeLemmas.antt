@@ -11,7 +11,7 @@ use Rattle.tlm_types.specs.declared.entry.What.TheVariants.{Call as Called}
 use Rattle.tlm_types.specs.declared.entry.Entry.{Entry}
 use Rattle.base_phases.specs.declared.phases.LaneState.{LaneState}
 use Rattle.base_phases.specs.declared.phases.LaneState.TheVariants.{Free, Requested, Waiting, Responding}
-use Rattle.base_phases.specs.Sequences.{Call, IsBegun, IsWhole}
+use Rattle.base_phases.specs.Sequences.{Call, IsBegun, IsSequence}
 use Rattle.base_phases.specs.Walks.{is_begin, state_after}
 use Rattle.base_phases.proofs.WalkLemmas.{begins-cons, begun, whole}
 use Rattle.hop_model.specs.Board.{Board, Moves, Open, Rules, StepsBy, Reaches, fresh_lane, lane_after, start}
@@ -57,7 +57,7 @@ life_once r log d steps p once = let n = life_begins p r log start d steps in om
 pub life_begun : (r : Rules) (log : List Entry) (d : Board) (steps : Reaches r start log d) (p : ℕ) → HasOneBeginAt p log → IsBegun (life_of p r log d steps)
 life_begun r log d steps p once = begun (life_of p r log d steps) (state_in (at_position p) d.lanes) (life_state r log d steps p once) (life_once r log d steps p once)
 
-pub life_whole : (r : Rules) (log : List Entry) (d : Board) (steps : Reaches r start log d) (p : ℕ) → HasOneBeginAt p log → has_lane (at_position p) d ≡ false → ¬ (life_of p r log d steps ≡ []) → IsWhole (life_of p r log d steps)
+pub life_whole : (r : Rules) (log : List Entry) (d : Board) (steps : Reaches r start log d) (p : ℕ) → HasOneBeginAt p log → has_lane (at_position p) d ≡ false → ¬ (life_of p r log d steps ≡ []) → IsSequence (life_of p r log d steps)
 life_whole r log d steps p once none some_call = whole (life_of p r log d steps) (life_state r log d steps p once ∙ ap Some (none_any (at_position p) d.lanes none)) (life_once r log d steps p once) some_call
 
 begun_more : (log : List Entry) (e : Entry) (o : Open) → HasBegun log o → HasBegun (log ++ e ∷ []) o

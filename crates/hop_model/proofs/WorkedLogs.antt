@@ -13,7 +13,7 @@ use Rattle.tlm_types.specs.declared.words.ReqMode.TheVariants as Req
 use Rattle.tlm_types.specs.declared.words.RespMode.{RespMode}
 use Rattle.tlm_types.specs.declared.words.RespMode.TheVariants as Resp
 use Rattle.base_phases.specs.declared.phases.LaneState.TheVariants.{Free, Requested, Waiting, Responding}
-use Rattle.base_phases.specs.Sequences.{IsWhole}
+use Rattle.base_phases.specs.Sequences.{IsSequence}
 use Rattle.base_phases.proofs.WalkLemmas.{whole_free}
 use Rattle.hop_model.specs.Board.{Begins, Moves, start}
 use Rattle.hop_model.specs.ByRules.{KeepsRules}
@@ -67,7 +67,7 @@ response_not_exclusive e = true≢false (e.responses.1.0 first refl)
 not_same : first ≢ second
 not_same e = let seq : first.seq ≡ second.seq = ap (λ (x : TxnId). x.seq) e in absurd (omega arith)
 
-waiting_not_whole : ¬ IsWhole ((BeginReq, Updated EndReq) ∷ [])
+waiting_not_whole : ¬ IsSequence ((BeginReq, Updated EndReq) ∷ [])
 waiting_not_whole w = let z : Some Waiting ≡ Some Free = whole_free ((BeginReq, Updated EndReq) ∷ []) w in cc
 
 under_way : (x : TxnId) → calls_of x crowded ≡ (BeginReq, Updated EndReq) ∷ [] → IsUnderWay crowded x
@@ -76,7 +76,7 @@ under_way x e = record { begun = none; unended = not_whole }
     none : ¬ (calls_of x crowded ≡ [])
     none f = cc
 
-    not_whole : ¬ IsWhole (calls_of x crowded)
+    not_whole : ¬ IsSequence (calls_of x crowded)
     not_whole w = waiting_not_whole (w.0, w.1 ∙ ap Some e)
 
 pub crowded_not_exclusive : ¬ IsExclusive 1 crowded
@@ -89,7 +89,7 @@ crowded_not_exclusive e =
     let wrong = e.lanes.1.0 (first ∷ second ∷ []) differ each in
     absurd (omega arith)
 
-pub rows : (req : ReqMode) (resp : RespMode) → AllByRecursion IsWhole (sequences_of req resp)
+pub rows : (req : ReqMode) (resp : RespMode) → AllByRecursion IsSequence (sequences_of req resp)
 rows Req.Accept Resp.Accept = ((5, refl), tt)
 rows Req.Accept Resp.EndResp = ((6, refl), tt)
 rows Req.Accept Resp.Complete = ((7, refl), tt)

@@ -42,10 +42,10 @@ abbrev pub last_time : TxnId → List Entry → ℕ
 last_time x log = fold (λ old e. if is_of x e then e.time else old) 0 log
 
 -- the answer is that of the mode of the component that is called
-abbrev pub IsAnswered : Rules → List Entry → Phase → TlmSync → Type 0
-IsAnswered r before BeginReq answer = answer ≡ request_answer r.req (any_response before)
-IsAnswered r before BeginResp answer = answer ≡ response_answer r.resp
-IsAnswered r before _ answer = Unit {0}
+abbrev pub AnswersByMode : Rules → List Entry → Phase → TlmSync → Type 0
+AnswersByMode r before BeginReq answer = answer ≡ request_answer r.req (any_response before)
+AnswersByMode r before BeginResp answer = answer ≡ response_answer r.resp
+AnswersByMode r before _ answer = Unit {0}
 
 -- a BEGIN_REQ does not stand before the end of the last request, another call not before its transaction's last one, and a
 -- BEGIN_RESP not before the end of any response
@@ -55,7 +55,7 @@ IsInTime before e BeginResp = (last_time e.txn before ≤ e.time) × (response_e
 IsInTime before e _ = last_time e.txn before ≤ e.time
 
 abbrev pub IsCallBy : Rules → List Entry → Entry → What → Type 0
-IsCallBy r before e (Called phase answer) = IsAnswered r before phase answer × IsInTime before e phase
+IsCallBy r before e (Called phase answer) = AnswersByMode r before phase answer × IsInTime before e phase
 IsCallBy r before e _ = ⊥
 
 -- each entry is a call, with its answer and in its time

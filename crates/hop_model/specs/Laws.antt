@@ -5,7 +5,7 @@ use Rattle.tlm_types.specs.declared.words.TxnId.{TxnId}
 use Rattle.tlm_types.specs.declared.words.ReqMode.{ReqMode}
 use Rattle.tlm_types.specs.declared.words.RespMode.{RespMode}
 use Rattle.tlm_types.specs.declared.entry.Entry.{Entry}
-use Rattle.base_phases.specs.Sequences.{IsBegun, IsWhole}
+use Rattle.base_phases.specs.Sequences.{IsBegun, IsSequence}
 use Rattle.hop_model.specs.Board.{Board, Open, Rules, Reaches, start}
 use Rattle.hop_model.specs.ByRules.{KeepsRules}
 use Rattle.hop_model.specs.Calls.{calls_of}
@@ -29,7 +29,7 @@ LogsKeepRules = (r : Rules) (log : List Entry) (d : Board) → Reaches r start l
 
 -- a transaction without a lane has not begun, or its calls are a whole sequence
 abbrev pub EndedTransactionsAreWhole : Type 0
-EndedTransactionsAreWhole = (r : Rules) (log : List Entry) (d : Board) → Reaches r start log d → BeginsOnce log → (x : TxnId) → has_lane (of_txn x) d ≡ false → ¬ (calls_of x log ≡ []) → IsWhole (calls_of x log)
+EndedTransactionsAreWhole = (r : Rules) (log : List Entry) (d : Board) → Reaches r start log d → BeginsOnce log → (x : TxnId) → has_lane (of_txn x) d ≡ false → ¬ (calls_of x log ≡ []) → IsSequence (calls_of x log)
 
 -- each lane of the board is that of a BEGIN_REQ
 abbrev pub LanesHaveBegun : Type 0
@@ -41,8 +41,8 @@ LivesFollowPhases = (r : Rules) (log : List Entry) (d : Board) (steps : Reaches 
 
 -- those of a lane that has ended are a whole sequence
 abbrev pub EndedLivesAreWhole : Type 0
-EndedLivesAreWhole = (r : Rules) (log : List Entry) (d : Board) (steps : Reaches r start log d) (position : ℕ) → HasOneBeginAt position log → has_lane (at_position position) d ≡ false → ¬ (life_of position r log d steps ≡ []) → IsWhole (life_of position r log d steps)
+EndedLivesAreWhole = (r : Rules) (log : List Entry) (d : Board) (steps : Reaches r start log d) (position : ℕ) → HasOneBeginAt position log → has_lane (at_position position) d ≡ false → ¬ (life_of position r log d steps ≡ []) → IsSequence (life_of position r log d steps)
 
 -- the table has sequences of the eleven
 abbrev pub RowsAreSequences : Type 0
-RowsAreSequences = (req : ReqMode) (resp : RespMode) → AllByRecursion IsWhole (sequences_of req resp)
+RowsAreSequences = (req : ReqMode) (resp : RespMode) → AllByRecursion IsSequence (sequences_of req resp)

@@ -3,7 +3,7 @@ use Rattle.std.specs.Prelude.{◌≡◌, ◌≢◌, ℕ, ◌≤◌, true, false,
 use Rattle.tlm_types.specs.declared.words.TxnId.{TxnId}
 use Rattle.tlm_types.specs.declared.entry.Entry.{Entry}
 use Rattle.tlm_model.specs.Each.{AtEach}
-use Rattle.base_phases.specs.Sequences.{IsBegun, IsWhole}
+use Rattle.base_phases.specs.Sequences.{IsBegun, IsSequence}
 use Rattle.base_phases.specs.Walks.{HasOneBegin}
 use Rattle.hop_model.specs.Calls.{begins_request, begins_response, calls_of, has_open_request, has_open_response}
 
@@ -26,7 +26,7 @@ KeepsResponse before e = (x : TxnId) → has_open_response x before ≡ true →
 -- the transaction has begun and not ended
 pub record IsUnderWay (log : List Entry) (x : TxnId) : Type 0 where
   pub begun : ¬ (calls_of x log ≡ [])
-  pub unended : ¬ IsWhole (calls_of x log)
+  pub unended : ¬ IsSequence (calls_of x log)
 
 -- after the entry at most so many transactions are under way: no more of them can be named
 abbrev pub FitsLanes : ℕ → List Entry → Entry → Type 0

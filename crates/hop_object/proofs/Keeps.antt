@@ -29,8 +29,8 @@ use Rattle.hop_object.specs.declared.lane.Lane.{Lane}
 use Rattle.hop_object.specs.declared.lane.Side.TheVariants.{Up}
 use Rattle.hop_object.specs.States.{state_by}
 use Rattle.hop_object.specs.View.{HopView}
-use Rattle.hop_object.specs.Lanes.{leg_name, has_leg, legs_out, any_requested, any_responding, open_by, opens, step_lane, waits, IsPlaced}
-use Rattle.hop_object.specs.Hops.{rules_of, board_of, HasSent, Follows, Kept, can_begin, begin_answer, begun_with, entry_of, new_lane, entered, passed, called, with_lanes, leg_changed, leg_out, IsLegOf}
+use Rattle.hop_object.specs.Lanes.{leg_name, has_leg, legs_out, any_requested, any_responding, open_by, opens, step_lane, waits, HasPosition}
+use Rattle.hop_object.specs.Hops.{rules_of, board_of, HasSent, Follows, Kept, can_begin, begin_answer, begun_with, hop_entry, new_lane, entered, passed, called, with_lanes, leg_changed, leg_out, IsLegOf}
 use Rattle.hop_object.proofs.Boards.{opens-append, any-opens, length-opens}
 use Rattle.hop_object.proofs.Marked.{marked_push}
 use Rattle.hop_object.proofs.LegLemmas.{both, leg_state, legs_changed, legs_ended, out_issued}
@@ -85,8 +85,8 @@ module _ {T : Type 0} where
       let parts : All P (before ++ lane ∷ behind) = All-same P (before ++ lane ∷ behind) lanes (sym here) all in
       All-append P before (mid ++ behind) (All-left P before (lane ∷ behind) parts) (All-append P mid behind new (All-tail P lane behind (All-right P before (lane ∷ behind) parts)))
 
-  only : (l : Lane T) → IsPlaced l → All IsPlaced (l ∷ [])
-  only l h = All-cons IsPlaced l [] h (All-nil IsPlaced)
+  only : (l : Lane T) → HasPosition l → All HasPosition (l ∷ [])
+  only l h = All-cons HasPosition l [] h (All-nil HasPosition)
 
   -- one more entry, by a step of the model
   pushed : (v w : HopView T) (e : Event) → Follows v → All (λ (y : Event). y.position < e.position) v.log.events → e.object ≡ Hop v.number → w.number ≡ v.number → w.traits ≡ v.traits → w.log.events ≡ v.log.events ++ e ∷ [] → All (HasSent v.number (v.log.events ++ e ∷ [])) w.lanes → Marks (rules_of v) (board_of v) e (board_of w) → Follows w
@@ -102,17 +102,17 @@ module _ {T : Type 0} where
   -- a BEGIN_REQ that adds these lanes
   kept_begun : (v : HopView T) (p : ℕ) (x : TxnId) (t : ℕ) (answer : TlmSync) (state : LaneState) (mid : List (Lane T)) (book : Account)
       → Kept v → All (λ (e : Event). e.position < p) v.log.events → can_begin v ≡ true → answer ≡ begin_answer v → next_state Free BeginReq answer ≡ Some state → v.request_end ≤ t
-      → length mid ≤ 1 → All IsPlaced mid → All (HasSent v.number (v.log.events ++ entry_of v.number p x t BeginReq answer 0 ∷ [])) mid → opens mid ≡ lane_after (fresh_lane (entry_of v.number p x t BeginReq answer 0).entry) state t
+      → length mid ≤ 1 → All HasPosition mid → All (HasSent v.number (v.log.events ++ hop_entry v.number p x t BeginReq answer 0 ∷ [])) mid → opens mid ≡ lane_after (fresh_lane (hop_entry v.number p x t BeginReq answer 0).entry) state t
       → ((n : ℕ) → out_of n book.out ≡ out_of n v.book.out + count_by (has_leg n) mid)
-      → Kept (begun_with v (entry_of v.number p x t BeginReq answer 0) answer (v.lanes ++ mid) book)
+      → Kept (begun_with v (hop_entry v.number p x t BeginReq answer 0) answer (v.lanes ++ mid) book)
   kept_begun v p x t answer state mid book k past can is next late short placed sends sees out =
-      let e = entry_of v.number p x t BeginReq answer 0 in
+      let e = hop_entry v.number p x t BeginReq answer 0 in
       let w = begun_with v e answer (v.lanes ++ mid) book in
       let m = may_begin v can in
       record {
         few = let l = length-append v.lanes mid in let f = m.1 in omega arith;
         small = k.small;
-        placed = All-append IsPlaced v.lanes mid k.placed placed;
+        placed = All-append HasPosition v.lanes mid k.placed placed;
         legs = λ n. let o = out n in let q = k.legs n in let s = sum_by-append (λ (l : Lane T). cond {A = ℕ} (has_leg n l) 1 0) v.lanes mid in omega arith;
         follows = pushed v w e k.follows past refl refl refl refl (All-append (HasSent v.number (v.log.events ++ e ∷ [])) v.lanes mid (sent_longer v.number v.log.events e v.lanes k.follows.sent) sends) (record {
           marked = refl;
@@ -136,28 +136,28 @@ module _ {T : Type 0} where
 
   -- a BEGIN_REQ that takes a lane
   pub kept_entered : (v : HopView T) (p : ℕ) (x : TxnId) (t : ℕ) (answer : TlmSync) (state : LaneState) (item : Option T) (book : Account)
-      → Kept v → All (λ (e : Event). e.position < p) v.log.events → can_begin v ≡ true → answer ≡ begin_answer v → next_state Free BeginReq answer ≡ Some state → v.request_end ≤ t → p < 1000000 → waits Up (new_lane (entry_of v.number p x t BeginReq answer 0) state item) ≡ false
-      → ((n : ℕ) → out_of n book.out ≡ out_of n v.book.out + count_by (has_leg n) (new_lane (entry_of v.number p x t BeginReq answer 0) state item ∷ []))
-      → Kept (entered v (entry_of v.number p x t BeginReq answer 0) answer state item book)
+      → Kept v → All (λ (e : Event). e.position < p) v.log.events → can_begin v ≡ true → answer ≡ begin_answer v → next_state Free BeginReq answer ≡ Some state → v.request_end ≤ t → p < 1000000 → waits Up (new_lane (hop_entry v.number p x t BeginReq answer 0) state item) ≡ false
+      → ((n : ℕ) → out_of n book.out ≡ out_of n v.book.out + count_by (has_leg n) (new_lane (hop_entry v.number p x t BeginReq answer 0) state item ∷ []))
+      → Kept (entered v (hop_entry v.number p x t BeginReq answer 0) answer state item book)
   kept_entered v p x t answer state item book k past can is next late below idle out =
-      let e = entry_of v.number p x t BeginReq answer 0 in
+      let e = hop_entry v.number p x t BeginReq answer 0 in
       let mid = new_lane e state item in
       kept_begun v p x t answer state (mid ∷ []) book k past can is next late (omega arith) (only mid below) (not_up v.number (v.log.events ++ e ∷ []) mid idle) (one_open e state item) out
 
   -- a BEGIN_REQ that ends the transaction
   pub kept_passed : (v : HopView T) (p : ℕ) (x : TxnId) (t : ℕ) → Kept v → All (λ (e : Event). e.position < p) v.log.events → can_begin v ≡ true → Completed ≡ begin_answer v → v.request_end ≤ t
-      → Kept (passed v (entry_of v.number p x t BeginReq Completed 0) Completed)
+      → Kept (passed v (hop_entry v.number p x t BeginReq Completed 0) Completed)
   kept_passed v p x t k past can is late =
-      let e = entry_of v.number p x t BeginReq Completed 0 in
+      let e = hop_entry v.number p x t BeginReq Completed 0 in
       subst (λ (ls : List (Lane T)). Kept (begun_with v e Completed ls v.book)) (append-nil v.lanes)
-      (kept_begun v p x t Completed Free [] v.book k past can is refl late (omega arith) (All-nil IsPlaced) (All-nil (HasSent v.number (v.log.events ++ e ∷ []))) refl (λ n. omega arith))
+      (kept_begun v p x t Completed Free [] v.book k past can is refl late (omega arith) (All-nil HasPosition) (All-nil (HasSent v.number (v.log.events ++ e ∷ []))) refl (λ n. omega arith))
 
   -- the lane at a place, and those round it
-  placed_lane : (v : HopView T) (before : List (Lane T)) (lane : Lane T) (behind : List (Lane T)) → Kept v → v.lanes ≡ before ++ lane ∷ behind → IsPlaced lane
-  placed_lane v before lane behind k here = All-head IsPlaced lane behind (All-right IsPlaced before (lane ∷ behind) (All-same IsPlaced (before ++ lane ∷ behind) v.lanes (sym here) k.placed))
+  placed_lane : (v : HopView T) (before : List (Lane T)) (lane : Lane T) (behind : List (Lane T)) → Kept v → v.lanes ≡ before ++ lane ∷ behind → HasPosition lane
+  placed_lane v before lane behind k here = All-head HasPosition lane behind (All-right HasPosition before (lane ∷ behind) (All-same HasPosition (before ++ lane ∷ behind) v.lanes (sym here) k.placed))
 
-  placed_round : (v : HopView T) (before : List (Lane T)) (lane : Lane T) (behind mid : List (Lane T)) → Kept v → v.lanes ≡ before ++ lane ∷ behind → All IsPlaced mid → All IsPlaced (before ++ (mid ++ behind))
-  placed_round v before lane behind mid k here placed = all_round IsPlaced v.lanes before lane behind mid k.placed here placed
+  placed_round : (v : HopView T) (before : List (Lane T)) (lane : Lane T) (behind mid : List (Lane T)) → Kept v → v.lanes ≡ before ++ lane ∷ behind → All HasPosition mid → All HasPosition (before ++ (mid ++ behind))
+  placed_round v before lane behind mid k here placed = all_round HasPosition v.lanes before lane behind mid k.placed here placed
 
   few_round : (v : HopView T) (before : List (Lane T)) (lane : Lane T) (behind mid : List (Lane T)) → Kept v → v.lanes ≡ before ++ lane ∷ behind → length mid ≤ 1 → length (before ++ (mid ++ behind)) ≤ v.traits.lanes
   few_round v before lane behind mid k here short =
@@ -186,13 +186,13 @@ module _ {T : Type 0} where
   -- a later call, which puts these lanes in place of its own
   kept_called : (v : HopView T) (before : List (Lane T)) (lane : Lane T) (behind mid : List (Lane T)) (p t : ℕ) (next : LaneState) (phase : Phase) (answer : TlmSync) (mark : ℕ) (book : Account)
       → Kept v → All (λ (e : Event). e.position < p) v.log.events → v.lanes ≡ before ++ lane ∷ behind → open_by lane lane.state ≡ seen lane ∷ [] → next_state lane.state phase answer ≡ Some next
-      → opens mid ≡ lane_after (seen lane) next t → length mid ≤ 1 → All IsPlaced mid → All (HasSent v.number (v.log.events ++ entry_of v.number p lane.txn t phase answer mark ∷ [])) mid → lane.last ≤ t
-      → InTurn (rules_of v) (board_of v) (entry_of v.number p lane.txn t phase answer mark).entry phase answer
+      → opens mid ≡ lane_after (seen lane) next t → length mid ≤ 1 → All HasPosition mid → All (HasSent v.number (v.log.events ++ hop_entry v.number p lane.txn t phase answer mark ∷ [])) mid → lane.last ≤ t
+      → InTurn (rules_of v) (board_of v) (hop_entry v.number p lane.txn t phase answer mark).entry phase answer
       → ((n : ℕ) → out_of n book.out + cond {A = ℕ} (has_leg n lane) 1 0 ≡ out_of n v.book.out + count_by (has_leg n) mid)
-      → ((m : Moves (rules_of v) (board_of v) (entry_of v.number p lane.txn t phase answer mark).entry phase answer (board_of (called v (before ++ (mid ++ behind)) (entry_of v.number p lane.txn t phase answer mark) lane.state phase answer book))) → m.lane.state ≡ lane.state → Marks (rules_of v) (board_of v) (entry_of v.number p lane.txn t phase answer mark) (board_of (called v (before ++ (mid ++ behind)) (entry_of v.number p lane.txn t phase answer mark) lane.state phase answer book)))
-      → Kept (called v (before ++ (mid ++ behind)) (entry_of v.number p lane.txn t phase answer mark) lane.state phase answer book)
+      → ((m : Moves (rules_of v) (board_of v) (hop_entry v.number p lane.txn t phase answer mark).entry phase answer (board_of (called v (before ++ (mid ++ behind)) (hop_entry v.number p lane.txn t phase answer mark) lane.state phase answer book))) → m.lane.state ≡ lane.state → Marks (rules_of v) (board_of v) (hop_entry v.number p lane.txn t phase answer mark) (board_of (called v (before ++ (mid ++ behind)) (hop_entry v.number p lane.txn t phase answer mark) lane.state phase answer book)))
+      → Kept (called v (before ++ (mid ++ behind)) (hop_entry v.number p lane.txn t phase answer mark) lane.state phase answer book)
   kept_called v before lane behind mid p t next phase answer mark book k past here one allowed left short placed sends late turn out into =
-      let e = entry_of v.number p lane.txn t phase answer mark in
+      let e = hop_entry v.number p lane.txn t phase answer mark in
       let w = called v (before ++ (mid ++ behind)) e lane.state phase answer book in
       record {
         few = few_round v before lane behind mid k here short;
@@ -225,25 +225,25 @@ module _ {T : Type 0} where
 
   pub kept_end_req : (v : HopView T) (leg : Slip) (before : List (Lane T)) (lane : Lane T) (behind : List (Lane T)) (p t : ℕ)
       → Kept v → All (λ (e : Event). e.position < p) v.log.events → Redeemed v leg before lane behind → IsLegOf v leg Requested → lane.last ≤ t
-      → Kept (called v (before ++ step_lane lane Waiting t p None ∷ behind) (entry_of v.number p lane.txn t EndReq Accepted 0) Requested EndReq Accepted (leg_changed v.book leg lane Waiting))
+      → Kept (called v (before ++ step_lane lane Waiting t p None ∷ behind) (hop_entry v.number p lane.txn t EndReq Accepted 0) Requested EndReq Accepted (leg_changed v.book leg lane Waiting))
   kept_end_req v leg before lane behind p t k past r own late =
       let is : lane.state ≡ Requested = leg_state leg.name lane Requested r.has own.state_is in
       let b = leg_changed v.book leg lane Waiting in
       let mid = step_lane lane Waiting t p None in
-      let placed : IsPlaced mid = placed_lane v before lane behind k r.here in
-      subst (λ (s : LaneState). Kept (called v (before ++ mid ∷ behind) (entry_of v.number p lane.txn t EndReq Accepted 0) s EndReq Accepted b)) is
-      (kept_called v before lane behind (mid ∷ []) p t Waiting EndReq Accepted 0 b k past r.here (open_live lane Requested is refl) (ap (λ (s : LaneState). next_state s EndReq Accepted) is) (one_moved lane Waiting t p None) (omega arith) (only mid placed) (not_up v.number (v.log.events ++ entry_of v.number p lane.txn t EndReq Accepted 0 ∷ []) mid refl) late tt (legs_changed v.book leg lane Waiting t p r.one r.was r.has) (λ m same. record { steps = m; marked = refl }))
+      let placed : HasPosition mid = placed_lane v before lane behind k r.here in
+      subst (λ (s : LaneState). Kept (called v (before ++ mid ∷ behind) (hop_entry v.number p lane.txn t EndReq Accepted 0) s EndReq Accepted b)) is
+      (kept_called v before lane behind (mid ∷ []) p t Waiting EndReq Accepted 0 b k past r.here (open_live lane Requested is refl) (ap (λ (s : LaneState). next_state s EndReq Accepted) is) (one_moved lane Waiting t p None) (omega arith) (only mid placed) (not_up v.number (v.log.events ++ hop_entry v.number p lane.txn t EndReq Accepted 0 ∷ []) mid refl) late tt (legs_changed v.book leg lane Waiting t p r.one r.was r.has) (λ m same. record { steps = m; marked = refl }))
 
   kept_respond_at : (v : HopView T) (leg : Slip) (before : List (Lane T)) (lane : Lane T) (behind : List (Lane T)) (p t : ℕ) (item : T)
       → Kept v → All (λ (e : Event). e.position < p) v.log.events → Redeemed v leg before lane behind → lane.last ≤ t → v.response_end ≤ t → any_responding v.lanes ≡ false
       → (s : LaneState) → lane.state ≡ s → open_by lane s ≡ record { txn = lane.txn; position = lane.position; state = s; last = lane.last } ∷ []
       → ((m : RespMode) → next_state s BeginResp (response_answer m) ≡ Some (state_by (response_answer m)))
-      → Kept (called v (before ++ step_lane lane (state_by (response_answer v.traits.resp)) t p (Some item) ∷ behind) (entry_of v.number p lane.txn t BeginResp (response_answer v.traits.resp) (mark_of lane.state)) lane.state BeginResp (response_answer v.traits.resp) (retired v.book leg))
+      → Kept (called v (before ++ step_lane lane (state_by (response_answer v.traits.resp)) t p (Some item) ∷ behind) (hop_entry v.number p lane.txn t BeginResp (response_answer v.traits.resp) (mark_of lane.state)) lane.state BeginResp (response_answer v.traits.resp) (retired v.book leg))
   kept_respond_at v leg before lane behind p t item k past r late later free s is live next =
       let answer = response_answer v.traits.resp in
       let mid = step_lane lane (state_by answer) t p (Some item) in
-      let placed : IsPlaced mid = placed_lane v before lane behind k r.here in
-      let e = entry_of v.number p lane.txn t BeginResp answer (mark_of lane.state) in
+      let placed : HasPosition mid = placed_lane v before lane behind k r.here in
+      let e = hop_entry v.number p lane.txn t BeginResp answer (mark_of lane.state) in
       let P : Lane T → Type 0 = HasSent v.number (v.log.events ++ e ∷ []) in
       let sends : All P (mid ∷ []) = All-cons P mid [] (λ up. record { event = e; known = behind_all v.log.events (e ∷ []) e (inl refl); is = record { phase = record { answer = answer; call = record { object = refl; txn = refl; what = refl } }; place = refl; time = refl } }) (All-nil P) in
       kept_called v before lane behind (mid ∷ []) p t (state_by answer) BeginResp answer (mark_of lane.state) (retired v.book leg) k past r.here (open_live lane s is live) (ap (λ (q : LaneState). next_state q BeginResp answer) is ∙ next v.traits.resp) (one_moved lane (state_by answer) t p (Some item)) (omega arith) (only mid placed) sends late (any-opens is_responding refl v.lanes ∙ free, refl, later) (λ n. omega (arith, legs_ended v.book leg lane r.one r.was r.has n)) (λ m same. record { steps = m; marked = ap mark_of (sym same) })
@@ -251,7 +251,7 @@ module _ {T : Type 0} where
   pub kept_respond : (v : HopView T) (leg : Slip) (before : List (Lane T)) (lane : Lane T) (behind : List (Lane T)) (p t : ℕ) (item : T)
       → Kept v → All (λ (e : Event). e.position < p) v.log.events → Redeemed v leg before lane behind → lane.last ≤ t → v.response_end ≤ t → any_responding v.lanes ≡ false
       → IsLegOf v leg Requested ⊎ IsLegOf v leg Waiting
-      → Kept (called v (before ++ step_lane lane (state_by (response_answer v.traits.resp)) t p (Some item) ∷ behind) (entry_of v.number p lane.txn t BeginResp (response_answer v.traits.resp) (mark_of lane.state)) lane.state BeginResp (response_answer v.traits.resp) (retired v.book leg))
+      → Kept (called v (before ++ step_lane lane (state_by (response_answer v.traits.resp)) t p (Some item) ∷ behind) (hop_entry v.number p lane.txn t BeginResp (response_answer v.traits.resp) (mark_of lane.state)) lane.state BeginResp (response_answer v.traits.resp) (retired v.book leg))
   kept_respond v leg before lane behind p t item k past r late later free which =
       ⊎_elim
       (λ (own : IsLegOf v leg Requested). kept_respond_at v leg before lane behind p t item k past r late later free Requested (leg_state leg.name lane Requested r.has own.state_is) refl from_requested)
@@ -260,16 +260,16 @@ module _ {T : Type 0} where
 
   pub kept_end_resp : (v : HopView T) (leg : Slip) (before : List (Lane T)) (lane : Lane T) (behind : List (Lane T)) (p t : ℕ)
       → Kept v → All (λ (e : Event). e.position < p) v.log.events → Redeemed v leg before lane behind → IsLegOf v leg Responding → lane.last ≤ t
-      → Kept (called v (before ++ behind) (entry_of v.number p lane.txn t EndResp Completed 0) Responding EndResp Completed (retired v.book leg))
+      → Kept (called v (before ++ behind) (hop_entry v.number p lane.txn t EndResp Completed 0) Responding EndResp Completed (retired v.book leg))
   kept_end_resp v leg before lane behind p t k past r own late =
       let is : lane.state ≡ Responding = leg_state leg.name lane Responding r.has own.state_is in
       let b = retired v.book leg in
-      subst (λ (s : LaneState). Kept (called v (before ++ behind) (entry_of v.number p lane.txn t EndResp Completed 0) s EndResp Completed b)) is
-      (kept_called v before lane behind [] p t Free EndResp Completed 0 b k past r.here (open_live lane Responding is refl) (ap (λ (s : LaneState). next_state s EndResp Completed) is) refl (omega arith) (All-nil IsPlaced) (All-nil (HasSent v.number (v.log.events ++ entry_of v.number p lane.txn t EndResp Completed 0 ∷ []))) late tt (λ n. omega (arith, legs_ended v.book leg lane r.one r.was r.has n)) (λ m same. record { steps = m; marked = refl }))
+      subst (λ (s : LaneState). Kept (called v (before ++ behind) (hop_entry v.number p lane.txn t EndResp Completed 0) s EndResp Completed b)) is
+      (kept_called v before lane behind [] p t Free EndResp Completed 0 b k past r.here (open_live lane Responding is refl) (ap (λ (s : LaneState). next_state s EndResp Completed) is) refl (omega arith) (All-nil HasPosition) (All-nil (HasSent v.number (v.log.events ++ hop_entry v.number p lane.txn t EndResp Completed 0 ∷ []))) late tt (λ n. omega (arith, legs_ended v.book leg lane r.one r.was r.has n)) (λ m same. record { steps = m; marked = refl }))
 
   -- a fetch, which puts these lanes in place of one that the model sees as they are
   kept_fetched : (v : HopView T) (before : List (Lane T)) (lane : Lane T) (behind mid : List (Lane T)) (book : Account)
-      → Kept v → v.lanes ≡ before ++ lane ∷ behind → opens mid ≡ open_by lane lane.state → length mid ≤ 1 → All IsPlaced mid → All (HasSent v.number v.log.events) mid
+      → Kept v → v.lanes ≡ before ++ lane ∷ behind → opens mid ≡ open_by lane lane.state → length mid ≤ 1 → All HasPosition mid → All (HasSent v.number v.log.events) mid
       → ((n : ℕ) → out_of n book.out + cond {A = ℕ} (has_leg n lane) 1 0 ≡ out_of n v.book.out + count_by (has_leg n) mid)
       → Kept (with_lanes v (before ++ (mid ++ behind)) book)
   kept_fetched v before lane behind mid book k here sees short placed sends out =
@@ -304,7 +304,7 @@ module _ {T : Type 0} where
       → Kept (with_lanes v (before ++ step_lane lane lane.state lane.last lane.latest None ∷ behind) (leg_out v.book lane.position lane.state))
   kept_handed v before lane behind item k here carried =
       let mid = step_lane lane lane.state lane.last lane.latest None in
-      let placed : IsPlaced mid = placed_lane v before lane behind k here in
+      let placed : HasPosition mid = placed_lane v before lane behind k here in
       kept_fetched v before lane behind (mid ∷ []) (leg_out v.book lane.position lane.state) k here (open_same lane lane.state None) (omega arith) (only mid placed) (not_up v.number v.log.events mid refl)
       (λ n. let o = out_issued n v.book (leg_name lane) in let z = no_leg n lane item carried in omega arith)
 
@@ -313,5 +313,5 @@ module _ {T : Type 0} where
       → Kept v → v.lanes ≡ before ++ lane ∷ behind → lane.item ≡ Some item → lane.state ≡ Free
       → Kept (with_lanes v (before ++ behind) v.book)
   kept_freed v before lane behind item k here carried ended =
-      kept_fetched v before lane behind [] v.book k here (ap (λ (s : LaneState). open_by lane s) (sym ended)) (omega arith) (All-nil IsPlaced) (All-nil (HasSent v.number v.log.events))
+      kept_fetched v before lane behind [] v.book k here (ap (λ (s : LaneState). open_by lane s) (sym ended)) (omega arith) (All-nil HasPosition) (All-nil (HasSent v.number v.log.events))
       (λ n. let z = no_leg n lane item carried in omega arith)

@@ -24,7 +24,7 @@ use Rattle.hop_object.specs.declared.call.HopReply.{HopReply}
 use Rattle.hop_object.specs.declared.call.HopReply.TheVariants as Replies
 use Rattle.hop_object.specs.View.{HopView}
 use Rattle.hop_object.specs.Lanes.{any_responding, has_leg}
-use Rattle.hop_object.specs.Hops.{can_begin, entry_of, MayCall}
+use Rattle.hop_object.specs.Hops.{can_begin, hop_entry, MayCall}
 use Rattle.hop_object.specs.Calls.{begun_as, AnswersRequest, AnswersResponse, EndsRequest, EndsResponse, FetchesDown, FetchesUp, TakesUp}
 use Rattle.hop_object.specs.Objects.{answer_by, built_of, content_by, is_admitted, knows, lane_of, last_of, mark_by, phase_by, state_of, time_by, txn_by, txn_of, Applied}
 use Rattle.hop_object.proofs.LegLemmas.{both}
@@ -48,7 +48,7 @@ both_true a b e f = cc
 module _ {T : Type 0} where
   -- the entry of a call
   abbrev pub entry_by : HopView T → ℕ → HopCall T → Event
-  entry_by v p call = entry_of v.number p (txn_by v call) (time_by v call) (phase_by call) (answer_by v call) (mark_by v call)
+  entry_by v p call = hop_entry v.number p (txn_by v call) (time_by v call) (phase_by call) (answer_by v call) (mark_by v call)
 
   -- what a call leaves: how the hop is built, and its entry if it is taken
   pub record Leaves (v : HopView T) (p : ℕ) (call : HopCall T) (w : HopView T) : Type 0 where
@@ -87,10 +87,10 @@ module _ {T : Type 0} where
 
   -- the entry of a call by a leg names the transaction of its lane
   entry_here : (v : HopView T) (p at : ℕ) (leg : Slip) (lane : Lane T) (time : ℕ) (phase : Phase) (answer : TlmSync) (when : ℕ → ℕ) (mark : LaneState → ℕ) → lane_of v leg ≡ Some lane → time ≡ when lane.last
-      → with_event v.log (entry_of v.number p lane.txn time phase answer (mark lane.state)) ≡ with_event v.log (entry_of v.number p (txn_of (lane_of v leg)) (when (last_of (lane_of v leg))) phase answer (mark (state_of (lane_of v leg))))
+      → with_event v.log (hop_entry v.number p lane.txn time phase answer (mark lane.state)) ≡ with_event v.log (hop_entry v.number p (txn_of (lane_of v leg)) (when (last_of (lane_of v leg))) phase answer (mark (state_of (lane_of v leg))))
   entry_here v p at leg lane time phase answer when mark leg_is time_is =
-      ap (λ (t : ℕ). with_event v.log (entry_of v.number p lane.txn t phase answer (mark lane.state))) time_is
-      ∙ ap (λ (o : Option (Lane T)). with_event v.log (entry_of v.number p (txn_of o) (when (last_of o)) phase answer (mark (state_of o)))) (sym leg_is)
+      ap (λ (t : ℕ). with_event v.log (hop_entry v.number p lane.txn t phase answer (mark lane.state))) time_is
+      ∙ ap (λ (o : Option (Lane T)). with_event v.log (hop_entry v.number p (txn_of o) (when (last_of o)) phase answer (mark (state_of o)))) (sym leg_is)
 
   known : (v : HopView T) (leg : Slip) (lane : Lane T) → lane_of v leg ≡ Some lane → knows v leg ≡ true
   known v leg lane is = found_any (has_leg leg.name) v.lanes lane is

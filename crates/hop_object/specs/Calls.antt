@@ -19,7 +19,7 @@ use Rattle.hop_object.specs.declared.call.Responded.TheVariants as Answers
 use Rattle.hop_object.specs.States.{state_by}
 use Rattle.hop_object.specs.View.{HopView}
 use Rattle.hop_object.specs.Lanes.{any_responding, has_leg, requester, responder, step_lane, waits, IsFirst}
-use Rattle.hop_object.specs.Hops.{begin_answer, begin_entry, called, can_begin, entered, entry_of, leg_at, leg_changed, leg_out, passed, with_lanes}
+use Rattle.hop_object.specs.Hops.{begin_answer, begin_entry, called, can_begin, entered, hop_entry, leg_at, leg_changed, leg_out, passed, with_lanes}
 
 module _ {T : Type 0} where
   -- what BEGIN_REQ leaves and answers, by its answer
@@ -29,8 +29,8 @@ module _ {T : Type 0} where
   begun_as v e item (Updated BeginResp) = (entered v e (Updated BeginResp) Responding None (leg_out v.book e.position Responding), Now (Updated BeginResp) e.time (Some (leg_at v.book e.position Responding)) item)
   begun_as v e item (Updated phase) = (entered v e (Updated phase) Waiting (Some item) v.book, Left (Updated phase) e.time)
 
-  abbrev pub begun : HopView T → ℕ → TxnId → ℕ → T → HopView T × Begun T
-  begun v position txn at item = begun_as v (begin_entry v position txn at (begin_answer v)) item (begin_answer v)
+  abbrev pub after_begin : HopView T → ℕ → TxnId → ℕ → T → HopView T × Begun T
+  after_begin v position txn at item = begun_as v (begin_entry v position txn at (begin_answer v)) item (begin_answer v)
 
   -- what it answers where it isn't taken
   abbrev pub refused : HopView T → T → Begun T
@@ -38,7 +38,7 @@ module _ {T : Type 0} where
 
   -- BEGIN_REQ
   pub record AnswersRequest (v : HopView T) (position : ℕ) (txn : TxnId) (at : ℕ) (item : T) (w : HopView T) (answer : Begun T) : Type 0 where
-    pub taken : can_begin v ≡ true → (w, answer) ≡ begun v position txn at item
+    pub taken : can_begin v ≡ true → (w, answer) ≡ after_begin v position txn at item
     pub busy : can_begin v ≡ false → (w ≡ v) × (answer ≡ refused v item)
 
   -- END_REQ by this leg, at this time
@@ -49,7 +49,7 @@ module _ {T : Type 0} where
     pub here : v.lanes ≡ before ++ lane ∷ behind
     pub leg_is : find (has_leg leg.name) v.lanes ≡ Some lane
     pub time_is : time ≡ max at lane.last
-    pub after : w ≡ called v (before ++ step_lane lane Waiting time position None ∷ behind) (entry_of v.number position lane.txn time EndReq Accepted 0) Requested EndReq Accepted (leg_changed v.book leg lane Waiting)
+    pub after : w ≡ called v (before ++ step_lane lane Waiting time position None ∷ behind) (hop_entry v.number position lane.txn time EndReq Accepted 0) Requested EndReq Accepted (leg_changed v.book leg lane Waiting)
     pub next_is : next ≡ leg_at v.book lane.position Waiting
 
   -- BEGIN_RESP by this leg, at this time, where no response is open
@@ -61,7 +61,7 @@ module _ {T : Type 0} where
     pub here : v.lanes ≡ before ++ lane ∷ behind
     pub leg_is : find (has_leg leg.name) v.lanes ≡ Some lane
     pub time_is : time ≡ max (max at lane.last) v.response_end
-    pub after : w ≡ called v (before ++ step_lane lane (state_by (response_answer v.traits.resp)) time position (Some item) ∷ behind) (entry_of v.number position lane.txn time BeginResp (response_answer v.traits.resp) (mark_of lane.state)) lane.state BeginResp (response_answer v.traits.resp) (retired v.book leg)
+    pub after : w ≡ called v (before ++ step_lane lane (state_by (response_answer v.traits.resp)) time position (Some item) ∷ behind) (hop_entry v.number position lane.txn time BeginResp (response_answer v.traits.resp) (mark_of lane.state)) lane.state BeginResp (response_answer v.traits.resp) (retired v.book leg)
     pub answer_is : answer ≡ Answers.Sent (response_answer v.traits.resp) time
 
   -- BEGIN_RESP where one is open
@@ -84,7 +84,7 @@ module _ {T : Type 0} where
     pub here : v.lanes ≡ before ++ lane ∷ behind
     pub leg_is : find (has_leg leg.name) v.lanes ≡ Some lane
     pub time_is : time ≡ max at lane.last
-    pub after : w ≡ called v (before ++ behind) (entry_of v.number position lane.txn time EndResp Completed 0) Responding EndResp Completed (retired v.book leg)
+    pub after : w ≡ called v (before ++ behind) (hop_entry v.number position lane.txn time EndResp Completed 0) Responding EndResp Completed (retired v.book leg)
 
   -- the item of the lane at a place was fetched, and its leg handed out
   pub record HandsOut (v : HopView T) (i : ℕ) (w : HopView T) (leg : Slip) (state : LaneState) (txn : TxnId) (time : ℕ) (item : T) : Type 0 where

@@ -19,15 +19,15 @@ use Rattle.hop_object.specs.declared.lane.Lane.{Lane}
 use Rattle.hop_object.specs.declared.lane.Side.TheVariants.{Up}
 use Rattle.hop_object.specs.States.{number_of_state}
 use Rattle.hop_object.specs.View.{HopView}
-use Rattle.hop_object.specs.Lanes.{any_requested, any_responding, legs_out, name_at, opens, waits, IsPlaced}
+use Rattle.hop_object.specs.Lanes.{any_requested, any_responding, legs_out, name_at, opens, waits, HasPosition}
 
 -- what the entry of a call says, with its mark
 abbrev pub call_content : TxnId → ℕ → Phase → TlmSync → ℕ → Content
 call_content txn time phase answer mark = record { txn = txn; time = time; what = Call phase answer; number = mark }
 
 -- the entry of a call on the hop of this number, with its mark
-abbrev pub entry_of : ℕ → ℕ → TxnId → ℕ → Phase → TlmSync → ℕ → Event
-entry_of number position txn time phase answer mark = event_of (logged (Hop number) (wrote position (call_content txn time phase answer mark))) mark
+abbrev pub hop_entry : ℕ → ℕ → TxnId → ℕ → Phase → TlmSync → ℕ → Event
+hop_entry number position txn time phase answer mark = event_of (logged (Hop number) (wrote position (call_content txn time phase answer mark))) mark
 
 -- the leg of a lane, and the book that it is then out of
 abbrev pub leg_at : Account → ℕ → LaneState → Slip
@@ -70,7 +70,7 @@ module _ {T : Type 0} where
   pub record Kept (v : HopView T) : Type 0 where
     pub few : length v.lanes ≤ v.traits.lanes
     pub small : v.traits.lanes ≤ 16
-    pub placed : All IsPlaced v.lanes
+    pub placed : All HasPosition v.lanes
     pub legs : (n : ℕ) → out_of n v.book.out ≡ legs_out n v.lanes
     pub follows : Follows v
 
@@ -91,7 +91,7 @@ module _ {T : Type 0} where
   begin_time v at = max at v.request_end
 
   abbrev pub begin_entry : HopView T → ℕ → TxnId → ℕ → TlmSync → Event
-  begin_entry v position txn at answer = entry_of v.number position txn (begin_time v at) BeginReq answer 0
+  begin_entry v position txn at answer = hop_entry v.number position txn (begin_time v at) BeginReq answer 0
 
   -- a new lane of the transaction of an entry
   abbrev pub new_lane : Event → LaneState → Option T → Lane T

@@ -57,8 +57,8 @@ module _ {T : Type 0} where
   opens (l ∷ ls) = open_by l l.state ++ opens ls
 
   -- a position of the history
-  abbrev pub IsPlaced : Lane T → Type 0
-  IsPlaced l = l.position < 1000000
+  abbrev pub HasPosition : Lane T → Type 0
+  HasPosition l = l.position < 1000000
 
   -- the lane after a call or a fetch
   abbrev pub step_lane : Lane T → LaneState → ℕ → ℕ → Option T → Lane T

@@ -2,7 +2,7 @@
 ghost use Rattle.std.specs.Prelude.{◌≡◌, ◌+◌, ◌<◌, ◌≤◌, [], ◌∷◌, ◌++◌, true, false, None, Some, find, length, position, slice_index_or, take, vec_len};
 ghost use Rattle.std.specs.Vec.{vec_capacity};
 ghost use Rattle.std.specs.List.{All, HoldsAt, list_all, list_any};
-ghost use Rattle.hop_object.specs.Lanes.{any_requested, any_responding, has_leg, is_ended, legs_out, requester, responder, waits, ChangedAt, FindsFirst, IsPlaced, NotAfter, RemovedAt};
+ghost use Rattle.hop_object.specs.Lanes.{any_requested, any_responding, has_leg, is_ended, legs_out, requester, responder, waits, ChangedAt, FindsFirst, HasPosition, NotAfter, RemovedAt};
 
 use crate::answer::{down, number_of, requested, responding};
 use base_phases::LaneState;
@@ -31,7 +31,7 @@ pub struct Lane<T> {
 
 impl<T> Lane<T> {
     fn has_leg(&self, name: u32) -> bool
-        requires { IsPlaced self.now }
+        requires { HasPosition self.now }
         ensures { result ≡ has_leg name self.now }
     {
         self.item.is_none() && 4 * self.position as u32 + number_of(self.state) == name
@@ -132,14 +132,14 @@ pub(crate) fn all_ended<T>(lanes: &[Lane<T>], txn: TxnId) -> bool
 }
 
 pub(crate) fn any_leg<T>(lanes: &[Lane<T>], name: u32) -> bool
-    requires { All IsPlaced lanes.now }
+    requires { All HasPosition lanes.now }
     ensures { result ≡ list_any (has_leg name) lanes.now }
 {
     lanes.iter().any(|lane| lane.has_leg(name))
 }
 
 fn find_leg<T>(lanes: &[Lane<T>], name: u32) -> Option<usize>
-    requires { All IsPlaced lanes.now }
+    requires { All HasPosition lanes.now }
     ensures { result ≡ position (has_leg name) lanes.now }
 {
     lanes.iter().position(|lane| lane.has_leg(name))
@@ -147,7 +147,7 @@ fn find_leg<T>(lanes: &[Lane<T>], name: u32) -> Option<usize>
 
 // The place of the lane whose leg has this name.
 pub(crate) fn lane_of<T>(lanes: &[Lane<T>], name: u32) -> usize
-    requires placed { All IsPlaced lanes.now }
+    requires placed { All HasPosition lanes.now }
     requires out { 1 ≤ legs_out name lanes.now }
     ensures place { result < length lanes.now }
     ensures leg { HoldsAt (λ l. has_leg name l ≡ true) lanes.now result }

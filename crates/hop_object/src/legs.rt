@@ -3,7 +3,7 @@ ghost use Rattle.std.specs.Prelude.{◌≡◌, ℕ, ◌+◌, ◌*◌, ◌<◌, �
 ghost use Rattle.std.specs.List.{All, HoldsAt};
 ghost use Rattle.token_book.specs.Account.{issued, out_of, retired, slip};
 ghost use Rattle.hop_object.specs.States.{number_of_state};
-ghost use Rattle.hop_object.specs.Lanes.{has_leg, legs_out, name_at, IsPlaced};
+ghost use Rattle.hop_object.specs.Lanes.{has_leg, legs_out, name_at, HasPosition};
 
 use crate::answer::number_of;
 use crate::call::Leg;
@@ -15,7 +15,7 @@ use token_book::{Book, Tokens};
 pub(crate) fn redeem<T>(tokens: &Tokens, book: &mut Book, lanes: &[Lane<T>], leg: Leg) -> usize
     requires tokens { book.old.table ≡ tokens.now }
     requires leg { (leg.table ≡ tokens.now) × (leg.owner ≡ book.old.owner) }
-    requires placed { All IsPlaced lanes.now }
+    requires placed { All HasPosition lanes.now }
     requires legs { (n : ℕ) → out_of n book.old.out ≡ legs_out n lanes.now }
     ensures book { book.new ≡ retired book.old leg }
     ensures one { leg.amount ≡ 1 }

@@ -16,11 +16,11 @@ use Rattle.tlm_model.proofs.EachLemmas.{append_nil}
 use Rattle.quantum_keeper.specs.Keeper.{current_time}
 use Rattle.script_engine.specs.declared.op.Op.TheVariants as next
 use Rattle.script_engine.specs.Laws.{BeginsAtTheStart, EndsWithNothingLeft}
-use Rattle.script_engine.specs.State.{begun as begun_engine, op_of, payload_of}
+use Rattle.script_engine.specs.State.{begun_engine, op_of, payload_of}
 use Rattle.script_engine.specs.Asking.{requests_at, syncs_at}
 use Rattle.initiator_run.specs.Come.{HasCome, has_ended, rounds_at}
 use Rattle.initiator_run.specs.Served.{IsServed}
-use Rattle.initiator_run.specs.Run.{Run, begun, refused_item, request_for, IsAccessOp, address_of}
+use Rattle.initiator_run.specs.Run.{Run, fresh_run, refused_item, request_for, IsAccessOp, address_of}
 use Rattle.initiator_run.proofs.ComeLemmas.{HasMade-other}
 use Rattle.initiator_run.proofs.NextLemmas.{request_is_first, seq_of_request}
 use Rattle.initiator_run.proofs.AccessLemmas.{request_address}
@@ -139,7 +139,7 @@ HasCome-open p i h r route is leads come =
     ∙ one_unsettled p i h come.made first.more q (request_is_open p i h r route is leads come)
 
 -- a run that has not begun
-pub HasCome-begun : (begins : BeginsAtTheStart) (p : Platform) (i : Initiator) (room : ℕ) → syncs_from p i 0 0 i.script < 2 ^ 64 → numbers_in i.script ≤ room → AllByRecursion IsServed i.script → HasCome p i [] (begun i.number i.script p.quantum room)
+pub HasCome-begun : (begins : BeginsAtTheStart) (p : Platform) (i : Initiator) (room : ℕ) → syncs_from p i 0 0 i.script < 2 ^ 64 → numbers_in i.script ≤ room → AllByRecursion IsServed i.script → HasCome p i [] (fresh_run i.number i.script p.quantum room)
 HasCome-begun begins p i room few roomy served = record {
   stage = 0;
   made = [];

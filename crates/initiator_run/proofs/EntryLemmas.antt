@@ -27,9 +27,9 @@ use Rattle.script_engine.specs.declared.op.Op.TheVariants as next
 use Rattle.script_engine.specs.State.{op_of, is_fenced, payload_of}
 use Rattle.script_engine.specs.Asking.{IsAnswered, requests_at}
 use Rattle.quantum_keeper.specs.Keeper.{current_time}
-use Rattle.initiator_run.specs.Access.{IsRouteOf, bytes_back, entry_made, place_of, time_at}
+use Rattle.initiator_run.specs.Access.{IsRouteOf, bytes_back, entry_made, model_route, time_at}
 use Rattle.initiator_run.specs.Come.{HasCome}
-use Rattle.initiator_run.specs.Entry.{IsAccess, access_at, answered_by, entry_of, way_of}
+use Rattle.initiator_run.specs.Entry.{IsAccess, access_at, answered_by, request_entry, way_of}
 use Rattle.initiator_run.specs.Run.{Run, IsAccessOp, accessed, address_of, request_for}
 use Rattle.initiator_run.proofs.AccessLemmas.{HasCome-answered, request_address}
 use Rattle.initiator_run.proofs.NextLemmas.{request_is_first, seq_of_request, numbers_at}
@@ -38,7 +38,7 @@ use Rattle.initiator_run.proofs.RunLemmas.{laws}
 use Rattle.initiator_run.proofs.StepLemmas.{HasDecoupledTimes-push, IsNext, KeepsRequests-push, RunsScripts-push}
 
 -- the stage of a request doesn't show in its entry
-same_stage : (p : Platform) (i : Initiator) (op : Op) (payload : PayloadView) (t g : ℕ) (route : RouteOfModel) (m : MemoryTraits) (bytes : List ℕ) (position : ℕ) → entry_of p i (request_for op payload t 0) route m bytes position ≡ entry_of p i (request_for op payload t g) route m bytes position
+same_stage : (p : Platform) (i : Initiator) (op : Op) (payload : PayloadView) (t g : ℕ) (route : RouteOfModel) (m : MemoryTraits) (bytes : List ℕ) (position : ℕ) → request_entry p i (request_for op payload t 0) route m bytes position ≡ request_entry p i (request_for op payload t g) route m bytes position
 same_stage p i (next.Access s a n command plain fenced) payload t g route m bytes position = refl
 same_stage p i op payload t g route m bytes position = refl
 
@@ -63,16 +63,16 @@ entry_with position number initiator seq time asked route m bytes = record {
 
 -- the entry that a turn makes is that of the request
 pub entry_is : (p : Plan) (i : Initiator) (r : Run) (m : LoggedMemory) (route : Route) (position g : ℕ) → IsAccessOp (op_of r.engine) → IsRouteOf p i (address_of (op_of r.engine)) route → m.number ≡ route.memory → r.engine.initiator ≡ i.number
-    → entry_made r m route position ≡ entry_of p.platform i (request_for (op_of r.engine) (payload_of r.engine 4096) (current_time r.keeper) g) (place_of route) m.traits (log_bytes m.traits m.log.entries) position
+    → entry_made r m route position ≡ request_entry p.platform i (request_for (op_of r.engine) (payload_of r.engine 4096) (current_time r.keeper) g) (model_route route) m.traits (log_bytes m.traits m.log.entries) position
 entry_is p i r m route position g is leads number mine =
     let t = current_time r.keeper in
     let bytes = log_bytes m.traits m.log.entries in
     let q : Request = request_for (op_of r.engine) (payload_of r.engine 4096) t 0 in
-    ap (λ (x : ℕ). entry_with position x r.engine.initiator r.engine.seq (time_at (op_of r.engine) t route.before) q.asked (place_of route) m.traits bytes) number
-    ∙ (ap (λ (x : ℕ). entry_with position route.memory x r.engine.seq (time_at (op_of r.engine) t route.before) q.asked (place_of route) m.traits bytes) mine
-    ∙ (ap (λ (x : ℕ). entry_with position route.memory i.number x (time_at (op_of r.engine) t route.before) q.asked (place_of route) m.traits bytes) (sym (seq_of_request t 0 4096 r.engine is))
-    ∙ (ap (λ (x : ℕ). entry_with position route.memory i.number q.seq x q.asked (place_of route) m.traits bytes) (same_time p.platform i (op_of r.engine) (payload_of r.engine 4096) t route.before leads.before is)
-    ∙ same_stage p.platform i (op_of r.engine) (payload_of r.engine 4096) t g (place_of route) m.traits bytes position)))
+    ap (λ (x : ℕ). entry_with position x r.engine.initiator r.engine.seq (time_at (op_of r.engine) t route.before) q.asked (model_route route) m.traits bytes) number
+    ∙ (ap (λ (x : ℕ). entry_with position route.memory x r.engine.seq (time_at (op_of r.engine) t route.before) q.asked (model_route route) m.traits bytes) mine
+    ∙ (ap (λ (x : ℕ). entry_with position route.memory i.number x (time_at (op_of r.engine) t route.before) q.asked (model_route route) m.traits bytes) (sym (seq_of_request t 0 4096 r.engine is))
+    ∙ (ap (λ (x : ℕ). entry_with position route.memory i.number q.seq x q.asked (model_route route) m.traits bytes) (same_time p.platform i (op_of r.engine) (payload_of r.engine 4096) t route.before leads.before is)
+    ∙ same_stage p.platform i (op_of r.engine) (payload_of r.engine 4096) t g (model_route route) m.traits bytes position)))
 
 -- the bytes of a memory are those of the store
 pub bytes_are : (p : Plan) (h log : List Entry) (k : ℕ) (row : MemoryRow) (traits : MemoryTraits) → slice_get p.platform.memories k ≡ Some row → traits ≡ row.traits → log ≡ entries_at (memory_object k) h → log_bytes traits log ≡ last_store p.platform h k
@@ -96,7 +96,7 @@ request_made r stage = request_for (op_of r.engine) (payload_of r.engine 4096) (
 
 record HasNext (p : Plan) (i : Initiator) (h : List Entry) (r : Run) (stage : ℕ) (made : List Request) (route : Route) : Type 0 where
   pub more : List Request
-  pub next : IsNext p i h made more (λ m. requests_at p.platform i m (current_time r.keeper) stage r.engine) (request_made r stage) (place_of route)
+  pub next : IsNext p i h made more (λ m. requests_at p.platform i m (current_time r.keeper) stage r.engine) (request_made r stage) (model_route route)
 
 has_next : (p : Plan) (i : Initiator) (h : List Entry) (r : Run) (route : Route) → slice_get (initiators_of p) i.number ≡ Some i → i.row.style ≡ blocking_style → (come : HasCome p.platform i h r) → IsAccessOp (op_of r.engine) → IsRouteOf p i (address_of (op_of r.engine)) route → HasNext p i h r come.stage come.made route
 has_next p i h r route mine blocking come is leads =
@@ -129,10 +129,10 @@ pub goes_on_with : (p : Plan) (i : Initiator) (h : List Entry) (r : Run) (m : Lo
 goes_on_with p i h r m route position mine blocking come is leads number =
     let has = has_next p i h r route mine blocking come is leads in
     let bytes = log_bytes m.traits m.log.entries in
-    let same : entry_made r m route position ≡ entry_of p.platform i (request_made r come.stage) (place_of route) m.traits bytes position = entry_is p i r m route position come.stage is leads number come.counted.number in
+    let same : entry_made r m route position ≡ request_entry p.platform i (request_made r come.stage) (model_route route) m.traits bytes position = entry_is p i r m route position come.stage is leads number come.counted.number in
     subst (GoesOnWith p h) (sym same) (record {
-      scripts = RunsScripts-push p i h come.made has.more _ (request_made r come.stage) (place_of route) has.next m.traits bytes position;
-      times = HasDecoupledTimes-push p i h come.made has.more _ (request_made r come.stage) (place_of route) has.next m.traits bytes position;
+      scripts = RunsScripts-push p i h come.made has.more _ (request_made r come.stage) (model_route route) has.next m.traits bytes position;
+      times = HasDecoupledTimes-push p i h come.made has.more _ (request_made r come.stage) (model_route route) has.next m.traits bytes position;
     })
 
 -- a history with a turn's entry has the points of requests
@@ -141,23 +141,23 @@ KeepsRequests-turn p i h r m route position kept mine blocking come is leads at 
     let q : Request = request_made r come.stage in
     let has = has_next p i h r route mine blocking come is leads in
     let bytes = log_bytes m.traits m.log.entries in
-    let pushed : KeepsRequests p (h ++ entry_of p.platform i q (place_of route) at.row.traits bytes (length h) ∷ []) =
-    KeepsRequests-push p i h come.made has.more _ q (place_of route) at.row bytes kept has.next at.memory
+    let pushed : KeepsRequests p (h ++ request_entry p.platform i q (model_route route) at.row.traits bytes (length h) ∷ []) =
+    KeepsRequests-push p i h come.made has.more _ q (model_route route) at.row bytes kept has.next at.memory
     (bytes_are p h m.log.entries route.memory at.row m.traits at.memory at.traits at.log) in
-    let same : entry_made r m route position ≡ entry_of p.platform i q (place_of route) at.row.traits bytes (length h) =
+    let same : entry_made r m route position ≡ request_entry p.platform i q (model_route route) at.row.traits bytes (length h) =
     entry_is p i r m route position come.stage is leads at.number come.counted.number
-    ∙ (ap (λ (x : MemoryTraits). entry_of p.platform i q (place_of route) x bytes position) at.traits ∙ ap (λ (x : ℕ). entry_of p.platform i q (place_of route) at.row.traits bytes x) counted) in
+    ∙ (ap (λ (x : MemoryTraits). request_entry p.platform i q (model_route route) x bytes position) at.traits ∙ ap (λ (x : ℕ). request_entry p.platform i q (model_route route) at.row.traits bytes x) counted) in
     subst (λ (e : Entry). KeepsRequests p (h ++ e ∷ [])) (sym same) pushed
 
 -- the run after its turn
 pub HasCome-turn : (p : Plan) (i : Initiator) (h : List Entry) (r : Run) (m : LoggedMemory) (route : Route) (position : ℕ) (got : List ℕ) → HasCome p.platform i h r → IsAccessOp (op_of r.engine) → IsRouteOf p i (address_of (op_of r.engine)) route → m.number ≡ route.memory
     → (is_fenced (op_of r.engine) ≡ true → got ≡ bytes_back r m route) → HasCome p.platform i (h ++ entry_made r m route position ∷ []) (accessed (op_of r.engine) route.latency got r)
 HasCome-turn p i h r m route position got come is leads number told =
-    HasCome-answered laws p.platform i h (entry_made r m route position) r route.latency 4096 got (place_of route) is leads.latency leads.leads come.counted.number refl refl
+    HasCome-answered laws p.platform i h (entry_made r m route position) r route.latency 4096 got (model_route route) is leads.latency leads.leads come.counted.number refl refl
     (λ rest fresh fenced.
     subst (λ (e : Entry). IsAnswered p.platform i (h ++ (e ∷ rest)) (op_of r.engine) got) (sym (entry_is p i r m route position 0 is leads number come.counted.number))
-    (subst (λ (b : List ℕ). IsAnswered p.platform i (h ++ (entry_of p.platform i (request_for (op_of r.engine) (payload_of r.engine 4096) (current_time r.keeper) 0) (place_of route) m.traits (log_bytes m.traits m.log.entries) position ∷ rest)) (op_of r.engine) b) (sym (told fenced))
-    (routed_answers p.platform i h rest (current_time r.keeper) 0 4096 position r.engine (place_of route) m.traits (log_bytes m.traits m.log.entries) is leads.leads fresh fenced)))
+    (subst (λ (b : List ℕ). IsAnswered p.platform i (h ++ (request_entry p.platform i (request_for (op_of r.engine) (payload_of r.engine 4096) (current_time r.keeper) 0) (model_route route) m.traits (log_bytes m.traits m.log.entries) position ∷ rest)) (op_of r.engine) b) (sym (told fenced))
+    (routed_answers p.platform i h rest (current_time r.keeper) 0 4096 position r.engine (model_route route) m.traits (log_bytes m.traits m.log.entries) is leads.leads fresh fenced)))
     come
 
 pub entries_at-push : (o : ObjectNo) (h : List Entry) (e : Entry) → entries_at o (h ++ e ∷ []) ≡ entries_at o h ++ cond (is_object o e.object) (e ∷ []) []

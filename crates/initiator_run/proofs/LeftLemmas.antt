@@ -11,10 +11,10 @@ use Rattle.tlm_model.specs.Route.{Route, route_of}
 use Rattle.script_engine.specs.State.{Due, State, op_at, op_of, is_fenced, length_of, passed_over, passed_by, payload_at, payload_of, told_by, told_at, told_first}
 use Rattle.route_plan.specs.Paths.{once}
 use Rattle.route_plan.specs.Planned.{leads_to}
-use Rattle.initiator_run.specs.Left.{asked_by, asks_left, asked_in, asked_due, bytes_at, bytes_left, leads, logged_due, logged_in, total_left}
+use Rattle.initiator_run.specs.Left.{entries_asked, asks_left, asked_in, asked_due, bytes_at, bytes_left, leads, logged_due, logged_in, total_left}
 use Rattle.initiator_run.specs.Run.{Run, IsAccessOp, IsQuiet, address_of, engine_after}
 
-quiet_left : (p : Plan) (i : Initiator) (m s : ℕ) (op : Operation) (ops : List Operation) → IsQuiet (op_at s None (op ∷ ops)) → asked_by p i m op ≡ 0
+quiet_left : (p : Plan) (i : Initiator) (m s : ℕ) (op : Operation) (ops : List Operation) → IsQuiet (op_at s None (op ∷ ops)) → entries_asked p i m op ≡ 0
 quiet_left p i m s (Wait n) ops quiet = refl
 quiet_left p i m s Sync ops quiet = refl
 quiet_left p i m s Fence ops quiet = refl

@@ -22,7 +22,7 @@ use Rattle.generic_payload.specs.Payload.{PayloadView}
 use Rattle.generic_payload.proofs.Moves.{length-taken_from}
 use Rattle.script_engine.specs.State.{Due, State, op_at, op_of, is_fenced, payload_at, payload_of}
 use Rattle.script_engine.specs.Asking.{IsReadBack, IsAnswered, asked_access}
-use Rattle.initiator_run.specs.Entry.{answered_by, entry_of, got_for, back}
+use Rattle.initiator_run.specs.Entry.{answered_by, request_entry, got_for, back}
 use Rattle.initiator_run.specs.Run.{IsAccessOp, address_of, refused_item, refused_op, request_for}
 use Rattle.initiator_run.proofs.AnswerLemmas.{answered-fresh}
 
@@ -95,22 +95,22 @@ routed_read p i h m s a n t g position payload route traits store reads size lea
 
 routed_at : (p : Platform) (i : Initiator) (h m : List Entry) (s t g room position : ℕ) (due : Option Due) (ops : List Operation) (route : Route) (traits : MemoryTraits) (store : List ℕ)
     → IsAccessOp (op_at s due ops) → route_of p i (address_of (op_at s due ops)) ≡ Some route → has_answer i.number s h ≡ false → is_fenced (op_at s due ops) ≡ true
-    → IsAnswered p i (h ++ (entry_of p i (request_for (op_at s due ops) (payload_at room due ops) t g) route traits store position ∷ m)) (op_at s due ops)
+    → IsAnswered p i (h ++ (request_entry p i (request_for (op_at s due ops) (payload_at room due ops) t g) route traits store position ∷ m)) (op_at s due ops)
     (back (payload_at room due ops).command (payload_at room due ops).bytes (got_for traits store (request_for (op_at s due ops) (payload_at room due ops) t g).asked route))
 routed_at p i h m s t g room position (Some w) ops route traits store is leads fresh fenced = tt
 routed_at p i h m s t g room position None [] route traits store is leads fresh fenced = tt
 routed_at p i h m s t g room position None (Read a n enables width ∷ ops) route traits store is leads fresh fenced =
-    routed_read p i h m s a n t g position (payload_at room None (Read a n enables width ∷ ops)) route traits store refl (length-replicate n 0) leads fresh (entry_of p i (request_for (op_at s None (Read a n enables width ∷ ops)) (payload_at room None (Read a n enables width ∷ ops)) t g) route traits store position) refl refl
+    routed_read p i h m s a n t g position (payload_at room None (Read a n enables width ∷ ops)) route traits store refl (length-replicate n 0) leads fresh (request_entry p i (request_for (op_at s None (Read a n enables width ∷ ops)) (payload_at room None (Read a n enables width ∷ ops)) t g) route traits store position) refl refl
 routed_at p i h m s t g room position None (Copy from to n ∷ ops) route traits store is leads fresh fenced =
-    routed_read p i h m s from n t g position (payload_at room None (Copy from to n ∷ ops)) route traits store refl (length-replicate n 0) leads fresh (entry_of p i (request_for (op_at s None (Copy from to n ∷ ops)) (payload_at room None (Copy from to n ∷ ops)) t g) route traits store position) refl refl
+    routed_read p i h m s from n t g position (payload_at room None (Copy from to n ∷ ops)) route traits store refl (length-replicate n 0) leads fresh (request_entry p i (request_for (op_at s None (Copy from to n ∷ ops)) (payload_at room None (Copy from to n ∷ ops)) t g) route traits store position) refl refl
 routed_at p i h m s t g room position None (Add a n ∷ ops) route traits store is leads fresh fenced =
-    routed_read p i h m s a 4 t g position (payload_at room None (Add a n ∷ ops)) route traits store refl refl leads fresh (entry_of p i (request_for (op_at s None (Add a n ∷ ops)) (payload_at room None (Add a n ∷ ops)) t g) route traits store position) refl refl
+    routed_read p i h m s a 4 t g position (payload_at room None (Add a n ∷ ops)) route traits store refl refl leads fresh (request_entry p i (request_for (op_at s None (Add a n ∷ ops)) (payload_at room None (Add a n ∷ ops)) t g) route traits store position) refl refl
 routed_at p i h m s t g room position None (op ∷ ops) route traits store is leads fresh fenced = tt
 
 -- the history with its entry answers an access that the engine waits for, as its payload comes back
 pub routed_answers : (p : Platform) (i : Initiator) (h m : List Entry) (t g room position : ℕ) (e : State) (route : Route) (traits : MemoryTraits) (store : List ℕ)
     → IsAccessOp (op_of e) → route_of p i (address_of (op_of e)) ≡ Some route → has_answer i.number e.seq h ≡ false → is_fenced (op_of e) ≡ true
-    → IsAnswered p i (h ++ (entry_of p i (request_for (op_of e) (payload_of e room) t g) route traits store position ∷ m)) (op_of e)
+    → IsAnswered p i (h ++ (request_entry p i (request_for (op_of e) (payload_of e room) t g) route traits store position ∷ m)) (op_of e)
     (back (payload_of e room).command (payload_of e room).bytes (got_for traits store (request_for (op_of e) (payload_of e room) t g).asked route))
 routed_answers p i h m t g room position e route traits store is leads fresh fenced =
     routed_at p i h m e.seq t g room position e.due e.remaining route traits store is leads fresh fenced

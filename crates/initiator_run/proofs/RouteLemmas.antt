@@ -10,11 +10,11 @@ use Rattle.tlm_model.specs.declared.platform.Target.TheVariants.{Router as Route
 use Rattle.route_plan.specs.declared.step.Route.{Route}
 use Rattle.route_plan.specs.Plans.{walk_at, walk_by}
 use Rattle.route_plan.specs.Routes.{route_by, route_seen}
-use Rattle.initiator_run.specs.Access.{IsRouteOf, place_of}
+use Rattle.initiator_run.specs.Access.{IsRouteOf, model_route}
 
 -- where a walk ends, it has this route
 record IsEndOfWalk (before latency : ℕ) (end : Option RouteOfModel) (route : Route) : Type 0 where
-  pub leads : end ≡ Some (place_of route)
+  pub leads : end ≡ Some (model_route route)
   pub before_is : route.before ≡ before
   pub latency_is : route.latency ≡ latency
 
@@ -23,7 +23,7 @@ end_seen before latency None route seen = cc
 end_seen before latency (Some r) route seen =
     let same : record { memory = r.memory; offset = r.offset; before = before; latency = latency } ≡ route = cc in
     record {
-      leads = ap (λ (x : Route). Some (place_of x)) same;
+      leads = ap (λ (x : Route). Some (model_route x)) same;
       before_is = ap (λ (x : Route). x.before) (sym same);
       latency_is = ap (λ (x : Route). x.latency) (sym same);
     }

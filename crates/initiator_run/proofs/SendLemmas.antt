@@ -13,14 +13,14 @@ use Rattle.tlm_model.specs.Store.{zeros, status_of}
 use Rattle.generic_payload.specs.Payload.{PayloadView}
 use Rattle.region_object.specs.Call.{IsFit}
 use Rattle.region_object.specs.declared.call.RegionCall.{RegionCall}
-use Rattle.region_object.specs.Region.{LoggedMemory, answered, entry_of as entry_of_call}
+use Rattle.region_object.specs.Region.{LoggedMemory, answered, region_entry as entry_of_call}
 use Rattle.route_plan.specs.declared.step.Route.{Route}
 use Rattle.script_engine.specs.declared.op.Op.{Op}
 use Rattle.script_engine.specs.declared.op.Op.TheVariants as next
 use Rattle.script_engine.specs.State.{Due, op_at, op_of, is_fenced, length_of, payload_at, payload_of}
 use Rattle.quantum_keeper.specs.Keeper.{current_time}
 use Rattle.initiator_run.specs.declared.run.NextAccess.{NextAccess}
-use Rattle.initiator_run.specs.Access.{HasLog, call_at, next_call, payload_back, place_of, time_at, entry_made, bytes_back, payload_room}
+use Rattle.initiator_run.specs.Access.{HasLog, call_at, next_call, payload_back, model_route, time_at, entry_made, bytes_back, payload_room}
 use Rattle.initiator_run.specs.Entry.{access_at, answered_by, back, got_for, way_of}
 use Rattle.initiator_run.specs.Run.{Run, IsAccessOp, request_for}
 use Rattle.initiator_run.proofs.ReplyLemmas.{length-got}
@@ -42,7 +42,7 @@ sent_by room due ops offset = record (payload_at room due ops) { address = offse
 -- the bytes of a payload that the engine waits for
 bytes_at : (m : LoggedMemory) (route : Route) (txn : TxnId) (s t g before room : ℕ) (due : Option Due) (ops : List Operation) → is_fenced (op_at s due ops) ≡ true
     → (payload_back m (call_at (op_at s due ops) txn t before (sent_by room due ops route.offset))).bytes
-    ≡ back (payload_at room due ops).command (payload_at room due ops).bytes (got_for m.traits (log_bytes m.traits m.log.entries) (request_for (op_at s due ops) (payload_at room due ops) t g).asked (place_of route))
+    ≡ back (payload_at room due ops).command (payload_at room due ops).bytes (got_for m.traits (log_bytes m.traits m.log.entries) (request_for (op_at s due ops) (payload_at room due ops) t g).asked (model_route route))
 bytes_at m route txn s t g before room (Some w) ops fenced = refl
 bytes_at m route txn s t g before room None [] fenced = cc
 bytes_at m route txn s t g before room None (Copy from to n ∷ ops) fenced = refl
@@ -51,15 +51,15 @@ bytes_at m route txn s t g before room None (op ∷ ops) fenced = cc
 
 -- they are as many as were asked for
 whole_at : (m : LoggedMemory) (route : Route) (s t g room : ℕ) (due : Option Due) (ops : List Operation) → is_fenced (op_at s due ops) ≡ true
-    → length (back (payload_at room due ops).command (payload_at room due ops).bytes (got_for m.traits (log_bytes m.traits m.log.entries) (request_for (op_at s due ops) (payload_at room due ops) t g).asked (place_of route))) ≡ length_of (op_at s due ops)
+    → length (back (payload_at room due ops).command (payload_at room due ops).bytes (got_for m.traits (log_bytes m.traits m.log.entries) (request_for (op_at s due ops) (payload_at room due ops) t g).asked (model_route route))) ≡ length_of (op_at s due ops)
 whole_at m route s t g room (Some w) ops fenced = refl
 whole_at m route s t g room None [] fenced = cc
 whole_at m route s t g room None (Copy from to n ∷ ops) fenced =
     let asked = (request_for (op_at s None (Copy from to n ∷ ops)) (payload_at room None (Copy from to n ∷ ops)) t g).asked in
-    length-got (status_of m.traits (way_of asked) (access_at (place_of route) asked)) read_command (access_at (place_of route) asked) (log_bytes m.traits m.log.entries) refl ∙ length-replicate n 0
+    length-got (status_of m.traits (way_of asked) (access_at (model_route route) asked)) read_command (access_at (model_route route) asked) (log_bytes m.traits m.log.entries) refl ∙ length-replicate n 0
 whole_at m route s t g room None (Add a n ∷ ops) fenced =
     let asked = (request_for (op_at s None (Add a n ∷ ops)) (payload_at room None (Add a n ∷ ops)) t g).asked in
-    length-got (status_of m.traits (way_of asked) (access_at (place_of route) asked)) read_command (access_at (place_of route) asked) (log_bytes m.traits m.log.entries) refl
+    length-got (status_of m.traits (way_of asked) (access_at (model_route route) asked)) read_command (access_at (model_route route) asked) (log_bytes m.traits m.log.entries) refl
 whole_at m route s t g room None (op ∷ ops) fenced = cc
 
 pub bytes_come_back : (r : Run) (m : LoggedMemory) (route : Route) → is_fenced (op_of r.engine) ≡ true → (payload_back m (next_call r route)).bytes ≡ bytes_back r m route
@@ -87,7 +87,7 @@ entry_at : (m : LoggedMemory) (route : Route) (txn : TxnId) (position s t g room
       object = memory_object m.number;
       txn = txn;
       time = time_at (op_at s due ops) t route.before;
-      what = answered_by m.traits (log_bytes m.traits m.log.entries) (way_of (request_for (op_at s due ops) (payload_at room due ops) t g).asked) (access_at (place_of route) (request_for (op_at s due ops) (payload_at room due ops) t g).asked);
+      what = answered_by m.traits (log_bytes m.traits m.log.entries) (way_of (request_for (op_at s due ops) (payload_at room due ops) t g).asked) (access_at (model_route route) (request_for (op_at s due ops) (payload_at room due ops) t g).asked);
     }
 entry_at m route txn position s t g room (Some w) ops is = refl
 entry_at m route txn position s t g room None [] is = absurd is

@@ -27,7 +27,7 @@ use Rattle.tlm_model.specs.Store.{status_of, got_of}
 use Rattle.tlm_model.specs.Times.{HasDecoupledTimes, HasTime, access_time}
 use Rattle.tlm_model.proofs.EachLemmas.{append_nil, AtEach-push}
 use Rattle.tlm_model.proofs.HistoryLemmas.{IsNumberedFrom-push}
-use Rattle.initiator_run.specs.Entry.{IsAccess, way_of, access_at, entry_of}
+use Rattle.initiator_run.specs.Entry.{IsAccess, way_of, access_at, request_entry}
 use Rattle.initiator_run.specs.Come.{HasMade}
 use Rattle.initiator_run.proofs.AnswerLemmas.{and_left, and_right, and_true}
 
@@ -109,9 +109,9 @@ module _ (p : Plan) (i : Initiator) (h : List Entry) (made more : List Request) 
   is_asked = ap (λ (rs : List Request). slice_get rs r.seq) all_asked ∙ slice_get-after made r more r.seq next.number
 
   -- its entry, wherever it stands and whatever is answered, goes on with the scripts
-  pub RunsScripts-push : (traits : MemoryTraits) (bytes : List ℕ) (position : ℕ) → RunsScripts p h → RunsScripts p (h ++ entry_of p.platform i r route traits bytes position ∷ [])
+  pub RunsScripts-push : (traits : MemoryTraits) (bytes : List ℕ) (position : ℕ) → RunsScripts p h → RunsScripts p (h ++ request_entry p.platform i r route traits bytes position ∷ [])
   RunsScripts-push traits bytes position scripts =
-      let e = entry_of p.platform i r route traits bytes position in
+      let e = request_entry p.platform i r route traits bytes position in
       let way = way_of r.asked in
       let status = status_of traits way (access_at route r.asked) in
       let got = got_of way status (access_at route r.asked) bytes in
@@ -124,17 +124,17 @@ module _ (p : Plan) (i : Initiator) (h : List Entry) (made more : List Request) 
       }
 
   -- and has the time of its request
-  pub HasDecoupledTimes-push : (traits : MemoryTraits) (bytes : List ℕ) (position : ℕ) → HasDecoupledTimes p h → HasDecoupledTimes p (h ++ entry_of p.platform i r route traits bytes position ∷ [])
+  pub HasDecoupledTimes-push : (traits : MemoryTraits) (bytes : List ℕ) (position : ℕ) → HasDecoupledTimes p h → HasDecoupledTimes p (h ++ request_entry p.platform i r route traits bytes position ∷ [])
   HasDecoupledTimes-push traits bytes position times =
-      let e = entry_of p.platform i r route traits bytes position in
+      let e = request_entry p.platform i r route traits bytes position in
       AtEach-push _ h e times (of_request p h e _ i r next.mine is_asked (subst (λ (x : Style). HasTime x (access_time p.platform i r (way_of r.asked)) (access_time p.platform i r (way_of r.asked))) (sym next.blocking) refl))
 
 -- Where an initiator's made requests are settled, a history with the entry of its next one has the points of requests.
 pub KeepsRequests-push : (p : Plan) (i : Initiator) (h : List Entry) (made more : List Request) (left : List Entry → List Request) (r : Request) (route : Route) (row : MemoryRow) (bytes : List ℕ)
     → KeepsRequests p h → IsNext p i h made more left r route → slice_get p.platform.memories route.memory ≡ Some row → bytes ≡ last_store p.platform h route.memory
-    → KeepsRequests p (h ++ entry_of p.platform i r route row.traits bytes (length h) ∷ [])
+    → KeepsRequests p (h ++ request_entry p.platform i r route row.traits bytes (length h) ∷ [])
 KeepsRequests-push p i h made more left r route row bytes kept next memory bytes_are =
-    let e = entry_of p.platform i r route row.traits bytes (length h) in
+    let e = request_entry p.platform i r route row.traits bytes (length h) in
     let way = way_of r.asked in
     let access = access_at route r.asked in
     let status = status_of row.traits way access in

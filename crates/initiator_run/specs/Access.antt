@@ -33,12 +33,12 @@ pub record HasLog (old new : LoggedMemory) (entries : List Entry) : Type 0 where
   pub room : new.log.room ≡ old.log.room
   pub all : new.log.entries ≡ entries
 
-abbrev pub place_of : Route → RouteOfModel
-place_of route = record { memory = route.memory; offset = route.offset }
+abbrev pub model_route : Route → RouteOfModel
+model_route route = record { memory = route.memory; offset = route.offset }
 
 -- a route is that of an address of an initiator
 pub record IsRouteOf (p : Plan) (i : Initiator) (address : ℕ) (route : Route) : Type 0 where
-  pub leads : route_of p.platform i address ≡ Some (place_of route)
+  pub leads : route_of p.platform i address ≡ Some (model_route route)
   pub before : route.before ≡ before_of p.platform i address
   pub latency : route.latency ≡ latency_of p.platform i address
 
@@ -71,14 +71,14 @@ entry_made r m route position = record {
   object = memory_object m.number;
   txn = record { initiator = r.engine.initiator; seq = r.engine.seq };
   time = time_at (op_of r.engine) (current_time r.keeper) route.before;
-  what = answered_by m.traits (log_bytes m.traits m.log.entries) (way_of (asked_next r)) (access_at (place_of route) (asked_next r));
+  what = answered_by m.traits (log_bytes m.traits m.log.entries) (way_of (asked_next r)) (access_at (model_route route) (asked_next r));
 }
 
 -- the data bytes with which its payload comes back
 abbrev pub bytes_back : Run → LoggedMemory → Route → List ℕ
 bytes_back r m route =
     back (payload_of r.engine payload_room).command (payload_of r.engine payload_room).bytes
-    (got_for m.traits (log_bytes m.traits m.log.entries) (asked_next r) (place_of route))
+    (got_for m.traits (log_bytes m.traits m.log.entries) (asked_next r) (model_route route))
 
 -- the call that carries what a run asks for next along this route
 abbrev pub next_call : Run → Route → RegionCall

@@ -44,8 +44,8 @@ answered_by m bytes way access = Accessed way access (status_of m way access) (g
 
 -- the entry of a blocking initiator's request at the memory that its address leads to, which has these traits
 -- and bytes
-abbrev pub entry_of : Platform → Initiator → Request → Route → MemoryTraits → List ℕ → ℕ → Entry
-entry_of p i r route m bytes position = record {
+abbrev pub request_entry : Platform → Initiator → Request → Route → MemoryTraits → List ℕ → ℕ → Entry
+request_entry p i r route m bytes position = record {
   position = position;
   object = memory_object route.memory;
   txn = record { initiator = i.number; seq = r.seq };

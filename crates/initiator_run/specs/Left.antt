@@ -12,19 +12,19 @@ use Rattle.initiator_run.specs.Run.{Run}
 abbrev pub leads : Plan → Initiator → ℕ → ℕ → ℕ
 leads p i m a = once (is_routed_to p i m a)
 
-abbrev pub asked_by : Plan → Initiator → ℕ → Operation → ℕ
-asked_by p i m (Write a bytes enables width) = leads p i m a
-asked_by p i m (Read a n enables width) = leads p i m a
-asked_by p i m (Ignore a) = leads p i m a
-asked_by p i m (Debug a n) = leads p i m a
-asked_by p i m (Copy from to n) = leads p i m from + leads p i m to
-asked_by p i m (Add a n) = leads p i m a + leads p i m a
-asked_by p i m (Invalidate a n) = leads p i m a
-asked_by p i m op = 0
+abbrev pub entries_asked : Plan → Initiator → ℕ → Operation → ℕ
+entries_asked p i m (Write a bytes enables width) = leads p i m a
+entries_asked p i m (Read a n enables width) = leads p i m a
+entries_asked p i m (Ignore a) = leads p i m a
+entries_asked p i m (Debug a n) = leads p i m a
+entries_asked p i m (Copy from to n) = leads p i m from + leads p i m to
+entries_asked p i m (Add a n) = leads p i m a + leads p i m a
+entries_asked p i m (Invalidate a n) = leads p i m a
+entries_asked p i m op = 0
 
 abbrev pub asked_in : Plan → Initiator → ℕ → List Operation → ℕ
 asked_in p i m [] = 0
-asked_in p i m (op ∷ ops) = asked_by p i m op + asked_in p i m ops
+asked_in p i m (op ∷ ops) = entries_asked p i m op + asked_in p i m ops
 
 abbrev pub asked_due : Plan → Initiator → ℕ → Option Due → ℕ
 asked_due p i m None = 0

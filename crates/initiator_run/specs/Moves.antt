@@ -34,7 +34,7 @@ pub record HasReached (p : Plan) (r : Run) (route : Route) : Type 0 where
   pub leads : MatchOption (slice_get (initiators_of p) r.engine.initiator) ⊥ (λ i. IsRouteOf p i (address_of (op_of r.engine)) route)
 
 -- a run whose script has ended has finished
-pub record HasEnded (r : Run) : Type 0 where
+pub record HasNoMore (r : Run) : Type 0 where
   pub done : op_of r.engine ≡ next.Done
   pub finished : r.finished ≡ true
 
@@ -42,13 +42,13 @@ pub record HasEnded (r : Run) : Type 0 where
 abbrev pub IsMove : Plan → Run → Run → Move → Type 0
 IsMove p old new Went = (steps_left new.engine < steps_left old.engine) × (new.finished ≡ old.finished)
 IsMove p old new (Reached access) = HasReached p new access.route × (access.op ≡ op_of new.engine) × (new ≡ old)
-IsMove p old new Ended = HasEnded new × (new ≡ record old { finished = true })
+IsMove p old new Ended = HasNoMore new × (new ≡ record old { finished = true })
 
 -- all moves lead to an access with a route, to the end, or to a sync that isn't let through
 abbrev pub Advances : Plan → Run → Run → List Member → Stop → Type 0
 Advances p old new members (stop.Reached access) = HasReached p new access.route × (access.op ≡ op_of new.engine) × (new.finished ≡ old.finished) × (new.round ≡ new.syncs)
 Advances p old new members stop.Waits = IsWaiting members new × (new.finished ≡ old.finished)
-Advances p old new members stop.Ended = HasEnded new × (new.round ≡ new.syncs)
+Advances p old new members stop.Ended = HasNoMore new × (new.round ≡ new.syncs)
 
 -- what a run has come to in a history, the run that follows it has come to as well
 pub record Keeps (p : Plan) (old new : Run) : Type 0 where

@@ -8,10 +8,10 @@ use Rattle.tlm_model.specs.declared.operation.Operation.{Operation}
 use Rattle.tlm_model.specs.Requests.{Transport, DebugRead, Invalidation, Request, debug_of}
 use Rattle.report_model.specs.Ends.{refused_at}
 use Rattle.generic_payload.specs.Payload.{PayloadView}
-use Rattle.quantum_keeper.specs.Keeper.{Keeper, begun as begun_keeper, current_time, needs_sync, stepped, synced}
+use Rattle.quantum_keeper.specs.Keeper.{Keeper, new_keeper as begun_keeper, current_time, needs_sync, stepped, synced}
 use Rattle.script_engine.specs.declared.op.Op.{Op}
 use Rattle.script_engine.specs.declared.op.Op.TheVariants as next
-use Rattle.script_engine.specs.State.{State, begun as begun_engine, op_of, is_fenced, told_by, passed_by}
+use Rattle.script_engine.specs.State.{State, begun_engine, op_of, is_fenced, told_by, passed_by}
 use Rattle.script_engine.specs.Asking.{asked_access, is_sync_op, stage_of}
 
 -- where its script stands, its local time, its syncs, the round that it has been let into, what had no route, and
@@ -25,8 +25,8 @@ pub record Run : Type 0 where
   pub finished : Bool
 
 -- a run that has its script before it, and room for so many refusals
-abbrev pub begun : ℕ → List Operation → ℕ → ℕ → Run
-begun initiator script quantum room = record {
+abbrev pub fresh_run : ℕ → List Operation → ℕ → ℕ → Run
+fresh_run initiator script quantum room = record {
   engine = begun_engine initiator script;
   keeper = begun_keeper quantum;
   syncs = 0;

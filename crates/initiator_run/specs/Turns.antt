@@ -9,7 +9,7 @@ use Rattle.initiator_run.specs.declared.turn.Turn.{Turn}
 use Rattle.initiator_run.specs.declared.turn.Turn.TheVariants.{Made, Waits, Ended, NoMemory}
 use Rattle.initiator_run.specs.Access.{HasLog, bytes_back, entry_made}
 use Rattle.initiator_run.specs.Board.{IsWaiting}
-use Rattle.initiator_run.specs.Moves.{HasEnded, HasReached, Keeps}
+use Rattle.initiator_run.specs.Moves.{HasNoMore, HasReached, Keeps}
 use Rattle.initiator_run.specs.Run.{Run, accessed}
 
 -- one memory has a log with these entries, and is else as before; the others are as before
@@ -52,7 +52,7 @@ pub record HasMoved (p : Plan) (old new : Run) (before after : List LoggedMemory
 -- the run has moved to the end of its script
 pub record HasMovedToEnd (p : Plan) (old new : Run) (before after : List LoggedMemory) : Type 0 where
   pub keeps : Keeps p old new
-  pub ended : HasEnded new
+  pub ended : HasNoMore new
   pub through : new.round ≡ new.syncs
   pub same : after ≡ before
 

@@ -2,7 +2,7 @@
 ghost use Rattle.std.specs.Prelude.{◌≡◌, ◌+◌, ◌*◌, ◌^◌, ◌<◌, ◌≤◌, [], ◌∷◌, ◌++◌, length, IfOk, OnOk, OnErr, IsTrue, ◌↔◌, ◌≢◌, true, false};
 ghost use Rattle.tlm_model.specs.Plan.{Plan as PlanView};
 ghost use Rattle.region_object.specs.Call.{IsFit};
-ghost use Rattle.region_object.specs.Region.{entry_of as entry_of_call};
+ghost use Rattle.region_object.specs.Region.{region_entry as entry_of_call};
 ghost use Rattle.traffic_script.specs.Proper.{AreProper};
 ghost use Rattle.script_engine.specs.State.{is_fenced, length_of, op_of, payload_of};
 ghost use Rattle.quantum_keeper.specs.Keeper.{current_time};
@@ -11,7 +11,7 @@ ghost use Rattle.initiator_run.specs.Access.{HasLog, bytes_back, call_at, entry_
 ghost use Rattle.initiator_run.specs.Board.{HasGoneOn, IsInRound, IsLet, SyncsOnce};
 ghost use Rattle.initiator_run.specs.Moves.{Advances, IsMove, IsUnderWay, Keeps, steps_left};
 ghost use Rattle.initiator_run.specs.Steps.{StepsOnce};
-ghost use Rattle.initiator_run.specs.Run.{IsAccessOp, IsQuiet, accessed, address_of, begun, end_at, engine_after, is_debug, passed, refused_op, with_refusal, with_sync};
+ghost use Rattle.initiator_run.specs.Run.{IsAccessOp, IsQuiet, accessed, address_of, fresh_run, end_at, engine_after, is_debug, passed, refused_op, with_refusal, with_sync};
 
 use generic_payload::Payload;
 use outside::Pace;
@@ -88,7 +88,7 @@ impl InitiatorRun {
         script: Script,
         quantum: Ps,
     ) -> Result<InitiatorRun, Memory>
-        ensures run { IfOk result (λ run. run ≡ begun initiator script quantum (2 * length script)) }
+        ensures run { IfOk result (λ run. run ≡ fresh_run initiator script quantum (2 * length script)) }
         ensures proper { IfOk result (λ _. AreProper script) }
     {
         let room = 2 * script.len() as u32;
@@ -103,7 +103,7 @@ impl InitiatorRun {
         quantum: Ps,
         room: u32,
     ) -> Result<InitiatorRun, Memory>
-        ensures { IfOk result (λ run. run ≡ record (begun 0 [] quantum room) { engine = engine }) }
+        ensures { IfOk result (λ run. run ≡ record (fresh_run 0 [] quantum room) { engine = engine }) }
     {
         let refused = RefusedList::with_room(alloc, room)?;
         Ok(InitiatorRun {

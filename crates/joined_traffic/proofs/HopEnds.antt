@@ -13,7 +13,7 @@ use Rattle.tlm_types.specs.declared.words.TxnId.{TxnId}
 use Rattle.tlm_types.specs.declared.entry.Entry.{Entry}
 use Rattle.tlm_types.specs.declared.entry.What.{What}
 use Rattle.tlm_types.specs.declared.entry.What.TheVariants.{Call as Called}
-use Rattle.base_phases.specs.Sequences.{Call, IsWhole}
+use Rattle.base_phases.specs.Sequences.{Call, IsSequence}
 use Rattle.hop_model.specs.Answers.{request_answer, response_answer}
 use Rattle.hop_model.specs.Calls.{calls_of}
 use Rattle.hop_model.specs.Table.{ending, sequences_of}
@@ -113,7 +113,7 @@ module _ (log : List Entry) (x : TxnId) where
   closed row (inr (inl q)) d = absurd (d q)
   closed row (inr (inr b)) d = absurd (b.accepts refl)
 
-  has : (s : List Call) (n : ℕ) → IsWhole s → length s ≡ n → AllIn (calls_of x log) s → HasSequence log x n
+  has : (s : List Call) (n : ℕ) → IsSequence s → length s ≡ n → AllIn (calls_of x log) s → HasSequence log x n
   has s n whole long all = record { sequence = s; is = whole; long = long; all = all_in (calls_of x log) s all }
 
   made : (row : ReqMode) (resp : RespMode) (s : List Call) (n : ℕ) → Among (sequences_of row resp) s → length s ≡ n → KnownIn (calls_of x log) s → EndedBy row resp (calls_of x log) → HasSequence log x n

@@ -55,7 +55,7 @@ module _ {E G : Type 0} where
     pub notes : sum_by (λ v. v.notes) s.views ≡ key.notes
 
   -- the rule: there is one log of which all views speak, and the gates' words go with it
-  pub record IsWhole (backs : G → List (Entry E) → Entry E → Type 0) (key : Frame G) (s : State ℕ (View E G)) : Type 0 where
+  pub record IsOneLog (backs : G → List (Entry E) → Entry E → Type 0) (key : Frame G) (s : State ℕ (View E G)) : Type 0 where
     pub log : List (Entry E)
     pub counted : HasLog backs key log s
     pub gated : KeepsGates key log s

@@ -66,9 +66,9 @@ pub struct Rule<E, G, W> {
 }
 
 impl<E, G, W: Law<E, G>> TableRule<u8, View<E, G>, Key<G>> for Rule<E, G, W> {
-    ghost use Rattle.one_history.specs.Rule.{IsWhole, first_view, plain};
+    ghost use Rattle.one_history.specs.Rule.{IsOneLog, first_view, plain};
 
-    ghost holds = { λ key s. IsWhole W.backs (plain key) s };
+    ghost holds = { λ key s. IsOneLog W.backs (plain key) s };
 
     ghost first = { λ key. first_view (plain key) };
 }

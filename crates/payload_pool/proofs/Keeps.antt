@@ -15,8 +15,8 @@ use Rattle.token_book.proofs.Amounts.{out_of-put_out, out_of-struck_off}
 use Rattle.flow_model.specs.Events.{Event}
 use Rattle.flow_model.specs.Pools.{Life, slots_after}
 use Rattle.flow_model.specs.Slots.{no_slots}
-use Rattle.payload_pool.specs.declared.slot.Kept.{Kept}
-use Rattle.payload_pool.specs.Slots.{SlotView, slot_at, blank_slot, tally, is_free, has_name, names_out, all_out, name_of, number_of, acquired_of, begun, acquired_more, given_back, without}
+use Rattle.payload_pool.specs.declared.slot.KeptPayload.{KeptPayload}
+use Rattle.payload_pool.specs.Slots.{SlotView, slot_at, blank_slot, tally, is_free, has_name, names_out, all_out, name_of, reference_number, acquired_of, taken_slot, acquired_more, given_back, without}
 use Rattle.payload_pool.specs.Lives.{IsOfLog, FitsLog, no_takes, takes_after}
 use Rattle.payload_pool.specs.Pool.{PoolView, IsPool, IsSlot, event_by, changed, after_take, after_acquire, after_release, is_last}
 use Rattle.payload_pool.proofs.Found.{any_sum, Found, passes_found, found_in, none_in}
@@ -104,10 +104,10 @@ module _ (v : PoolView) (i : IsPool v) where
       omega arith
 
   pub kept_take : (k position : ℕ) (x : TxnId) (time : ℕ) → Found is_free v.slots k → position < 1000000 → All (λ (y : Event). y.position < position) v.log.events
-      → IsPool (changed v k (begun x position) (event_by v position x time (Take k) 0) (issued v.book (name_of position 16) 1))
+      → IsPool (changed v k (taken_slot x position) (event_by v position x time (Take k) 0) (issued v.book (name_of position 16) 1))
   kept_take k position x time f low past =
       let free = eqb-true (length (slot_at v.slots k).out) 0 (passes_found is_free v.slots k blank_slot f) in
-      kept_changed k (begun x position) (event_by v position x time (Take k) 0) (issued v.book (name_of position 16) 1) (record {
+      kept_changed k (taken_slot x position) (event_by v position x time (Take k) 0) (issued v.book (name_of position 16) 1) (record {
         below = f.within;
         slot = record { placed = low; stocked = λ e. cc; kept = tt };
         tokens = λ m.
@@ -156,7 +156,7 @@ module _ (v : PoolView) (i : IsPool v) where
       let s = slot_at v.slots k in
       let n = named t k h in
       let part = n.own (omega arith) in
-      let number : number_of t.name ≡ 15 = omega arith in
+      let number : reference_number t.name ≡ 15 = omega arith in
       let some : 1 ≤ tally 15 s.out = subst (λ (x : ℕ). 1 ≤ tally x s.out) number n.some in
       let many = tally_few 15 s.out in
       let l = live_life s (takes_after no_takes v.log.events k) (slots_after no_slots v.log.events k) (omega arith) (i.follows.log.lives k) in
@@ -199,10 +199,10 @@ module _ (v : PoolView) (i : IsPool v) where
   abbrev pub Brings : ℕ → Option ℕ → Type 0
   Brings name kept = MatchOption kept (name % 32 < 15) (λ bytes. (16 ≤ name % 32) × (bytes ≡ v.room))
 
-  stocked_after : (s : SlotView) (name : ℕ) (kept : Option ℕ) → IsSlot v.room s → 1 ≤ tally (number_of name) s.out → Brings name kept → tally 15 (without (number_of name) s.out) ≡ 0 → IsSome (option_or kept s.kept)
+  stocked_after : (s : SlotView) (name : ℕ) (kept : Option ℕ) → IsSlot v.room s → 1 ≤ tally (reference_number name) s.out → Brings name kept → tally 15 (without (reference_number name) s.out) ≡ 0 → IsSome (option_or kept s.kept)
   stocked_after s name (Some b) old some brings e = refl
   stocked_after s name None old some brings e =
-      let n = number_of name in
+      let n = reference_number name in
       let less = tally_without 15 n s.out some in
       let other = cond-false {A = ℕ} (n == 15) 1 0 (ne_eqb n 15 (λ q. omega arith)) in
       old.stocked (omega arith)
@@ -212,10 +212,10 @@ module _ (v : PoolView) (i : IsPool v) where
   kept_after s name None old brings = old.kept
 
   pub kept_release : (t : Slip) (k position time : ℕ) (kept : Option ℕ) → Holds t k → Brings t.name kept → All (λ (y : Event). y.position < position) v.log.events
-      → IsPool (changed v k (given_back (number_of t.name) kept (slot_at v.slots k)) (event_by v position (slot_at v.slots k).txn time (Release k (length (slot_at v.slots k).out == 1)) (number_of t.name)) (retired v.book t))
+      → IsPool (changed v k (given_back (reference_number t.name) kept (slot_at v.slots k)) (event_by v position (slot_at v.slots k).txn time (Release k (length (slot_at v.slots k).out == 1)) (reference_number t.name)) (retired v.book t))
   kept_release t k position time kept h brings past =
       let s = slot_at v.slots k in
-      let n = number_of t.name in
+      let n = reference_number t.name in
       let old = old_slot k h.place.within in
       let is = named t k h in
       kept_changed k (given_back n kept s) (event_by v position s.txn time (Release k (length s.out == 1)) n) (retired v.book t) (record {
@@ -235,9 +235,9 @@ module _ (v : PoolView) (i : IsPool v) where
 
   -- what the calls make, at the place that was found
   pub take_at : (k position : ℕ) (x : TxnId) (time : ℕ) → Found is_free v.slots k
-      → changed v k (begun x position) (event_by v position x time (Take k) 0) (issued v.book (name_of position 16) 1) ≡ after_take v position x time
+      → changed v k (taken_slot x position) (event_by v position x time (Take k) 0) (issued v.book (name_of position 16) 1) ≡ after_take v position x time
   take_at k position x time f =
-      ap (λ (j : ℕ). changed v j (begun x position) (event_by v position x time (Take j) 0) (issued v.book (name_of position 16) 1)) (sym f.first)
+      ap (λ (j : ℕ). changed v j (taken_slot x position) (event_by v position x time (Take j) 0) (issued v.book (name_of position 16) 1)) (sym f.first)
 
   pub acquire_at : (t : Slip) (k position time : ℕ) → Holds t k
       → changed v k (acquired_more (slot_at v.slots k)) (event_by v position (slot_at v.slots k).txn time (Acquire k) (acquired_of t.name)) (issued (issued (retired v.book t) (t.name + 1) 1) (t.name - 16) 1) ≡ after_acquire v position t time
@@ -245,15 +245,15 @@ module _ (v : PoolView) (i : IsPool v) where
       ap (λ (j : ℕ). changed v j (acquired_more (slot_at v.slots j)) (event_by v position (slot_at v.slots j).txn time (Acquire j) (acquired_of t.name)) (issued (issued (retired v.book t) (t.name + 1) 1) (t.name - 16) 1)) (sym h.place.first)
 
   pub release_at : (t : Slip) (k position time : ℕ) (kept : Option ℕ) → Holds t k
-      → changed v k (given_back (number_of t.name) kept (slot_at v.slots k)) (event_by v position (slot_at v.slots k).txn time (Release k (length (slot_at v.slots k).out == 1)) (number_of t.name)) (retired v.book t) ≡ after_release v position t time kept
+      → changed v k (given_back (reference_number t.name) kept (slot_at v.slots k)) (event_by v position (slot_at v.slots k).txn time (Release k (length (slot_at v.slots k).out == 1)) (reference_number t.name)) (retired v.book t) ≡ after_release v position t time kept
   release_at t k position time kept h =
-      ap (λ (j : ℕ). changed v j (given_back (number_of t.name) kept (slot_at v.slots j)) (event_by v position (slot_at v.slots j).txn time (Release j (length (slot_at v.slots j).out == 1)) (number_of t.name)) (retired v.book t)) (sym h.place.first)
+      ap (λ (j : ℕ). changed v j (given_back (reference_number t.name) kept (slot_at v.slots j)) (event_by v position (slot_at v.slots j).txn time (Release j (length (slot_at v.slots j).out == 1)) (reference_number t.name)) (retired v.book t)) (sym h.place.first)
 
   pub last_at : (t : Slip) (k : ℕ) → Holds t k → (length (slot_at v.slots k).out == 1) ≡ is_last v t.name
   last_at t k h = ap (λ (j : ℕ). length (slot_at v.slots j).out == 1) (sym h.place.first)
 
   -- a number that a token names is out
-  pub some_at : (t : Slip) (k : ℕ) → Holds t k → 1 ≤ tally (number_of t.name) (slot_at v.slots k).out
+  pub some_at : (t : Slip) (k : ℕ) → Holds t k → 1 ≤ tally (reference_number t.name) (slot_at v.slots k).out
   some_at t k h = (named t k h).some
 
   -- what is out after a token was retired, and another was issued
@@ -267,6 +267,6 @@ module _ (v : PoolView) (i : IsPool v) where
       let c : counts n m ≤ 1 = one_at_most (n == m) in
       omega arith
 
-  pub brought : (name : ℕ) (kept : Option Kept) → MatchOption kept (name % 32 < 15) (λ b. (16 ≤ name % 32) × (b.payload.room ≡ v.room)) → Brings name (option_map (λ (b : Kept). b.payload.room) kept)
+  pub brought : (name : ℕ) (kept : Option KeptPayload) → MatchOption kept (name % 32 < 15) (λ b. (16 ≤ name % 32) × (b.payload.room ≡ v.room)) → Brings name (option_map (λ (b : KeptPayload). b.payload.room) kept)
   brought name None h = h
   brought name (Some b) h = h

@@ -7,7 +7,7 @@ use Rattle.std.proofs.lemmas.List.{length_push, nil_from_length}
 use Rattle.tlm_types.specs.declared.words.TxnId.{TxnId}
 use Rattle.flow_model.specs.Events.{Among}
 use Rattle.flow_model.specs.Pools.{Life, Slots, fewer, more, IsLive, AcquireStep, ReleaseStep}
-use Rattle.payload_pool.specs.Slots.{SlotView, tally, without, is_free, begun, acquired_more, given_back}
+use Rattle.payload_pool.specs.Slots.{SlotView, tally, without, is_free, taken_slot, acquired_more, given_back}
 use Rattle.payload_pool.specs.Lives.{IsOfLife, IsOfLog, numbers_of}
 use Rattle.payload_pool.proofs.Tallies.{tally_push, tally_cons, tally_few, tally_without, length_without, among_tally}
 
@@ -30,7 +30,7 @@ live_life s position (Some l) some is = record { life = l; is = refl; of = is.0;
 first_numbers : (n : ℕ) → cond {A = ℕ} (15 == n) 1 0 + 0 ≡ numbers_of 0 n
 first_numbers n = grind (arith, nat_tests)
 
-pub first_life : (x : TxnId) (position : ℕ) → IsOfLife (begun x position) (record { txn = x; acquired = 0; released = [] })
+pub first_life : (x : TxnId) (position : ℕ) → IsOfLife (taken_slot x position) (record { txn = x; acquired = 0; released = [] })
 first_life x position = record {
   txn = refl;
   acquired = refl;

@@ -7,7 +7,7 @@ use Rattle.std.proofs.lemmas.Bool.Decides.{nat_tests}
 use Rattle.std.proofs.lemmas.List.Sums.{sum_by-le}
 use Rattle.std.proofs.lemmas.List.Elements.{All-weaker}
 use Rattle.tlm_types.specs.declared.words.TxnId.{TxnId}
-use Rattle.payload_pool.specs.Slots.{SlotView, tally, names_out, parts_out, all_out, has_name, name_of, number_of, acquired_of, begun, acquired_more, given_back, without}
+use Rattle.payload_pool.specs.Slots.{SlotView, tally, names_out, parts_out, all_out, has_name, name_of, reference_number, acquired_of, taken_slot, acquired_more, given_back, without}
 use Rattle.payload_pool.proofs.Found.{any_count}
 use Rattle.payload_pool.proofs.Tallies.{tally_push, tally_few, tally_without}
 
@@ -44,7 +44,7 @@ few_out slots m short few =
 begun_at : (position m x : ℕ) → x ≡ cond {A = ℕ} (15 == m % 32) 1 0 → cond {A = ℕ} (m / 32 == position) (cond {A = ℕ} (nat_lt (m % 32) 15) x (cond {A = ℕ} (m % 32 == 16) 1 0)) 0 ≡ counts (32 * position + 16) m
 begun_at position m x e = grind (arith, nat_tests)
 
-pub names_begun : (x : TxnId) (position m : ℕ) → names_out m (begun x position) ≡ counts (name_of position 16) m
+pub names_begun : (x : TxnId) (position m : ℕ) → names_out m (taken_slot x position) ≡ counts (name_of position 16) m
 names_begun x position m = begun_at position m (tally (m % 32) (15 ∷ [])) (zero-add (cond {A = ℕ} (15 == m % 32) 1 0))
 
 -- an Acquire renames the baton and adds a hold
@@ -63,7 +63,7 @@ names_more s name m p q few one =
 -- a name that a slot has
 pub record IsNamed (s : SlotView) (name : ℕ) : Type 0 where
   pub position : name / 32 ≡ s.position
-  pub some : 1 ≤ tally (number_of name) s.out
+  pub some : 1 ≤ tally (reference_number name) s.out
   pub own : 15 ≤ name % 32 → name % 32 ≡ 16 + s.acquired
 
 named_at : (position acquired name x y : ℕ) → 0 < cond {A = ℕ} (name / 32 == position) (cond {A = ℕ} (nat_lt (name % 32) 15) x (cond {A = ℕ} (name % 32 == 16 + acquired) y 0)) 0
@@ -79,8 +79,8 @@ is_named s name h =
       position = q.0;
       some =
           ⊎_elim
-          (λ (low : name % 32 < 15). let e : number_of name ≡ name % 32 = omega arith in subst (λ (k : ℕ). 1 ≤ tally k s.out) (sym e) (q.1.0 low))
-          (λ (high : 15 ≤ name % 32). let e : number_of name ≡ 15 = omega arith in subst (λ (k : ℕ). 1 ≤ tally k s.out) (sym e) (q.1.1 high).0)
+          (λ (low : name % 32 < 15). let e : reference_number name ≡ name % 32 = omega arith in subst (λ (k : ℕ). 1 ≤ tally k s.out) (sym e) (q.1.0 low))
+          (λ (high : 15 ≤ name % 32). let e : reference_number name ≡ 15 = omega arith in subst (λ (k : ℕ). 1 ≤ tally k s.out) (sym e) (q.1.1 high).0)
           (cases_lt (name % 32) 15);
       own = λ high. (q.1.1 high).1;
     }
@@ -92,9 +92,9 @@ less_at : (position acquired name m n x y v w : ℕ) → name / 32 ≡ position 
     ≡ cond {A = ℕ} (m / 32 == position) (cond {A = ℕ} (nat_lt (m % 32) 15) x (cond {A = ℕ} (m % 32 == 16 + acquired) y 0)) 0
 less_at position acquired name m n x y v w p own e f g = grind (arith, nat_tests)
 
-pub names_less : (s : SlotView) (kept : Option ℕ) (name m : ℕ) → IsNamed s name → names_out m (given_back (number_of name) kept s) + counts name m ≡ names_out m s
+pub names_less : (s : SlotView) (kept : Option ℕ) (name m : ℕ) → IsNamed s name → names_out m (given_back (reference_number name) kept s) + counts name m ≡ names_out m s
 names_less s kept name m is =
-    let n = number_of name in
+    let n = reference_number name in
     less_at s.position s.acquired name m n (tally (m % 32) s.out) (tally 15 s.out) (tally (m % 32) (without n s.out)) (tally 15 (without n s.out)) is.position is.own refl
     (tally_without (m % 32) n s.out is.some) (tally_without 15 n s.out is.some)
 

@@ -14,7 +14,7 @@ use Rattle.flow_model.specs.Events.{Event}
 use Rattle.flow_model.specs.Pools.{Life, Slots, PoolStepBy, IsPoolLog, slots_after, slots_by, fewer, more}
 use Rattle.flow_model.specs.Slots.{no_slots}
 use Rattle.numbered_log.specs.Logged.{event_of, IsBefore}
-use Rattle.payload_pool.specs.Slots.{SlotView, slot_at, tally, without, begun, acquired_more, given_back}
+use Rattle.payload_pool.specs.Slots.{SlotView, slot_at, tally, without, taken_slot, acquired_more, given_back}
 use Rattle.payload_pool.specs.Lives.{IsOfLog, FitsLog, no_takes, takes_after, takes_by}
 use Rattle.payload_pool.proofs.Tallies.{length_without, tally_few}
 use Rattle.payload_pool.proofs.Lives.{HasLife, free_life, live_life, first_life, more_life, less_life, acquire_step, release_step}
@@ -84,9 +84,9 @@ module _ (slots : List SlotView) (events : List Event) (f : FitsLog slots events
   takes = takes_after no_takes events
 
   pub fits_take : (position : ℕ) (o : ObjectNo) (x : TxnId) (time : ℕ) → All (λ (y : Event). y.position < position) events → length (slot_at slots k).out ≡ 0 → ((j : ℕ) → j < k → 0 < length (slot_at slots j).out)
-      → FitsLog (set slots k (begun x position)) (events ++ entry_by position o x time (Take k) 0 ∷ [])
+      → FitsLog (set slots k (taken_slot x position)) (events ++ entry_by position o x time (Take k) 0 ∷ [])
   fits_take position o x time past free least =
-      fits_changed slots events k (begun x position) (entry_by position o x time (Take k) 0) f (record {
+      fits_changed slots events k (taken_slot x position) (entry_by position o x time (Take k) 0) f (record {
         below = below;
         past = past;
         step = record {
@@ -97,7 +97,7 @@ module _ (slots : List SlotView) (events : List Event) (f : FitsLog slots events
         others = λ j other. put_other k j _ _ other;
         other_takes = λ j other. put_other k j _ _ other;
         here =
-            like (begun x position) (begun x position) (cond (k == k) position (takes k)) position (cond (k == k) (Some (record { txn = x; acquired = 0; released = [] })) (lives k)) (Some (record { txn = x; acquired = 0; released = [] }))
+            like (taken_slot x position) (taken_slot x position) (cond (k == k) position (takes k)) position (cond (k == k) (Some (record { txn = x; acquired = 0; released = [] })) (lives k)) (Some (record { txn = x; acquired = 0; released = [] }))
             refl (put_same k position (takes k)) (put_same k _ _) (first_life x position, refl);
       })
 

@@ -9,7 +9,7 @@ use Rattle.flow_model.specs.Events.{Among, Event, Finds}
 use Rattle.flow_model.specs.Pools.{Life, Slots, fewer, more, slots_after, slots_by}
 use Rattle.flow_model.specs.Slots.{no_slots}
 use Rattle.numbered_log.proofs.Ordered.{among_has, each_has, one_entry}
-use Rattle.payload_pool.specs.Slots.{place_of}
+use Rattle.payload_pool.specs.Slots.{slot_place}
 use Rattle.payload_pool.specs.Lives.{no_takes, takes_after, takes_by}
 use Rattle.payload_pool.specs.Pool.{Follows, PoolView}
 use Rattle.payload_pool.specs.Calls.{is_out}
@@ -99,7 +99,7 @@ taken es k x p l =
 
 pub names_transaction : (v : PoolView) (name : ℕ) → Follows v → is_out v name ≡ true → NamesTransaction v name
 names_transaction v name f out =
-    let k = place_of name v.slots in
+    let k = slot_place name v.slots in
     let h = held v name f.log out in
     let t = taken v.log.events k h.life.txn (takes_after no_takes v.log.events k) (record { of = record { life = h.life; is = h.is; txn = refl }; since = refl }) in
     let has = among_has v.log.events t.event t.known in

@@ -15,7 +15,7 @@ use Rattle.payload_pool.specs.declared.call.PoolCall.TheVariants.{Take, Acquire,
 use Rattle.payload_pool.specs.declared.call.PoolReply.{PoolReply}
 use Rattle.payload_pool.specs.declared.call.PoolReply.TheVariants.{Took, Acquired, Released, Live as LiveReply}
 use Rattle.payload_pool.specs.declared.pool.PoolMade.{PoolMade}
-use Rattle.payload_pool.specs.Slots.{slot_at, has_name, number_of, acquired_of, free_place, place_of}
+use Rattle.payload_pool.specs.Slots.{slot_at, has_name, reference_number, acquired_of, free_place, slot_place}
 use Rattle.payload_pool.specs.Pool.{PoolView, IsOut, has_free, live_of, after_take, first_baton, after_acquire, next_baton, next_hold, is_last, after_release}
 
 -- a pool has no gates, and the book of its references
@@ -23,7 +23,7 @@ abbrev pub built_of : PoolView → Built PoolMade
 built_of v = record { object = pool_number v.initiator; made = record { slots = length v.slots; room = v.room }; gates = (0, 0); book = Some (v.book.table, v.book.owner) }
 
 -- a baton brings back a payload of the pool's room, and an empty wallet
-pub record IsWhole (room : ℕ) (b : Baton) : Type 0 where
+pub record IsIntact (room : ℕ) (b : Baton) : Type 0 where
   pub payload : b.payload.room ≡ room
   pub wallet : b.wallet ≡ empty_purse 12
 
@@ -40,13 +40,13 @@ admitted v Live = false
 
 -- what the entry of a call on the slot of this name says
 abbrev pub content_at : PoolView → ℕ → ℕ → What → ℕ → Content
-content_at v name time what number = record { txn = (slot_at v.slots (place_of name v.slots)).txn; time = time; what = what; number = number }
+content_at v name time what number = record { txn = (slot_at v.slots (slot_place name v.slots)).txn; time = time; what = what; number = number }
 
 abbrev pub content_of : PoolView → PoolCall → Content
 content_of v (Take txn time) = record { txn = txn; time = time; what = TakeEntry (free_place v.slots); number = 0 }
-content_of v (Acquire b time) = content_at v b.own.name time (AcquireEntry (place_of b.own.name v.slots)) (acquired_of b.own.name)
-content_of v (Release h time) = content_at v h.name time (ReleaseEntry (place_of h.name v.slots) (is_last v h.name)) (number_of h.name)
-content_of v (Stow b time) = content_at v b.own.name time (ReleaseEntry (place_of b.own.name v.slots) (is_last v b.own.name)) (number_of b.own.name)
+content_of v (Acquire b time) = content_at v b.own.name time (AcquireEntry (slot_place b.own.name v.slots)) (acquired_of b.own.name)
+content_of v (Release h time) = content_at v h.name time (ReleaseEntry (slot_place h.name v.slots) (is_last v h.name)) (reference_number h.name)
+content_of v (Stow b time) = content_at v b.own.name time (ReleaseEntry (slot_place b.own.name v.slots) (is_last v b.own.name)) (reference_number b.own.name)
 content_of v Live = record { txn = record { initiator = 0; seq = 0 }; time = 0; what = TakeEntry 0; number = 0 }
 
 -- a hold or a baton is of the pool's book; a baton is acquired with at most 15 times, and brings back what it was given
@@ -54,7 +54,7 @@ abbrev pub Fits : PoolView → PoolCall → Type 0
 Fits v (Take txn time) = Unit {0}
 Fits v (Acquire b time) = IsOut v b.own × (acquired_of b.own.name < 15)
 Fits v (Release h time) = IsOut v h
-Fits v (Stow b time) = IsOut v b.own × IsWhole v.room b
+Fits v (Stow b time) = IsOut v b.own × IsIntact v.room b
 Fits v Live = Unit {0}
 
 -- the numbers of answers that give nothing

@@ -12,7 +12,7 @@ use Rattle.token_book.specs.Purse.{empty_purse}
 use Rattle.flow_model.specs.Events.{Event}
 use Rattle.payload_pool.specs.declared.baton.Baton.{Baton}
 use Rattle.numbered_log.specs.Logged.{LoggedView, event_of, with_event}
-use Rattle.payload_pool.specs.Slots.{SlotView, slot_at, is_free, is_live, tally, name_of, number_of, acquired_of, all_out, free_place, place_of, begun, acquired_more, given_back}
+use Rattle.payload_pool.specs.Slots.{SlotView, slot_at, is_free, is_live, tally, name_of, reference_number, acquired_of, all_out, free_place, slot_place, taken_slot, acquired_more, given_back}
 use Rattle.payload_pool.specs.Lives.{FitsLog}
 
 -- a pool: whose it is, how many bytes each payload can hold, its slots, its log, and the book of its references
@@ -66,7 +66,7 @@ live_of v = count_by is_live v.slots
 abbrev pub after_take : PoolView → ℕ → TxnId → ℕ → PoolView
 after_take v position txn time =
     let k = free_place v.slots in
-    changed v k (begun txn position) (event_by v position txn time (Take k) 0) (issued v.book (name_of position 16) 1)
+    changed v k (taken_slot txn position) (event_by v position txn time (Take k) 0) (issued v.book (name_of position 16) 1)
 
 abbrev pub first_baton : PoolView → ℕ → TxnId → Baton
 first_baton v position txn = record { payload = new_payload v.room; wallet = empty_purse 12; slot = free_place v.slots; txn = txn; own = slip v.book (name_of position 16) 1 }
@@ -74,7 +74,7 @@ first_baton v position txn = record { payload = new_payload v.room; wallet = emp
 -- what an Acquire with a baton of this token makes: the baton counts it, and one reference more is out
 abbrev pub after_acquire : PoolView → ℕ → Slip → ℕ → PoolView
 after_acquire v position own time =
-    let k = place_of own.name v.slots in
+    let k = slot_place own.name v.slots in
     let s = slot_at v.slots k in
     changed v k (acquired_more s) (event_by v position s.txn time (Acquire k) (acquired_of own.name)) (issued (issued (retired v.book own) (own.name + 1) 1) (own.name - 16) 1)
 
@@ -86,11 +86,11 @@ next_hold v b = slip v.book (b.own.name - 16) 1
 
 -- the reference is the last one of its slot
 abbrev pub is_last : PoolView → ℕ → Bool
-is_last v name = length (slot_at v.slots (place_of name v.slots)).out == 1
+is_last v name = length (slot_at v.slots (slot_place name v.slots)).out == 1
 
 -- what a Release of a token makes: its reference is gone, and its slot is free if it was the last
 abbrev pub after_release : PoolView → ℕ → Slip → ℕ → Option ℕ → PoolView
 after_release v position t time kept =
-    let k = place_of t.name v.slots in
+    let k = slot_place t.name v.slots in
     let s = slot_at v.slots k in
-    changed v k (given_back (number_of t.name) kept s) (event_by v position s.txn time (Release k (is_last v t.name)) (number_of t.name)) (retired v.book t)
+    changed v k (given_back (reference_number t.name) kept s) (event_by v position s.txn time (Release k (is_last v t.name)) (reference_number t.name)) (retired v.book t)

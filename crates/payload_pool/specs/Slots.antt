@@ -43,8 +43,8 @@ abbrev pub name_of : ℕ → ℕ → ℕ
 name_of position part = 32 * position + part
 
 -- the number of a name's reference: 15 for a baton's
-abbrev pub number_of : ℕ → ℕ
-number_of name = min (name % 32) 15
+abbrev pub reference_number : ℕ → ℕ
+reference_number name = min (name % 32) 15
 
 -- how many Acquires a baton of this name counts, and the number of a hold of this name
 abbrev pub acquired_of : ℕ → ℕ
@@ -69,12 +69,12 @@ all_out name slots = sum_by (names_out name) slots
 abbrev pub free_place : List SlotView → ℕ
 free_place slots = position_or_len is_free slots
 
-abbrev pub place_of : ℕ → List SlotView → ℕ
-place_of name slots = position_or_len (has_name name) slots
+abbrev pub slot_place : ℕ → List SlotView → ℕ
+slot_place name slots = position_or_len (has_name name) slots
 
 -- the slot after its Take
-abbrev pub begun : TxnId → ℕ → SlotView
-begun txn position = record { kept = None; txn = txn; position = position; acquired = 0; out = 15 ∷ [] }
+abbrev pub taken_slot : TxnId → ℕ → SlotView
+taken_slot txn position = record { kept = None; txn = txn; position = position; acquired = 0; out = 15 ∷ [] }
 
 -- after an Acquire
 abbrev pub acquired_more : SlotView → SlotView

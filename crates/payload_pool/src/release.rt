@@ -3,11 +3,11 @@ ghost use Rattle.std.specs.Prelude.{◌≡◌, ◌%◌, ◌≤◌, ◌<◌, leng
 ghost use Rattle.token_book.specs.Purse.{empty_purse};
 ghost use Rattle.flow_model.specs.Events.{Event};
 ghost use Rattle.payload_pool.specs.Pool.{IsOut};
-ghost use Rattle.payload_pool.specs.Calls.{is_out, IsWhole, Releases};
+ghost use Rattle.payload_pool.specs.Calls.{is_out, IsIntact, Releases};
 
 use crate::baton::{Baton, Hold, Own};
 use crate::pool::Pool;
-use crate::slot::{Kept, place_of};
+use crate::slot::{KeptPayload, place_of};
 use crate::take::head;
 use tlm_types::{Ps, What};
 use token_book::{Token, Tokens};
@@ -20,7 +20,7 @@ impl Pool {
         position: u64,
         token: Token,
         at: Ps,
-        kept: Option<Kept>,
+        kept: Option<KeptPayload>,
     ) -> bool
         requires tokens { self.old.book.table ≡ tokens.now }
         requires token { IsOut self.old token × (token.amount ≡ 1) }
@@ -64,7 +64,7 @@ impl Pool {
     pub fn stow(&mut self, tokens: &Tokens, position: u64, baton: Baton, at: Ps) -> bool
         requires tokens { self.old.book.table ≡ tokens.now }
         requires baton { IsOut self.old baton.own }
-        requires whole { IsWhole self.old.room baton }
+        requires whole { IsIntact self.old.room baton }
         requires past { is_out self.old baton.own.name ≡ true → All (λ (e : Event). e.position < position) self.old.log.events }
         requires room { is_out self.old baton.own.name ≡ true → length self.old.log.events < self.old.log.room }
         ensures { Releases self.old position baton.own at (Some baton.payload.room) result self.new }
@@ -77,6 +77,12 @@ impl Pool {
             own,
         } = baton;
         let Own { token } = own;
-        self.give_back(tokens, position, token, at, Some(Kept { payload, wallet }))
+        self.give_back(
+            tokens,
+            position,
+            token,
+            at,
+            Some(KeptPayload { payload, wallet }),
+        )
     }
 }

@@ -3,7 +3,7 @@ ghost use Rattle.std.specs.Prelude.{◌≡◌, ◌<◌, ◌≤◌, ◌==◌, IsS
 ghost use Rattle.std.specs.List.{list_any, position, count_by};
 ghost use Rattle.generic_payload.specs.Payload.{new_payload};
 ghost use Rattle.token_book.specs.Purse.{empty_purse};
-ghost use Rattle.payload_pool.specs.Slots.{fresh_slot, tally, is_free, is_live, has_name, begun, acquired_more, given_back};
+ghost use Rattle.payload_pool.specs.Slots.{fresh_slot, tally, is_free, is_live, has_name, taken_slot, acquired_more, given_back};
 
 use generic_payload::Payload;
 use std::alloc::Global;
@@ -19,7 +19,7 @@ const OWN: u32 = 15;
 
 /// A payload and its wallet, as a slot keeps them.
 #[derive(Drop)]
-pub struct Kept {
+pub struct KeptPayload {
     pub payload: Payload,
     pub wallet: Wallet,
 }
@@ -27,7 +27,7 @@ pub struct Kept {
 /// A slot with its latest life. Contracts see its fields, and the numbers of references as a list.
 #[derive(Drop)]
 pub struct Slot {
-    kept: Option<Kept>,
+    kept: Option<KeptPayload>,
     txn: TxnId,
     position: u64,
     acquired: u32,
@@ -61,7 +61,7 @@ impl Slot {
         let wallet = Wallet::new(alloc, PLACES)?;
         let out = Vec::with_capacity(alloc, 16)?;
         Ok(Slot {
-            kept: Some(Kept { payload, wallet }),
+            kept: Some(KeptPayload { payload, wallet }),
             txn: TxnId {
                 initiator: 0,
                 seq: 0,
@@ -117,10 +117,10 @@ impl Slot {
     }
 
     /// Begins a life with the initiator's own reference, and hands out what it keeps, the payload as new.
-    pub fn begin(&mut self, txn: TxnId, position: u64) -> Kept
+    pub fn begin(&mut self, txn: TxnId, position: u64) -> KeptPayload
         requires free { is_free self.old ≡ true }
         requires kept { IsSome self.old.kept }
-        ensures slot { self.new ≡ begun txn position }
+        ensures slot { self.new ≡ taken_slot txn position }
         ensures kept { self.old.kept ≡ Some result.payload.room }
         ensures payload { result.payload ≡ new_payload result.payload.room }
         ensures wallet { result.wallet ≡ empty_purse 12 }
@@ -152,7 +152,7 @@ impl Slot {
 
     /// Takes back the reference of this number, with what it brings back. It answers whether that was
     /// the last.
-    pub fn give_back(&mut self, number: u32, kept: Option<Kept>) -> bool
+    pub fn give_back(&mut self, number: u32, kept: Option<KeptPayload>) -> bool
         requires number { 1 ≤ tally number self.old.out }
         requires wallet { IfSome kept (λ k. k.wallet ≡ empty_purse 12) }
         ensures slot { self.new ≡ given_back number (option_map (λ k. k.payload.room) kept) self.old }

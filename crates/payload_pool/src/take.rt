@@ -9,7 +9,7 @@ ghost use Rattle.payload_pool.specs.Calls.{is_out, Takes, Acquires};
 
 use crate::baton::{Baton, Hold, Own};
 use crate::pool::Pool;
-use crate::slot::{Kept, free_place, place_of};
+use crate::slot::{KeptPayload, free_place, place_of};
 use tlm_types::{Head, ObjectNo, Ps, TxnId, What};
 use token_book::{Book, Token, Tokens};
 
@@ -62,7 +62,7 @@ impl Pool {
         ensures { Takes self.old position txn at result self.new }
     {
         let place = free_place(&self.slots)?;
-        let Kept { payload, wallet } = self.slots[place].begin(txn, position);
+        let KeptPayload { payload, wallet } = self.slots[place].begin(txn, position);
         let slot = place as u32;
         let what = What::Take { slot };
         self.log

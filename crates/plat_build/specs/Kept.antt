@@ -15,7 +15,7 @@ use Rattle.tlm_model.specs.declared.operation.Operation.{Operation}
 use Rattle.tlm_model.specs.declared.platform.Platform.{Platform}
 use Rattle.tlm_model.specs.Plan.{Plan}
 use Rattle.generic_payload.specs.Payload.{new_payload}
-use Rattle.script_engine.specs.State.{begun}
+use Rattle.script_engine.specs.State.{begun_engine}
 use Rattle.route_plan.specs.Counted.{share_at, logged_share_at}
 use Rattle.plat_build.specs.declared.kept.Start.{Start}
 use Rattle.plat_build.specs.Objects.{objects_of}
@@ -46,7 +46,7 @@ pub record HasShares (tokens : TableId) (p : Plan) (initiator : ℕ) (w : Purse)
 
 -- what an initiator starts with: its whole script, a new payload, a note that has seen nothing, and its tickets
 pub record IsStart (table tokens : TableId) (p : Plan) (initiator : ℕ) (s : Start) : Type 0 where
-  pub engine : IsSomeAnd (slice_get p.scripts initiator) (λ (script : List Operation). s.engine ≡ begun initiator script)
+  pub engine : IsSomeAnd (slice_get p.scripts initiator) (λ (script : List Operation). s.engine ≡ begun_engine initiator script)
   pub payload : s.payload ≡ new_payload 4096
   pub note : IsBlank table s.note
   pub wallet : HasShares tokens p initiator s.wallet

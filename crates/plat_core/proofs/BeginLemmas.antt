@@ -19,7 +19,7 @@ use Rattle.initiator_run.specs.Served.{IsServable}
 use Rattle.plat_core.specs.Fresh.{AreFresh, IsFresh}
 use Rattle.initiator_run.specs.Left.{asked_in, total_left}
 use Rattle.run_outcome.specs.Merge.{by_position, entries_in}
-use Rattle.initiator_run.specs.Run.{Run, begun}
+use Rattle.initiator_run.specs.Run.{Run, fresh_run}
 use Rattle.initiator_run.proofs.EndLemmas.{HasCome-begun}
 use Rattle.run_outcome.proofs.ListLemmas.{at_push}
 use Rattle.run_outcome.proofs.PlanLemmas.{no_fourphase}
@@ -88,24 +88,24 @@ pub no_flags : (p : Plan) (is : List Initiator) → are_finished (map (begun_run
 no_flags p [] = refl
 no_flags p (i ∷ is) = ap (λ (l : List Bool). false ∷ l) (no_flags p is)
 
-no_run_from : (p : Plan) (k n : ℕ) (rows : List InitiatorRow) (scripts : List (List Operation)) (script : List Operation) → slice_get scripts n ≡ Some script → n < length rows → slice_get (map (begun_run p) (initiators_from k rows scripts)) n ≡ Some (begun (k + n) script p.platform.quantum (2 * length script))
+no_run_from : (p : Plan) (k n : ℕ) (rows : List InitiatorRow) (scripts : List (List Operation)) (script : List Operation) → slice_get scripts n ≡ Some script → n < length rows → slice_get (map (begun_run p) (initiators_from k rows scripts)) n ≡ Some (fresh_run (k + n) script p.platform.quantum (2 * length script))
 no_run_from p k n [] scripts script is below = absurd (omega arith)
 no_run_from p k n (row ∷ rows) [] script is below = cc
 no_run_from p k zero (row ∷ rows) (s ∷ scripts) script is below =
     let same : s ≡ script = cc in
-    ap (λ (x : List Operation). Some (begun k x p.platform.quantum (2 * length x))) same ∙ ap (λ (x : ℕ). Some (begun x script p.platform.quantum (2 * length script))) (plus k)
+    ap (λ (x : List Operation). Some (fresh_run k x p.platform.quantum (2 * length x))) same ∙ ap (λ (x : ℕ). Some (fresh_run x script p.platform.quantum (2 * length script))) (plus k)
   where
     plus : (a : ℕ) → a ≡ a + 0
     plus a = omega arith
 no_run_from p k (suc n) (row ∷ rows) (s ∷ scripts) script is below =
-    no_run_from p (k + 1) n rows scripts script is (omega arith) ∙ ap (λ (x : ℕ). Some (begun x script p.platform.quantum (2 * length script))) (plus k n)
+    no_run_from p (k + 1) n rows scripts script is (omega arith) ∙ ap (λ (x : ℕ). Some (fresh_run x script p.platform.quantum (2 * length script))) (plus k n)
   where
     plus : (a b : ℕ) → a + 1 + b ≡ a + suc b
     plus a b = omega arith
 
 -- the run of an initiator before its first step
-pub no_run_at : (p : Plan) (n : ℕ) (script : List Operation) → slice_get p.scripts n ≡ Some script → n < length p.platform.initiators → slice_get (no_runs p) n ≡ Some (begun n script p.platform.quantum (2 * length script))
-no_run_at p n script is below = no_run_from p 0 n p.platform.initiators p.scripts script is below ∙ ap (λ (x : ℕ). Some (begun x script p.platform.quantum (2 * length script))) (plus n)
+pub no_run_at : (p : Plan) (n : ℕ) (script : List Operation) → slice_get p.scripts n ≡ Some script → n < length p.platform.initiators → slice_get (no_runs p) n ≡ Some (fresh_run n script p.platform.quantum (2 * length script))
+no_run_at p n script is below = no_run_from p 0 n p.platform.initiators p.scripts script is below ∙ ap (λ (x : ℕ). Some (fresh_run x script p.platform.quantum (2 * length script))) (plus n)
   where
     plus : (a : ℕ) → 0 + a ≡ a
     plus a = omega arith

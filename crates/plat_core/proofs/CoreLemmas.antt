@@ -22,7 +22,7 @@ use Rattle.time_board.specs.declared.rounds.Member.{Member}
 use Rattle.route_plan.specs.declared.step.Route.{Route}
 use Rattle.script_engine.specs.State.{State, op_of}
 use Rattle.script_engine.proofs.Steps.{ends}
-use Rattle.initiator_run.specs.Access.{HasLog, IsRouteOf, entry_made, place_of}
+use Rattle.initiator_run.specs.Access.{HasLog, IsRouteOf, entry_made, model_route}
 use Rattle.initiator_run.specs.Come.{HasCome, has_ended}
 use Rattle.plat_core.specs.Core.{CoreView, IsCore, IsInitiatorStep, IsMemoryAt, IsNodeStep, IsRunOf, IsStep, are_finished, history_of, logs_of}
 use Rattle.plat_core.specs.declared.steps.CoreStep.{CoreStep}
@@ -91,7 +91,7 @@ not_finished p i h old new route mine own keeps reached finished =
     let come = keeps.come i h mine own.come in
     let leads = MatchOption-at_some ⊥ (λ (x : Initiator). IsRouteOf p x (address_of (op_of new.engine)) route) i (ap (slice_get (initiators_of p)) keeps.initiator ∙ mine) reached.leads in
     let ended : has_ended p.platform i h ≡ true = (HasCome-ended ends p.platform i h old own.come (own.finished finished)).ended in
-    let unended : has_ended p.platform i h ≡ false = HasCome-open p.platform i h new (place_of route) reached.access leads.leads come in
+    let unended : has_ended p.platform i h ≡ false = HasCome-open p.platform i h new (model_route route) reached.access leads.leads come in
     cc
 
 same_total : (p : Plan) (runs : List Run) (k j : ℕ) (i : Initiator) (old new : Run) → slice_get (initiators_of p) k ≡ Some i → slice_get (initiators_of p) old.engine.initiator ≡ Some i → slice_get runs k ≡ Some old → Keeps p old new → total_left p j (initiators_of p) (set runs k new) ≤ total_left p j (initiators_of p) runs
@@ -200,9 +200,9 @@ record HasMemory (p : Plan) (runs : List Run) (regions : List LoggedMemory) (rou
   pub is : IsMemoryAt p runs (history_of regions) route.memory region
 
 -- a route ends at a memory of the core
-memory_of : (p : Plan) (runs : List Run) (regions : List LoggedMemory) (made : ℕ) (i : Initiator) (a : ℕ) (route : Route) → IsCore p runs regions made → route_of p.platform i a ≡ Some (place_of route) → HasMemory p runs regions route
+memory_of : (p : Plan) (runs : List Run) (regions : List LoggedMemory) (made : ℕ) (i : Initiator) (a : ℕ) (route : Route) → IsCore p runs regions made → route_of p.platform i a ≡ Some (model_route route) → HasMemory p runs regions route
 memory_of p runs regions made i a route core leads =
-    let there : is_none (slice_get p.platform.memories route.memory) ≡ false = walk_memory p 9 i.row.bind a 0 (place_of route) leads in
+    let there : is_none (slice_get p.platform.memories route.memory) ≡ false = walk_memory p 9 i.row.bind a 0 (model_route route) leads in
     let found = has_element regions route.memory (omega (arith, is_within p.platform.memories route.memory there, core.region_count)) in
     record { region = found.element; at = found.at; is = core.each_region route.memory found.element found.at }
 
@@ -211,7 +211,7 @@ route_at p i old middle route mine keeps reached = MatchOption-at_some ⊥ (λ (
 
 one_asked : (p : Plan) (i : Initiator) (old middle : Run) (got : List ℕ) (route : Route) → slice_get (initiators_of p) old.engine.initiator ≡ Some i → Keeps p old middle → HasReached p middle route → IsRouteOf p i (address_of (op_of middle.engine)) route → asks_left p i route.memory (engine_after middle.engine got) + 1 ≤ asks_left p i route.memory old.engine
 one_asked p i old middle got route mine keeps reached leads =
-    omega (arith, left_after p i route.memory middle.engine got reached.access, leads_there p i (address_of (op_of middle.engine)) (place_of route) leads.leads, keeps.left i route.memory mine)
+    omega (arith, left_after p i route.memory middle.engine got reached.access, leads_there p i (address_of (op_of middle.engine)) (model_route route) leads.leads, keeps.left i route.memory mine)
 
 -- a memory has room for the access that a run comes to
 pub room_for_access : (p : Plan) (runs : List Run) (regions : List LoggedMemory) (made k : ℕ) (old middle : Run) (route : Route) → IsCore p runs regions made → slice_get runs k ≡ Some old → Keeps p old middle → HasReached p middle route → HasRoomAt regions route.memory

@@ -8,7 +8,7 @@ use Rattle.time_board.specs.declared.rounds.Member.{Member}
 use Rattle.time_board.specs.Rounds.{member_of}
 use Rattle.script_engine.specs.State.{op_of}
 use Rattle.script_engine.proofs.Steps.{ends}
-use Rattle.initiator_run.specs.Access.{entry_made, place_of}
+use Rattle.initiator_run.specs.Access.{entry_made, model_route}
 use Rattle.plat_core.specs.Board.{AreInRounds}
 use Rattle.initiator_run.specs.Board.{HasGoneOn}
 use Rattle.plat_core.specs.Core.{CoreView, HasRisen, IsCore, IsStep, are_finished, history_of, member_in}
@@ -62,7 +62,7 @@ due_made : (p : Plan) (runs : List Run) (regions after : List LoggedMemory) (mad
 due_made p runs regions after made k old new turn is =
     let come = is.keeps.come turn.initiator (history_of regions) turn.mine turn.own.come in
     let leads = route_at p turn.initiator old is.middle is.route turn.mine is.keeps is.reached in
-    due_at_access p.platform turn.initiator (history_of regions) is.middle (place_of is.route) is.reached.access leads.leads come ∙ sym (made_round p old new regions after made is)
+    due_at_access p.platform turn.initiator (history_of regions) is.middle (model_route is.route) is.reached.access leads.leads come ∙ sym (made_round p old new regions after made is)
 
 -- the step of an initiator that has made an entry
 pub step_made : (p : Plan) (runs : List Run) (regions later : List LoggedMemory) (members after : List Member) (made k : ℕ) (old new : Run) → IsCore p runs regions made → AreInRounds p (history_of regions) runs members → slice_get runs k ≡ Some old → old.finished ≡ false → HasMadeAccess p old new regions later made → HasGoneOn old new members after
@@ -75,7 +75,7 @@ step_made p runs regions later members after made k old new core are at going is
     let come = is.keeps.come turn.initiator (history_of regions) turn.mine turn.own.come in
     let leads = route_at p turn.initiator old is.middle is.route turn.mine is.keeps is.reached in
     step_of (view p regions runs members) k turn.initiator (view p later (set runs k new) after) (Made made) turn.at (record {
-      unended = HasCome-open p.platform turn.initiator (history_of regions) is.middle (place_of is.route) is.reached.access leads.leads come;
+      unended = HasCome-open p.platform turn.initiator (history_of regions) is.middle (model_route is.route) is.reached.access leads.leads come;
       free = not_held members after k (due_round p.platform turn.initiator (history_of regions)) old new taken.has gone due;
       entry = entry_made is.middle is.region is.route made;
       after = view_is p (history_of later) (history_of regions ++ entry_made is.middle is.region is.route made ∷ []) (are_finished (set runs k new)) (are_finished runs) after (member_in k members (due_round p.platform turn.initiator (history_of regions)) false)

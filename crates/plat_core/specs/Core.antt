@@ -17,7 +17,7 @@ use Rattle.initiator_run.specs.Come.{HasCome, has_ended}
 use Rattle.initiator_run.specs.Left.{total_left}
 use Rattle.run_outcome.specs.Merge.{merged}
 use Rattle.plat_core.specs.Rounds.{IsHeldBack, due_round}
-use Rattle.initiator_run.specs.Run.{Run, begun}
+use Rattle.initiator_run.specs.Run.{Run, fresh_run}
 use Rattle.initiator_run.specs.Served.{IsServable}
 use Rattle.plat_core.specs.declared.steps.CoreStep.{CoreStep}
 use Rattle.plat_core.specs.declared.steps.CoreStep.TheVariants.{Made, Waits, Finished}
@@ -45,7 +45,7 @@ are_finished runs = map (λ (r : Run). r.finished) runs
 
 -- a core before its first step
 abbrev pub begun_run : Plan → Initiator → Run
-begun_run p i = begun i.number i.script p.platform.quantum (2 * length i.script)
+begun_run p i = fresh_run i.number i.script p.platform.quantum (2 * length i.script)
 
 abbrev pub no_runs : Plan → List Run
 no_runs p = map (begun_run p) (initiators_of p)

@@ -25,14 +25,14 @@ use Rattle.generic_payload.specs.Payload.{PayloadView}
 use Rattle.route_plan.specs.Counted.{logged_share_at, logged_share_by, share_at, share_by}
 use Rattle.route_plan.specs.Paths.{has_path, once}
 use Rattle.route_plan.specs.Planned.{asks_in, gates_by, invalidates, is_direct, logged_at, logged_share, share_of}
-use Rattle.script_engine.specs.State.{State, begun as begun_engine}
+use Rattle.script_engine.specs.State.{State, begun_engine}
 use Rattle.script_engine.proofs.Remaining.{few_numbers}
 use Rattle.script_engine.proofs.Steps.{begins}
 use Rattle.run_queue.specs.Queue.{AreNumbered}
 use Rattle.initiator_run.specs.Come.{HasCome}
 use Rattle.initiator_run.specs.Served.{IsServed, IsServable}
 use Rattle.initiator_run.specs.Left.{asked_in, logged_in}
-use Rattle.initiator_run.specs.Run.{Run, begun}
+use Rattle.initiator_run.specs.Run.{Run, fresh_run}
 use Rattle.initiator_run.proofs.BeginLemmas.{asked_planned, script_at, syncs_bound}
 use Rattle.run_outcome.proofs.PlanLemmas.{blocking_from, initiator_number}
 use Rattle.route_plan.proofs.ShareLemmas.{count_initiators}
@@ -85,7 +85,7 @@ unfolding logged_share
 bytes_shared p i m = logged_planned p i m i.script
 
 module _ (p : Plan) (servable : IsServable p) (n : ℕ) (i : Initiator) (at : slice_get (initiators_of p) n ≡ Some i) (w : Purse) where
-  tickets_begun : (tokens : TableId) → HasShares tokens p n w → (m : ℕ) → m < length p.platform.memories → HasTickets p i (begun n i.script p.platform.quantum (2 * length i.script)) w [] m
+  tickets_begun : (tokens : TableId) → HasShares tokens p n w → (m : ℕ) → m < length p.platform.memories → HasTickets p i (fresh_run n i.script p.platform.quantum (2 * length i.script)) w [] m
   tickets_begun tokens shares m below =
       let blocking = blocking_from 0 n p.platform.initiators p.scripts i servable.blocking at in
       let script = script_at p servable n i at in
@@ -97,7 +97,7 @@ module _ (p : Plan) (servable : IsServable p) (n : ℕ) (i : Initiator) (at : sl
       let logs = bytes_shared p i m in
       record { left = omega arith; bytes = omega arith; all = omega arith }
 
-  pub initiator_begun : (tokens : TableId) (v : View Content Plan) → HasShares tokens p n w → IsInitiator p (begun n i.script p.platform.quantum (2 * length i.script)) v w
+  pub initiator_begun : (tokens : TableId) (v : View Content Plan) → HasShares tokens p n w → IsInitiator p (fresh_run n i.script p.platform.quantum (2 * length i.script)) v w
   initiator_begun tokens v shares =
       let script = script_at p servable n i at in
       let number = initiator_number p n i at in
@@ -111,7 +111,7 @@ module _ (p : Plan) (servable : IsServable p) (n : ℕ) (i : Initiator) (at : sl
           known = λ e has. absurd (has_none e has);
           below = λ e has. absurd (has_none e has);
           own = λ e has. absurd (has_none e has);
-          come = subst (λ (k : ℕ). HasCome p.platform i [] (begun k i.script p.platform.quantum (2 * length i.script))) number
+          come = subst (λ (k : ℕ). HasCome p.platform i [] (fresh_run k i.script p.platform.quantum (2 * length i.script))) number
               (HasCome-begun begins p.platform i (2 * length i.script) (omega (arith, syncs_bound p.platform i 0 0 i.script, script.few)) (few_numbers i.script) script.served);
           keeps = record { scripts = record { replies = tt; ways = tt; order = tt; places = tt }; times = tt };
           decoupled = tt;
@@ -134,17 +134,17 @@ same_script a b q = cc
 
 -- a job before its first turn
 pub job_begun : (p : Plan) (table tokens : TableId) (n : ℕ) (s : Start) (run : Run) (quantum room : ℕ) (script : List Operation) → IsServable p → n < length p.platform.initiators → IsStart table tokens p n s → slice_get p.scripts n ≡ Some script → quantum ≡ p.platform.quantum → room ≡ 2 * length script
-    → run ≡ record (begun 0 [] quantum room) { engine = s.engine } → IsJob table tokens p run s.payload s.note s.wallet
+    → run ≡ record (fresh_run 0 [] quantum room) { engine = s.engine } → IsJob table tokens p run s.payload s.note s.wallet
 job_begun p table tokens n s run quantum room script servable below start at quantum_is room_is run_is =
     let found = has_element (initiators_of p) n (omega (arith, count_initiators 0 p.platform.initiators p.scripts servable.scripts)) in
     let i = found.element in
     let mine : i.script ≡ script = same_script i.script script (sym (script_from 0 n p.platform.initiators p.scripts i found.at) ∙ at) in
     let engine : s.engine ≡ begun_engine n i.script = subst (λ (o : Option (List Operation)). IsSomeAnd o (λ (x : List Operation). s.engine ≡ begun_engine n x)) at start.engine ∙ ap (begun_engine n) (sym mine) in
-    let first : run ≡ begun n i.script p.platform.quantum (2 * length i.script) =
+    let first : run ≡ fresh_run n i.script p.platform.quantum (2 * length i.script) =
     run_is
-    ∙ (ap (λ (q : ℕ). record (begun 0 [] q room) { engine = s.engine }) quantum_is
-    ∙ (ap (λ (k : ℕ). record (begun 0 [] p.platform.quantum k) { engine = s.engine }) (room_is ∙ ap (λ (x : List Operation). 2 * length x) (sym mine))
-    ∙ ap (λ (e : State). record (begun 0 [] p.platform.quantum (2 * length i.script)) { engine = e }) engine)) in
+    ∙ (ap (λ (q : ℕ). record (fresh_run 0 [] q room) { engine = s.engine }) quantum_is
+    ∙ (ap (λ (k : ℕ). record (fresh_run 0 [] p.platform.quantum k) { engine = s.engine }) (room_is ∙ ap (λ (x : List Operation). 2 * length x) (sym mine))
+    ∙ ap (λ (e : State). record (fresh_run 0 [] p.platform.quantum (2 * length i.script)) { engine = e }) engine)) in
     record {
       note_of = start.note.is_note;
       wallet_of = start.wallet.of;

@@ -21,12 +21,12 @@ use Rattle.joined_runs.proofs.CountLemmas.{IsRising-push}
 use Rattle.generic_payload.specs.Payload.{PayloadView}
 use Rattle.region_object.specs.declared.call.RegionReply.{RegionReply}
 use Rattle.region_object.specs.declared.call.RegionReply.TheVariants.{Accessed, Moved}
-use Rattle.region_object.specs.Region.{entry_of, reply_of}
+use Rattle.region_object.specs.Region.{region_entry, reply_of}
 use Rattle.region_object.specs.Written.{written_from}
 use Rattle.route_plan.specs.declared.step.Route.{Route}
 use Rattle.route_plan.specs.Counted.{share_at}
 use Rattle.script_engine.specs.State.{State, op_of, is_fenced, length_of}
-use Rattle.initiator_run.specs.Access.{IsRouteOf, bytes_back, entry_made, next_call, payload_in_reply, place_of}
+use Rattle.initiator_run.specs.Access.{IsRouteOf, bytes_back, entry_made, next_call, payload_in_reply, model_route}
 use Rattle.initiator_run.specs.Left.{asks_left, bytes_at, bytes_left, leads}
 use Rattle.initiator_run.specs.Moves.{HasReached}
 use Rattle.initiator_run.specs.Run.{Run, IsAccessOp, accessed, address_of, arrived, engine_after}
@@ -96,7 +96,7 @@ module _ (p : Plan) (r : Run) (route : Route) (note back : View Content Plan) (o
   entry_known : Has (entries_read back.known) the_entry
   entry_known =
       let m = sent.called.memory in
-      let same : entry_of m sent.called.position (next_call r route) ≡ the_entry = entry_is_made r m route sent.called.position reached.access in
+      let same : region_entry m sent.called.position (next_call r route) ≡ the_entry = entry_is_made r m route sent.called.position reached.access in
       knows_last route.memory m.log.entries the_entry back.known object_is
       (subst (λ (e : Entry). Within (map (placed route.memory) (written_from 0 (m.log.entries ++ e ∷ []))) back.known) same sent.called.knows)
 
@@ -163,7 +163,7 @@ module _ (p : Plan) (r : Run) (route : Route) (note back : View Content Plan) (o
       let cost = cost_at 4096 r.engine.due r.engine.remaining in
       let asks = left_after p i m r.engine payload.bytes reached.access in
       let bytes = bytes_after p i m 4096 r.engine payload.bytes reached.access whole in
-      let one : leads p i m a ≡ 1 = ap (λ (k : ℕ). leads p i k a) here ∙ leads_there p i a (place_of route) leads_to.leads in
+      let one : leads p i m a ≡ 1 = ap (λ (k : ℕ). leads p i k a) here ∙ leads_there p i a (model_route route) leads_to.leads in
       let cost_is : bytes_at p i m a cost ≡ cost * 1 = ap (λ (k : ℕ). cost * k) one in
       let enough = has.left in
       let fits = has.bytes in
@@ -180,7 +180,7 @@ module _ (p : Plan) (r : Run) (route : Route) (note back : View Content Plan) (o
       let bytes = bytes_after p i m 4096 r.engine payload.bytes reached.access whole in
       let enough = has.left in
       let fits = has.bytes in
-      let none = leads_elsewhere p i m (address_of (op_of r.engine)) (place_of route) leads_to.leads other in
+      let none = leads_elsewhere p i m (address_of (op_of r.engine)) (model_route route) leads_to.leads other in
       let left = left_stays m other in
       let rest = bytes_stay m other in
       let same = entries_there m other in

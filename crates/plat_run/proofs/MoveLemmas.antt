@@ -17,7 +17,7 @@ use Rattle.script_engine.specs.State.{Due, State, op_at, op_of}
 use Rattle.script_engine.specs.Asking.{numbers_due}
 use Rattle.initiator_run.specs.declared.run.Move.{Move}
 use Rattle.initiator_run.specs.declared.run.Move.TheVariants.{Ended, Went}
-use Rattle.initiator_run.specs.Moves.{HasEnded, IsMove, IsUnderWay, Keeps, steps_left}
+use Rattle.initiator_run.specs.Moves.{HasNoMore, IsMove, IsUnderWay, Keeps, steps_left}
 use Rattle.initiator_run.specs.Run.{Run}
 use Rattle.initiator_run.proofs.RunLemmas.{Keeps-round}
 use Rattle.run_outcome.proofs.PlanLemmas.{initiator_within}
@@ -74,7 +74,7 @@ pub moved_on : (p : Plan) (old new : Run) (v : View Content Plan) (w : Purse) �
 moved_on p old new v w job keeps fewer same =
     moved p old new v w job keeps (λ f. let none = no_steps old.engine (job.finished (sym same ∙ f)) in absurd (omega arith))
 
-pub moved_to_end : (p : Plan) (old new : Run) (v : View Content Plan) (w : Purse) → IsInitiator p old v w → Keeps p old new → HasEnded new → IsInitiator p new v w
+pub moved_to_end : (p : Plan) (old new : Run) (v : View Content Plan) (w : Purse) → IsInitiator p old v w → Keeps p old new → HasNoMore new → IsInitiator p new v w
 moved_to_end p old new v w job keeps ended = moved p old new v w job keeps (λ f. ended.done)
 
 -- a job whose sync has been let through

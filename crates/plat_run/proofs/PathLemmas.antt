@@ -18,7 +18,7 @@ use Rattle.route_plan.specs.Routes.{route_by}
 use Rattle.script_engine.specs.declared.op.Op.{Op}
 use Rattle.script_engine.specs.declared.op.Op.TheVariants as next
 use Rattle.script_engine.specs.State.{Due, State, op_at, op_of, payload_at, payload_of}
-use Rattle.initiator_run.specs.Access.{IsRouteOf, call_at, place_of}
+use Rattle.initiator_run.specs.Access.{IsRouteOf, call_at, model_route}
 use Rattle.initiator_run.specs.Left.{bytes_at}
 use Rattle.initiator_run.specs.Moves.{HasReached}
 use Rattle.initiator_run.specs.Run.{Run, IsAccessOp, address_of}
@@ -58,12 +58,12 @@ route_with before latency end = record { memory = end.memory; offset = end.offse
 -- an address has one route
 one_route : (p : Plan) (i : Initiator) (a : ℕ) (first second : Route) → IsRouteOf p i a first → IsRouteOf p i a second → first ≡ second
 one_route p i a first second one two =
-    let place : place_of first ≡ place_of second = same_some (place_of first) (place_of second) (sym one.leads ∙ two.leads) in
+    let place : model_route first ≡ model_route second = same_some (model_route first) (model_route second) (sym one.leads ∙ two.leads) in
     let before : first.before ≡ second.before = one.before ∙ sym two.before in
     let latency : first.latency ≡ second.latency = one.latency ∙ sym two.latency in
     ap (route_with first.before first.latency) place
-    ∙ (ap (λ (n : ℕ). route_with n first.latency (place_of second)) before
-    ∙ ap (λ (n : ℕ). route_with second.before n (place_of second)) latency)
+    ∙ (ap (λ (n : ℕ). route_with n first.latency (model_route second)) before
+    ∙ ap (λ (n : ℕ). route_with second.before n (model_route second)) latency)
   where
     same_some : (x y : RouteOfModel) → Some x ≡ Some y → x ≡ y
     same_some x y q = cc
@@ -89,7 +89,7 @@ module _ (p : Plan) (r : Run) (note : View Content Plan) (w : Purse) (route : Ro
       (ap (λ (x : PayloadView). x.address) filled ∙ payload_address r.engine reached.access) job.is route_of_next refl
 
   memory_below : route.memory < length p.platform.memories
-  memory_below = is_within p.platform.memories route.memory (walk_memory p 9 job.initiator.row.bind (address_of (op_of r.engine)) 0 (place_of route) route_of_next.leads)
+  memory_below = is_within p.platform.memories route.memory (walk_memory p 9 job.initiator.row.bind (address_of (op_of r.engine)) 0 (model_route route) route_of_next.leads)
 
   -- its ticket is in the wallet
   pub can_pay_next : CanPay (payload_of r.engine 4096) w route
@@ -97,7 +97,7 @@ module _ (p : Plan) (r : Run) (note : View Content Plan) (w : Purse) (route : Ro
       let i = job.initiator in
       let a = address_of (op_of r.engine) in
       let t = job.tickets route.memory memory_below in
-      let one = leads_there p i a (place_of route) route_of_next.leads in
+      let one = leads_there p i a (model_route route) route_of_next.leads in
       let cost_is : bytes_at p i route.memory a (cost_at 4096 r.engine.due r.engine.remaining) ≡ cost_at 4096 r.engine.due r.engine.remaining * 1 = ap (λ (k : ℕ). cost_at 4096 r.engine.due r.engine.remaining * k) one in
       let enough = t.left in
       let fits = t.bytes in

@@ -28,7 +28,7 @@ use Rattle.platform_file.specs.declared.initiators.InitiatorKeys.{InitiatorKeys}
 use Rattle.platform_file.specs.declared.routers.WindowKeys.{WindowKeys}
 use Rattle.platform_file.specs.declared.routers.RouterKeys.{RouterKeys}
 use Rattle.platform_file.specs.declared.top.PlatformKeys.{PlatformKeys}
-use Rattle.platform_file.specs.Reading.{Refusal, Gives, rows_from}
+use Rattle.platform_file.specs.Reading.{PlatformRefusal, Gives, rows_from}
 use Rattle.platform_file.specs.Keys.{known_keys, required_key, optional_key}
 use Rattle.platform_file.specs.Kinds.{number, truth, is_name, name, text, sized_text, word, tables}
 use Rattle.platform_file.specs.Words.{styles, responses, router_modes, memory_modes}
@@ -292,7 +292,7 @@ is_there_by_counts p rs ms (Router r) same_rs same_ms h = ap (ltb r) same_rs ∙
 is_there_by_counts p rs ms (Memory m) same_rs same_ms h = ap (ltb m) same_ms ∙ h
 
 -- what holds of rows and of what each was made of
-rows_made : {A X : Type 0} (P : X → Type 0) (R : X → A → Type 0) (Q : A → Type 0) (read : ℕ → X → Result A Refusal)
+rows_made : {A X : Type 0} (P : X → Type 0) (R : X → A → Type 0) (Q : A → Type 0) (read : ℕ → X → Result A PlatformRefusal)
     → ((i : ℕ) (x : X) (a : A) → read i x ≡ Ok a → R x a) → ((x : X) (a : A) → P x → R x a → Q a)
     → (i : ℕ) (xs : List X) (rows : List A) → All P xs → rows_from read i xs ≡ Ok rows → All Q rows
 unfolding rows_from

@@ -14,7 +14,7 @@ use Rattle.platform_file.specs.declared.fault.PlatformFault.{PlatformFault}
 use Rattle.platform_file.specs.declared.fault.PlatformFault.TheVariants as fault
 use Rattle.platform_file.specs.declared.fault.PlatformCode.TheVariants.{UnknownKey}
 use Rattle.platform_file.specs.declared.place.Place.{Place}
-use Rattle.platform_file.specs.Reading.{Refusal, refusal, Tells, Fails}
+use Rattle.platform_file.specs.Reading.{PlatformRefusal, refusal, Tells, Fails}
 use Rattle.platform_file.specs.Keys.{keys_of, lesser_of, least_of, is_unknown, refused_key}
 
 pub keys_of-view : (es : List (String Global × Value)) → map string_bytes (map.keys_of es) ≡ keys_of (members_view es)
@@ -26,7 +26,7 @@ list_any-now k [] = refl
 list_any-now k (x ∷ ks) = rw (list_any-now k ks)
 
 -- the first unknown key, if there is one
-abbrev pub among_known : List (List ℕ) → Place → List (List ℕ) → Result (Unit {0}) Refusal
+abbrev pub among_known : List (List ℕ) → Place → List (List ℕ) → Result (Unit {0}) PlatformRefusal
 among_known keys at [] = Ok tt
 among_known keys at (k ∷ ks) = if list_any (λ x. bytes_eq x k) keys then among_known keys at ks else Err (refusal UnknownKey at k)
 
@@ -58,7 +58,7 @@ below_filtered : (k : String Global) (p : List ℕ → Bool) (ks : List (String 
 below_filtered k p [] h = tt
 below_filtered k p (x ∷ ks) h = below_kept (string_bytes k) (string_bytes x) (p (string_bytes x)) (filter p (map string_bytes ks)) h.0 (below_filtered k p ks h.1)
 
-least_first : (b : Bool) (at : Place) (k : List ℕ) (ks : List (List ℕ)) (more : Result (Unit {0}) Refusal) → lesser_of k (least_of ks) ≡ k → more ≡ refused_key at (least_of ks)
+least_first : (b : Bool) (at : Place) (k : List ℕ) (ks : List (List ℕ)) (more : Result (Unit {0}) PlatformRefusal) → lesser_of k (least_of ks) ≡ k → more ≡ refused_key at (least_of ks)
     → (if b then more else Err (refusal UnknownKey at k)) ≡ refused_key at (least_of (cond (not b) (k ∷ ks) ks))
 least_first true at k ks more first same = same
 least_first false at k ks more first same = ap (λ x. Err (refusal UnknownKey at x)) (sym first)
@@ -74,7 +74,7 @@ first_is_least keys at (k ∷ ks) h =
     (first_is_least keys at ks h.1)
 
 -- a known key is passed by
-pub passes_known : (keys : List (Bor (List ℕ))) (at : Place) (s : List (String Global)) (k : String Global) (t : List (String Global)) (bytes : List ℕ) (b : Bool) (all : Result (Unit {0}) Refusal)
+pub passes_known : (keys : List (Bor (List ℕ))) (at : Place) (s : List (String Global)) (k : String Global) (t : List (String Global)) (bytes : List ℕ) (b : Bool) (all : Result (Unit {0}) PlatformRefusal)
     → s ≡ k ∷ t → bytes ≡ string_bytes k → b ≡ list_any (λ x. bytes_eq x.now bytes) keys → b ≡ true
     → among_known (map (λ x. x.now) keys) at (map string_bytes s) ≡ all → among_known (map (λ x. x.now) keys) at (map string_bytes t) ≡ all
 passes_known keys at s k t bytes b all more same test is so_far =
@@ -83,7 +83,7 @@ passes_known keys at s k t bytes b all more same test is so_far =
     sym here ∙ ap (λ ks. among_known (map (λ x. x.now) keys) at (map string_bytes ks)) (sym more) ∙ so_far
 
 -- an unknown key is refused
-pub stops_unknown : (keys : List (Bor (List ℕ))) (at : Place) (s : List (String Global)) (k : String Global) (t : List (String Global)) (bytes bytes' : List ℕ) (b : Bool) (all : Result (Unit {0}) Refusal)
+pub stops_unknown : (keys : List (Bor (List ℕ))) (at : Place) (s : List (String Global)) (k : String Global) (t : List (String Global)) (bytes bytes' : List ℕ) (b : Bool) (all : Result (Unit {0}) PlatformRefusal)
     → s ≡ k ∷ t → bytes ≡ string_bytes k → bytes' ≡ string_bytes k → b ≡ list_any (λ x. bytes_eq x.now bytes) keys → b ≡ false
     → among_known (map (λ x. x.now) keys) at (map string_bytes s) ≡ all → all ≡ Err (refusal UnknownKey at bytes')
 stops_unknown keys at s k t bytes bytes' b all more same same' test is so_far =
@@ -92,6 +92,6 @@ stops_unknown keys at s k t bytes bytes' b all more same same' test is so_far =
     sym so_far ∙ ap (λ ks. among_known (map (λ x. x.now) keys) at (map string_bytes ks)) more ∙ rw same' here
 
 -- a fault that tells a refusal is the one of a reading that gives it
-pub fails_as_told : {A : Type 0} (f : PlatformFault) (r : Refusal) (read : Result A Refusal) → Tells f r → read ≡ Err r → Fails f read
+pub fails_as_told : {A : Type 0} (f : PlatformFault) (r : PlatformRefusal) (read : Result A PlatformRefusal) → Tells f r → read ≡ Err r → Fails f read
 fails_as_told fault.Memory r read t e = tt
 fails_as_told (fault.Refused code table key) r read t e = e ∙ ap Err t

@@ -11,7 +11,7 @@ use Rattle.platform_file.specs.declared.fault.PlatformFault.TheVariants as fault
 use Rattle.platform_file.specs.declared.fault.PlatformCode.TheVariants.{NameTwice}
 use Rattle.platform_file.specs.declared.place.Place.{Place}
 use Rattle.tlm_model.specs.declared.platform.Target.{Target}
-use Rattle.platform_file.specs.Reading.{Refusal, refusal, Fails}
+use Rattle.platform_file.specs.Reading.{PlatformRefusal, refusal, Fails}
 use Rattle.tlm_types.specs.Reading.{◌>>=◌}
 use Rattle.platform_file.specs.Names.{Names, Bearer, find_name, with_name, with_names, named_after}
 use Rattle.platform_file.specs.NamesView.{entries_view}
@@ -39,7 +39,7 @@ name_stood k t old at name es same some =
     ap (λ o. named_after o (entries_view es) (record { place = at; name = name; target = t })) stood
 
 -- a row's name was added
-pub names_go_on : {A : Type 0} (bears : ℕ → A → Bearer) (i : ℕ) (rows : List A) (r : A) (b : Bearer) (old new : Names) (total : Result Names Refusal)
+pub names_go_on : {A : Type 0} (bears : ℕ → A → Bearer) (i : ℕ) (rows : List A) (r : A) (b : Bearer) (old new : Names) (total : Result Names PlatformRefusal)
     → i < length rows → r ≡ get_or rows i r → b ≡ bears i r → with_name old b ≡ Ok new
     → with_names bears i (drop i rows) old ≡ total → with_names bears (i + 1) (drop (i + 1) rows) new ≡ total
 unfolding with_names
@@ -50,7 +50,7 @@ names_go_on bears i rows r b old new total lt at bearer given so_far =
     sym one ∙ so_far
 
 -- a row's name was refused
-pub names_end : {A : Type 0} (bears : ℕ → A → Bearer) (f : PlatformFault) (i : ℕ) (rows : List A) (r : A) (b : Bearer) (old : Names) (total : Result Names Refusal)
+pub names_end : {A : Type 0} (bears : ℕ → A → Bearer) (f : PlatformFault) (i : ℕ) (rows : List A) (r : A) (b : Bearer) (old : Names) (total : Result Names PlatformRefusal)
     → i < length rows → r ≡ get_or rows i r → b ≡ bears i r → Fails f (with_name old b)
     → with_names bears i (drop i rows) old ≡ total → Fails f total
 unfolding with_names
@@ -62,7 +62,7 @@ names_end bears (fault.Refused code table key) i rows r b old total lt at bearer
     sym so_far ∙ one
 
 -- all names were added
-pub names_done : {A : Type 0} (bears : ℕ → A → Bearer) (i : ℕ) (rows : List A) (names : Names) (total : Result Names Refusal)
+pub names_done : {A : Type 0} (bears : ℕ → A → Bearer) (i : ℕ) (rows : List A) (names : Names) (total : Result Names PlatformRefusal)
     → length rows ≤ i → with_names bears i (drop i rows) names ≡ total → total ≡ Ok names
 unfolding with_names
 names_done bears i rows names total le so_far = sym so_far ∙ ap (λ rs. with_names bears i rs names) (drop_all i rows le)

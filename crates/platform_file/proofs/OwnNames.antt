@@ -12,7 +12,7 @@ use Rattle.tlm_model.specs.declared.platform.Target.{Target}
 use Rattle.platform_file.specs.declared.initiators.InitiatorKeys.{InitiatorKeys}
 use Rattle.platform_file.specs.declared.routers.RouterKeys.{RouterKeys}
 use Rattle.platform_file.specs.declared.top.PlatformKeys.{PlatformKeys}
-use Rattle.platform_file.specs.Reading.{Refusal, rows_from}
+use Rattle.platform_file.specs.Reading.{PlatformRefusal, rows_from}
 use Rattle.platform_file.specs.Names.{Names, Bearer, find_name, named_after, with_name, with_names, initiator_bears, router_bears, memory_bears, names_of}
 use Rattle.platform_file.proofs.ReadLemmas.{no_ok, ok_same, bind_ok}
 
@@ -86,7 +86,7 @@ own_key_names k names h =
     subst (AllPairs (λ x y. x ≢ y)) all c.own))
 
 -- the names of rows are those of what each was made of
-pub rows_named : {A X : Type 0} (f : A → List ℕ) (g : X → List ℕ) (read : ℕ → X → Result A Refusal) → ((i : ℕ) (x : X) (a : A) → read i x ≡ Ok a → f a ≡ g x)
+pub rows_named : {A X : Type 0} (f : A → List ℕ) (g : X → List ℕ) (read : ℕ → X → Result A PlatformRefusal) → ((i : ℕ) (x : X) (a : A) → read i x ≡ Ok a → f a ≡ g x)
     → (i : ℕ) (xs : List X) (rows : List A) → rows_from read i xs ≡ Ok rows → map f rows ≡ map g xs
 unfolding rows_from
 rows_named f g read each i [] rows h = ap (map f) (sym (ok_same _ _ h))

@@ -10,7 +10,7 @@ use Rattle.platform_file.specs.declared.fault.PlatformCode.TheVariants.{BadName,
 use Rattle.platform_file.specs.declared.place.Place.{Place}
 use Rattle.platform_file.specs.Kinds.{number, is_name, name, tables, all_tables, limited_tables, word, word_in}
 use Rattle.platform_file.specs.Keys.{required_value, optional_value}
-use Rattle.platform_file.specs.Reading.{Refusal, placed_at, rows_from}
+use Rattle.platform_file.specs.Reading.{PlatformRefusal, placed_at, rows_from}
 use Rattle.tlm_types.specs.Reading.{◌>>=◌}
 
 pub no_ok : {A E : Type 0} (e : E) (x : A) → ◌≡◌ {A = Result A E} (Err e) (Ok x) → ⊥
@@ -20,7 +20,7 @@ pub ok_same : {A E : Type 0} (x y : A) → ◌≡◌ {A = Result A E} (Ok x) (Ok
 ok_same x y h = cc
 
 -- what was read first, and then what was read next
-pub bind_ok : {A B C : Type 0} (r : Result A Refusal) (f : A → Result B Refusal) (x : B) → (r >>= f) ≡ Ok x → ((y : A) → r ≡ Ok y → f y ≡ Ok x → C) → C
+pub bind_ok : {A B C : Type 0} (r : Result A PlatformRefusal) (f : A → Result B PlatformRefusal) (x : B) → (r >>= f) ≡ Ok x → ((y : A) → r ≡ Ok y → f y ≡ Ok x → C) → C
 bind_ok (Ok y) f x h next = next y refl h
 bind_ok (Err e) f x h next = absurd (no_ok e x h)
 
@@ -124,13 +124,13 @@ optional_tables most at key None ts h =
 optional_tables most at key (Some d) ts h = (tables_between 0 most d ts (placed_ok at key (tables 0 most d) ts h)).1
 
 -- what holds of each row that is read
-pub rows_all : {A X : Type 0} (P : A → Type 0) (read : ℕ → X → Result A Refusal) → ((i : ℕ) (x : X) (a : A) → read i x ≡ Ok a → P a) → (i : ℕ) (xs : List X) (rows : List A) → rows_from read i xs ≡ Ok rows → All P rows
+pub rows_all : {A X : Type 0} (P : A → Type 0) (read : ℕ → X → Result A PlatformRefusal) → ((i : ℕ) (x : X) (a : A) → read i x ≡ Ok a → P a) → (i : ℕ) (xs : List X) (rows : List A) → rows_from read i xs ≡ Ok rows → All P rows
 unfolding rows_from
 rows_all P read each i [] rows h = All-same P rows [] (sym (ok_same _ _ h)) (All-nil P)
 rows_all P read each i (x ∷ xs) rows h =
     bind_ok _ _ _ h (λ a first h1. bind_ok _ _ _ h1 (λ more rest h2. All-same P rows (a ∷ more) (sym (ok_same _ _ h2)) (All-cons P a more (each i x a first) (rows_all P read each (i + 1) xs more rest))))
 
-pub rows_count : {A X : Type 0} (read : ℕ → X → Result A Refusal) (i : ℕ) (xs : List X) (rows : List A) → rows_from read i xs ≡ Ok rows → length rows ≡ length xs
+pub rows_count : {A X : Type 0} (read : ℕ → X → Result A PlatformRefusal) (i : ℕ) (xs : List X) (rows : List A) → rows_from read i xs ≡ Ok rows → length rows ≡ length xs
 unfolding rows_from
 rows_count read i [] rows h = ap length (sym (ok_same _ _ h))
 rows_count {A} read i (x ∷ xs) rows h =
@@ -142,7 +142,7 @@ rows_count {A} read i (x ∷ xs) rows h =
     omega arith))
 
 -- each row has passed a test
-pub rows_passed : {X : Type 0} (P : X → Type 0) (test : ℕ → X → Result (Unit {0}) Refusal) → ((i : ℕ) (x : X) → test i x ≡ Ok tt → P x) → (i : ℕ) (xs : List X) (done : List (Unit {0})) → rows_from test i xs ≡ Ok done → All P xs
+pub rows_passed : {X : Type 0} (P : X → Type 0) (test : ℕ → X → Result (Unit {0}) PlatformRefusal) → ((i : ℕ) (x : X) → test i x ≡ Ok tt → P x) → (i : ℕ) (xs : List X) (done : List (Unit {0})) → rows_from test i xs ≡ Ok done → All P xs
 unfolding rows_from
 rows_passed P test each i [] done h = All-nil P
 rows_passed P test each i (x ∷ xs) done h =

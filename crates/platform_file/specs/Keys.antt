@@ -12,7 +12,7 @@ use Rattle.platform_file.specs.declared.fault.PlatformFault.{PlatformFault}
 use Rattle.platform_file.specs.declared.fault.PlatformFault.TheVariants as fault
 use Rattle.platform_file.specs.declared.kinds.KindFault.{KindFault}
 use Rattle.platform_file.specs.declared.kinds.KindFault.TheVariants as kind
-use Rattle.platform_file.specs.Reading.{Refusal, refusal, placed_at, Tells}
+use Rattle.platform_file.specs.Reading.{PlatformRefusal, refusal, placed_at, Tells}
 
 -- the keys of a table
 abbrev pub keys_of : Members → List (List ℕ)
@@ -34,30 +34,30 @@ abbrev pub is_unknown : List (List ℕ) → List ℕ → Bool
 is_unknown keys k = not (list_any (λ x. bytes_eq x k) keys)
 
 -- the refusal of an unknown key, if there is one
-abbrev pub refused_key : Place → Option (List ℕ) → Result (Unit {0}) Refusal
+abbrev pub refused_key : Place → Option (List ℕ) → Result (Unit {0}) PlatformRefusal
 refused_key at None = Ok tt
 refused_key at (Some k) = Err (refusal UnknownKey at k)
 
 -- that a table has no key but these: the refusal names the least unknown one
-abbrev pub known_keys : List (List ℕ) → Place → Members → Result (Unit {0}) Refusal
+abbrev pub known_keys : List (List ℕ) → Place → Members → Result (Unit {0}) PlatformRefusal
 known_keys keys at t = refused_key at (least_of (filter (is_unknown keys) (keys_of t)))
 
 -- a value that has to be there
-abbrev pub required_value : {A : Type 0} → (Data → Result A PlatformCode) → Place → List ℕ → Option Data → Result A Refusal
+abbrev pub required_value : {A : Type 0} → (Data → Result A PlatformCode) → Place → List ℕ → Option Data → Result A PlatformRefusal
 required_value kind at key None = Err (refusal MissingKey at key)
 required_value kind at key (Some d) = placed_at at key (kind d)
 
 -- the value of a key that has to be there
-abbrev pub required_key : {A : Type 0} → (Data → Result A PlatformCode) → Place → List ℕ → Members → Result A Refusal
+abbrev pub required_key : {A : Type 0} → (Data → Result A PlatformCode) → Place → List ℕ → Members → Result A PlatformRefusal
 required_key kind at key t = required_value kind at key (get_member key t)
 
 -- a value with a default
-abbrev pub optional_value : {A : Type 0} → (Data → Result A PlatformCode) → A → Place → List ℕ → Option Data → Result A Refusal
+abbrev pub optional_value : {A : Type 0} → (Data → Result A PlatformCode) → A → Place → List ℕ → Option Data → Result A PlatformRefusal
 optional_value kind default at key None = Ok default
 optional_value kind default at key (Some d) = placed_at at key (kind d)
 
 -- the value of a key that may be left out
-abbrev pub optional_key : {A : Type 0} → (Data → Result A PlatformCode) → A → Place → List ℕ → Members → Result A Refusal
+abbrev pub optional_key : {A : Type 0} → (Data → Result A PlatformCode) → A → Place → List ℕ → Members → Result A PlatformRefusal
 optional_key kind default at key t = optional_value kind default at key (get_member key t)
 
 -- a fault tells what is wrong with a key's value, unless memory ran out on the way

@@ -10,7 +10,7 @@ use Rattle.tlm_model.specs.declared.platform.MemoryRow.{MemoryRow}
 use Rattle.platform_file.specs.declared.initiators.InitiatorKeys.{InitiatorKeys}
 use Rattle.platform_file.specs.declared.routers.RouterKeys.{RouterKeys}
 use Rattle.platform_file.specs.declared.top.PlatformKeys.{PlatformKeys}
-use Rattle.platform_file.specs.Reading.{Refusal, refusal}
+use Rattle.platform_file.specs.Reading.{PlatformRefusal, refusal}
 use Rattle.tlm_types.specs.Reading.{◌>>=◌}
 
 -- names in order, each with what it leads to: nothing for an initiator
@@ -29,16 +29,16 @@ pub record Bearer : Type 0 where
   pub target : Option Target
 
 -- names and a bearer, by what stood with its name before
-abbrev pub named_after : Option (Option Target) → Names → Bearer → Result Names Refusal
+abbrev pub named_after : Option (Option Target) → Names → Bearer → Result Names PlatformRefusal
 named_after None names b = Ok (names ++ (b.name, b.target) ∷ [])
 named_after (Some t) names b = Err (refusal NameTwice b.place (codes "name"))
 
 -- one more name, which has to be new
-abbrev pub with_name : Names → Bearer → Result Names Refusal
+abbrev pub with_name : Names → Bearer → Result Names PlatformRefusal
 with_name names b = named_after (find_name b.name names) names b
 
 -- the names of some rows, counted from a number, after those before them
-unfoldable pub with_names : {A : Type 0} → (ℕ → A → Bearer) → ℕ → List A → Names → Result Names Refusal
+unfoldable pub with_names : {A : Type 0} → (ℕ → A → Bearer) → ℕ → List A → Names → Result Names PlatformRefusal
 with_names bears i [] names = Ok names
 with_names bears i (r ∷ rs) names = with_name names (bears i r) >>= λ more. with_names bears (i + 1) rs more
 
@@ -55,18 +55,18 @@ abbrev pub memory_bears : ℕ → MemoryRow → Bearer
 memory_bears i r = record { place = place.Memory i; name = r.name; target = Some (target.Memory i) }
 
 -- the names of a platform, none of which stands twice
-unfoldable pub names_of : PlatformKeys → Result Names Refusal
+unfoldable pub names_of : PlatformKeys → Result Names PlatformRefusal
 names_of p = do
   names ← with_names initiator_bears 0 p.initiators []
   names ← with_names router_bears 0 p.routers names
   with_names memory_bears 0 p.memories names
 
 -- the target that was found, or the refusal
-abbrev pub found_target : Place → List ℕ → Option (Option Target) → Result Target Refusal
+abbrev pub found_target : Place → List ℕ → Option (Option Target) → Result Target PlatformRefusal
 found_target at key (Some (Some t)) = Ok t
 found_target at key (Some None) = Err (refusal UnknownTarget at key)
 found_target at key None = Err (refusal UnknownTarget at key)
 
 -- what a name leads to
-abbrev pub target_of : Names → Place → List ℕ → List ℕ → Result Target Refusal
+abbrev pub target_of : Names → Place → List ℕ → List ℕ → Result Target PlatformRefusal
 target_of names at key name = found_target at key (find_name name names)

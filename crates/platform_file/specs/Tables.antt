@@ -12,7 +12,7 @@ use Rattle.platform_file.specs.declared.initiators.InitiatorKeys.{InitiatorKeys}
 use Rattle.platform_file.specs.declared.routers.WindowKeys.{WindowKeys}
 use Rattle.platform_file.specs.declared.routers.RouterKeys.{RouterKeys}
 use Rattle.platform_file.specs.declared.top.PlatformKeys.{PlatformKeys}
-use Rattle.platform_file.specs.Reading.{Refusal, refusal, rows_from}
+use Rattle.platform_file.specs.Reading.{PlatformRefusal, refusal, rows_from}
 use Rattle.tlm_types.specs.Reading.{◌>>=◌}
 use Rattle.platform_file.specs.Kinds.{number, truth, name, text, sized_text, word, tables}
 use Rattle.platform_file.specs.Words.{styles, responses, router_modes, memory_modes}
@@ -37,7 +37,7 @@ abbrev pub top_key_names : List (List ℕ)
 top_key_names = codes "version" ∷ codes "quantum" ∷ codes "initiator" ∷ codes "router" ∷ codes "memory" ∷ []
 
 -- an initiator
-unfoldable pub initiator_keys : ℕ → Members → Result InitiatorKeys Refusal
+unfoldable pub initiator_keys : ℕ → Members → Result InitiatorKeys PlatformRefusal
 initiator_keys i t = do
   let at = place.Initiator i
   _ ← known_keys initiator_key_names at t
@@ -50,7 +50,7 @@ initiator_keys i t = do
   Ok (record { name = name; style = style; script = script; bind = bind; pool = pool; response = response })
 
 -- a window of the router with this number
-unfoldable pub window_keys : ℕ → ℕ → Members → Result WindowKeys Refusal
+unfoldable pub window_keys : ℕ → ℕ → Members → Result WindowKeys PlatformRefusal
 window_keys router i t = do
   let at = place.Window router i
   _ ← known_keys window_key_names at t
@@ -61,7 +61,7 @@ window_keys router i t = do
   Ok (record { first = first; last = last; to = to; base = base })
 
 -- a router with its windows
-unfoldable pub router_keys : ℕ → Members → Result RouterKeys Refusal
+unfoldable pub router_keys : ℕ → Members → Result RouterKeys PlatformRefusal
 router_keys i t = do
   let at = place.Router i
   _ ← known_keys router_key_names at t
@@ -74,7 +74,7 @@ router_keys i t = do
   Ok (record { name = name; latency = latency; accept = accept; lanes = lanes; windows = windows })
 
 -- the traits of a memory
-unfoldable pub memory_traits : Place → Members → Result MemoryTraits Refusal
+unfoldable pub memory_traits : Place → Members → Result MemoryTraits PlatformRefusal
 memory_traits at t = do
   size ← required_key (number 1 16777216) at (codes "size") t
   latency ← optional_key (number 0 (10 ^ 12)) 0 at (codes "latency") t
@@ -87,7 +87,7 @@ memory_traits at t = do
   Ok (record { size = size; latency = latency; readable = read; writable = write; enables = enables; streaming = streaming; dmi = dmi; gates = gates })
 
 -- a memory, which can be read or written
-unfoldable pub memory_row : ℕ → Members → Result MemoryRow Refusal
+unfoldable pub memory_row : ℕ → Members → Result MemoryRow PlatformRefusal
 memory_row i t = do
   let at = place.Memory i
   _ ← known_keys memory_key_names at t
@@ -98,7 +98,7 @@ memory_row i t = do
   if traits.readable || traits.writable then Ok (record { name = name; traits = traits; reply = reply; lanes = lanes }) else Err (refusal NoAccess at (codes "read"))
 
 -- the top table, then the initiators, the routers with their windows, and the memories
-unfoldable pub platform_keys : Members → Result PlatformKeys Refusal
+unfoldable pub platform_keys : Members → Result PlatformKeys PlatformRefusal
 platform_keys t = do
   let at = place.Top
   _ ← known_keys top_key_names at t

@@ -6,7 +6,7 @@ use Rattle.tlm_model.specs.declared.platform.Platform.{Platform}
 use Rattle.tlm_model.specs.declared.platform.Style.TheVariants as style
 use Rattle.tlm_model.specs.declared.platform.Target.TheVariants as target
 use Rattle.platform_file.specs.declared.fault.PlatformCode.TheVariants.{UnknownKey, NameTwice}
-use Rattle.platform_file.specs.Reading.{Refusal}
+use Rattle.platform_file.specs.Reading.{PlatformRefusal}
 
 -- an initiator, a router with two windows, and two memories
 unfoldable pub example : List ℕ
@@ -80,7 +80,7 @@ unfoldable pub unknown_keys : List ℕ
 unknown_keys = codes "version = 1\nb = 1\na = 2\n"
 
 -- the refusal of the lesser one
-abbrev pub least_unknown_key : Refusal
+abbrev pub least_unknown_key : PlatformRefusal
 least_unknown_key = record { code = UnknownKey; table = codes "platform"; key = codes "a" }
 
 -- an initiator and a memory of one name
@@ -91,5 +91,5 @@ shared_name =
     ++ codes "[[memory]]\nname = 'ram'\nsize = 1\n"
 
 -- the refusal of the memory, which comes second
-abbrev pub second_bearer : Refusal
+abbrev pub second_bearer : PlatformRefusal
 second_bearer = record { code = NameTwice; table = codes "memory[0]"; key = codes "name" }

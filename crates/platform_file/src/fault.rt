@@ -60,11 +60,11 @@ pub enum PlatformCode {
 }
 
 impl PlatformCode {
-    ghost use Rattle.platform_file.specs.Code.{code_word};
+    ghost use Rattle.platform_file.specs.Code.{platform_code_word};
 
     /// The code as it is printed.
     pub fn name(self) -> &'static str
-        ensures { result.now ≡ code_word self }
+        ensures { result.now ≡ platform_code_word self }
     {
         match self {
             PlatformCode::Syntax => "syntax",

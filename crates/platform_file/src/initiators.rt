@@ -3,7 +3,7 @@ ghost use Rattle.platform_file.specs.Tables.{initiator_keys};
 
 use crate::fault::PlatformFault;
 use crate::keys::Keys;
-use crate::kinds::{AnyText, Count, Name, SizedText};
+use crate::kinds::{AnyText, Name, PartCount, SizedText};
 use crate::place::Place;
 use crate::reading::TableKind;
 use crate::words::{Responses, Styles, Word};
@@ -19,7 +19,7 @@ const SCRIPT_NAME: SizedText = SizedText {
 };
 
 /// The slots of a payload pool.
-const POOL_SLOTS: Count = Count { least: 1, most: 16 };
+const POOL_SLOTS: PartCount = PartCount { least: 1, most: 16 };
 
 /// An initiator as its keys say it: what its socket is bound to is a name yet.
 #[derive(Drop)]

@@ -77,12 +77,12 @@ impl<'a> Kind<'a> for Number {
 
 /// An integer from `least` to `most`, as a count of parts.
 #[derive(Drop)]
-pub struct Count {
+pub struct PartCount {
     pub least: u32,
     pub most: u32,
 }
 
-impl<'a> Kind<'a> for Count {
+impl<'a> Kind<'a> for PartCount {
     type Output = u32;
 
     ghost reads = { λ k. number k.least k.most };

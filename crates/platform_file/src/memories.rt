@@ -5,7 +5,7 @@ ghost use Rattle.platform_file.specs.Tables.{memory_traits, memory_row};
 
 use crate::fault::{PlatformCode, PlatformFault};
 use crate::keys::Keys;
-use crate::kinds::{Count, Name, Number, Truth};
+use crate::kinds::{Name, Number, PartCount, Truth};
 use crate::place::Place;
 use crate::reading::TableKind;
 use crate::routers::{LANES, LATENCY};
@@ -22,7 +22,7 @@ const SIZE: Number = Number {
 };
 
 /// The gates of a memory.
-const GATES: Count = Count {
+const GATES: PartCount = PartCount {
     least: 1,
     most: 256,
 };

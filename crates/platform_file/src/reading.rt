@@ -2,7 +2,7 @@
 ghost use Rattle.std.specs.Prelude.{◌≡◌, ℕ, length, map, Result, IfOk};
 ghost use Rattle.toml.specs.Data.{Members};
 ghost use Rattle.toml.specs.View.{table_view};
-ghost use Rattle.platform_file.specs.Reading.{Gives, Refusal, rows_from};
+ghost use Rattle.platform_file.specs.Reading.{Gives, PlatformRefusal, rows_from};
 
 use crate::fault::PlatformFault;
 use std::alloc::Global;
@@ -14,7 +14,7 @@ use toml::Table;
 pub trait RowKind<I> {
     type Row;
 
-    ghost reads: { Self → ℕ → I → Result Self.Row Refusal };
+    ghost reads: { Self → ℕ → I → Result Self.Row PlatformRefusal };
 
     /// The row of the item with this number. Its only other error is want of memory.
     fn read(&self, alloc: Global, index: usize, item: &I) -> Result<Self::Row, PlatformFault>
@@ -44,7 +44,7 @@ where
 pub trait TableKind {
     type Row;
 
-    ghost reads: { Self → ℕ → Members → Result Self.Row Refusal };
+    ghost reads: { Self → ℕ → Members → Result Self.Row PlatformRefusal };
 
     /// The row of the table with this number. Its only other error is want of memory.
     fn read(&self, alloc: Global, index: usize, table: &Table) -> Result<Self::Row, PlatformFault>

@@ -3,7 +3,7 @@ ghost use Rattle.platform_file.specs.Tables.{window_keys, router_keys};
 
 use crate::fault::PlatformFault;
 use crate::keys::Keys;
-use crate::kinds::{AnyText, Count, Name, Number};
+use crate::kinds::{AnyText, Name, Number, PartCount};
 use crate::place::Place;
 use crate::reading::{TableKind, table_rows};
 use crate::words::{RouterModes, Word};
@@ -25,7 +25,7 @@ pub const LATENCY: Number = Number {
 };
 
 /// The lanes of a hop.
-pub const LANES: Count = Count { least: 1, most: 16 };
+pub const LANES: PartCount = PartCount { least: 1, most: 16 };
 
 /// A window as its keys say it: what it leads to is a name yet.
 #[derive(Drop)]

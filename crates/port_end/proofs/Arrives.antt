@@ -29,7 +29,7 @@ use Rattle.flow_model.specs.Platform.{passage_of, world_of}
 use Rattle.flow_law.proofs.More.{end_more, finds_more}
 use Rattle.flow_plan.specs.Valid.{HasNoCycle}
 use Rattle.flow_plan.proofs.Ways.{world_law}
-use Rattle.cargo_model.specs.Known.{event_of, number_of}
+use Rattle.cargo_model.specs.Known.{event_of, object_number}
 use Rattle.cargo_model.specs.Laws.{Case, knows}
 use Rattle.cargo_model.specs.Origins.{AreThere}
 use Rattle.cargo_model.specs.Travel.{IsReplied}
@@ -149,7 +149,7 @@ module _ (s : Case) (i : Initiator) (port : Port) (known : List Event) (seen : �
       less b c d e = omega arith
 
   fewer : (o : ObjectNo) → left o ≤ rest o
-  fewer o = let e : rest o ≡ left o + left_of z (number_of s.p.platform o) = puts o in omega arith
+  fewer o = let e : rest o ≡ left o + left_of z (object_number s.p.platform o) = puts o in omega arith
 
   pays : (replies : List Entry) → AreReplies (route s a.asked) replies → (o : ObjectNo) → price s.p i o seq + left o ≤ (length (entries_at o replies) + made_at s.p o (txn_of i.number seq) calls) + rest o
   pays replies are o =

@@ -15,7 +15,7 @@ use Rattle.generic_payload.specs.Payload.{PayloadView}
 use Rattle.flow_model.specs.World.{hop_at}
 use Rattle.flow_model.specs.Events.{Event, Finds, IsCall}
 use Rattle.flow_plan.specs.Valid.{HasNoCycle}
-use Rattle.cargo_model.specs.Known.{event_of, number_of}
+use Rattle.cargo_model.specs.Known.{event_of, object_number}
 use Rattle.cargo_model.specs.Laws.{Case, HasEnded, IsBack, knows}
 use Rattle.cargo_model.specs.Tickets.{Pulls, PullsOwed}
 use Rattle.cargo_model.specs.Travel.{IsReplied, numbers_for}
@@ -53,7 +53,7 @@ FinishedArrives = (s : Case) (owed : ℕ) (u : IsBack s owed 0) (z : Purse) → 
 
 -- what is left of its wallet is put back into the port's
 abbrev pub PutsBack : Plan → Purse → (ObjectNo → ℕ) → (ObjectNo → ℕ) → Type 0
-PutsBack p z left rest = (o : ObjectNo) → rest o ≡ left o + left_of z (number_of p.platform o)
+PutsBack p z left rest = (o : ObjectNo) → rest o ≡ left o + left_of z (object_number p.platform o)
 
 -- it comes back: with its entry at the memory where it has a route; and where the engine waits for it the payload's bytes are the answer,
 -- whatever comes after it

@@ -41,7 +41,7 @@ use Rattle.tlm_model.proofs.RequestLemmas.{numbers_in_asks}
 use Rattle.flow_model.specs.Platform.{accessed, addresses_of}
 use Rattle.route_plan.specs.Counted.{share_by}
 use Rattle.route_plan.specs.Planned.{asks_in, share_of}
-use Rattle.script_engine.specs.State.{begun}
+use Rattle.script_engine.specs.State.{begun_engine}
 use Rattle.script_engine.proofs.Steps.{begins}
 use Rattle.port_model.specs.Stages.{price_by}
 use Rattle.port_model.specs.Laws.{Begins, HasPlanned, HasSettled, IsQuiet, PassesQuiet, Settles}
@@ -202,7 +202,7 @@ ahead_back : (end : ℕ) (calls : ℕ → ℕ) → Ahead ≡ Back end calls → 
 ahead_back end calls q = cc
 
 module _ (p : Plan) (i : Initiator) (left : ObjectNo → ℕ) (whole : (o : ObjectNo) → left o ≡ share_at p i.number o) (is : slice_get (initiators_of p) i.number ≡ Some i) where
-  begins_p : IsUnderWay p i (record { engine = begun i.number i.script; waiting = false; time = 0; latest = 0; away = []; refused = [] }) [] 0 left
+  begins_p : IsUnderWay p i (record { engine = begun_engine i.number i.script; waiting = false; time = 0; latest = 0; away = []; refused = [] }) [] 0 left
   begins_p = record {
     made = [];
     mine = [];

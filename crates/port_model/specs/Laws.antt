@@ -18,7 +18,7 @@ use Rattle.joined_traffic.specs.Accesses.{txn_of}
 use Rattle.route_plan.specs.Counted.{share_at}
 use Rattle.script_engine.specs.declared.op.Op.{Op}
 use Rattle.script_engine.specs.declared.op.Op.TheVariants as next
-use Rattle.script_engine.specs.State.{begun, is_fenced, length_of, op_of, passed_by, payload_of, told_by}
+use Rattle.script_engine.specs.State.{begun_engine, is_fenced, length_of, op_of, passed_by, payload_of, told_by}
 use Rattle.script_engine.specs.Asking.{IsAnswered, asked_access, stage_of}
 use Rattle.port_model.specs.Stages.{made_at, price, price_of}
 use Rattle.port_model.specs.Issues.{IsPlainOp, IsWaitingOp, time_after}
@@ -173,7 +173,7 @@ ReadsDebug = (p : Plan) (i : Initiator) (port : Port) (known more : List Event) 
 -- A port that has its script before it, and all that is planned for it.
 abbrev pub Begins : Type 0
 Begins = (p : Plan) (i : Initiator) (left : ObjectNo → ℕ) → ((o : ObjectNo) → left o ≡ share_at p i.number o) → slice_get (initiators_of p) i.number ≡ Some i
-    → IsUnderWay p i (record { engine = begun i.number i.script; waiting = false; time = 0; latest = 0; away = []; refused = [] }) [] 0 left
+    → IsUnderWay p i (record { engine = begun_engine i.number i.script; waiting = false; time = 0; latest = 0; away = []; refused = [] }) [] 0 left
 
 -- how many entries what is next may add to an object, by its address
 abbrev pub price_for : Plan → Initiator → ObjectNo → Op → ℕ

@@ -9,8 +9,8 @@ pub record Keeper : Type 0 where
   pub last_sync : ℕ
   pub local : ℕ
 
-abbrev pub begun : ℕ → Keeper
-begun quantum = record { quantum = quantum; last_sync = 0; local = 0 }
+abbrev pub new_keeper : ℕ → Keeper
+new_keeper quantum = record { quantum = quantum; last_sync = 0; local = 0 }
 
 -- the time that the offset leads to
 abbrev pub current_time : Keeper → ℕ

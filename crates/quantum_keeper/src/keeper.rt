@@ -2,7 +2,7 @@
 ghost use Rattle.std.specs.Prelude.{◌≡◌, ◌⊎◌, ◌↔◌, IsTrue};
 ghost use Rattle.tlm_model.specs.Rounds.{next_point};
 ghost use Rattle.tlm_model.specs.Route.{later};
-ghost use Rattle.quantum_keeper.specs.Keeper.{HasReachedPoint, begun, current_time, needs_sync, stepped, synced};
+ghost use Rattle.quantum_keeper.specs.Keeper.{HasReachedPoint, new_keeper, current_time, needs_sync, stepped, synced};
 
 use std::marker::Model;
 use tlm_types::Ps;
@@ -45,7 +45,7 @@ fn point_after(quantum: Ps, time: Ps) -> Ps
 impl QuantumKeeper {
     /// A keeper at time 0, with no offset. A quantum of 0 asks for a sync at each test.
     pub fn new(quantum: Ps) -> QuantumKeeper
-        ensures { result ≡ begun quantum }
+        ensures { result ≡ new_keeper quantum }
     {
         QuantumKeeper {
             quantum,

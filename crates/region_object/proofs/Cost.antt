@@ -12,7 +12,7 @@ use Rattle.generic_payload.specs.Payload.{access_of}
 use Rattle.region_object.specs.declared.call.RegionCall.{RegionCall}
 use Rattle.region_object.specs.declared.call.RegionCall.TheVariants.{Access, Debug}
 use Rattle.region_object.specs.Call.{IsFit, cost_of}
-use Rattle.region_object.specs.Region.{LoggedMemory, entry_of}
+use Rattle.region_object.specs.Region.{LoggedMemory, region_entry}
 use Rattle.region_object.proofs.Told.{length-got_by, got_of-transport}
 
 -- of the data of an access either what it sent or what it got is kept
@@ -21,7 +21,7 @@ length-kept Read r a store = omega (arith, length-got_by r a store)
 length-kept Write r a store = omega arith
 length-kept Ignore r a store = omega arith
 
-pub kept_of-call : (m : LoggedMemory) (position : ℕ) (call : RegionCall) → IsFit call → kept_of (entry_of m position call).what ≤ cost_of call
+pub kept_of-call : (m : LoggedMemory) (position : ℕ) (call : RegionCall) → IsFit call → kept_of (region_entry m position call).what ≤ cost_of call
 kept_of-call m position (Access txn time way p) fit =
     let a = access_of p in
     let r = status_of m.traits way a in

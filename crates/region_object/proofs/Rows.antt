@@ -13,7 +13,7 @@ use Rattle.region_object.specs.declared.call.RegionCall.{RegionCall}
 use Rattle.region_object.specs.declared.call.RegionCall.TheVariants.{Access, Debug}
 use Rattle.region_object.specs.declared.call.RegionReply.TheVariants.{Accessed as AccessedReply, Moved}
 use Rattle.region_object.specs.Call.{debug_access}
-use Rattle.region_object.specs.Region.{LoggedMemory, entry_of, reply_of}
+use Rattle.region_object.specs.Region.{LoggedMemory, region_entry, reply_of}
 
 -- a memory of 16 bytes that can be read and written, and has no byte enables
 ram : MemoryTraits
@@ -45,9 +45,9 @@ debug address n = Debug txn 10 (read_of address n)
 -- aa bb was written at 0xe
 log : List Entry
 unfolding ram with_log txn aabb write_of call
-log = entry_of (with_log ram []) 0 (call (write_of 0xe aabb)) ∷ []
+log = region_entry (with_log ram []) 0 (call (write_of 0xe aabb)) ∷ []
 
-write_at_the_end : (entry_of (with_log ram []) 0 (call (write_of 0xe aabb))).what ≡ Accessed Blocking (access_of (write_of 0xe aabb)) Ok []
+write_at_the_end : (region_entry (with_log ram []) 0 (call (write_of 0xe aabb))).what ≡ Accessed Blocking (access_of (write_of 0xe aabb)) Ok []
 unfolding ram with_log txn aabb write_of call
 write_at_the_end = refl
 
@@ -71,6 +71,6 @@ debug_across_the_end : reply_of (with_log ram log) (debug 0xf 3) ≡ Moved (reco
 unfolding ram with_log txn aabb write_of read_of call debug log
 debug_across_the_end = refl
 
-debug_entry : (entry_of (with_log ram log) 1 (debug 0xf 3)).what ≡ Accessed by_debug (debug_access 0xf 3) Ok (0xbb ∷ [])
+debug_entry : (region_entry (with_log ram log) 1 (debug 0xf 3)).what ≡ Accessed by_debug (debug_access 0xf 3) Ok (0xbb ∷ [])
 unfolding ram with_log txn aabb write_of read_of call debug log
 debug_entry = refl

@@ -30,9 +30,9 @@ way_of (Debug txn time p) = by_debug
 abbrev pub debug_access : ℕ → ℕ → AccessFacts
 debug_access offset n = record { command = Read; offset = offset; length = n; sent = []; enables = []; width = n }
 
-abbrev pub asked_by : RegionCall → AccessFacts
-asked_by (Access txn time way p) = access_of p
-asked_by (Debug txn time p) = debug_access p.address (length p.bytes)
+abbrev pub access_asked : RegionCall → AccessFacts
+access_asked (Access txn time way p) = access_of p
+access_asked (Debug txn time p) = debug_access p.address (length p.bytes)
 
 -- how many bytes of the room of its log a call may take
 abbrev pub payload_cost : PayloadView → ℕ

@@ -21,7 +21,7 @@ use Rattle.region_object.specs.declared.call.RegionCall.{RegionCall}
 use Rattle.region_object.specs.declared.call.RegionCall.TheVariants.{Access, Debug}
 use Rattle.region_object.specs.declared.call.RegionReply.{RegionReply}
 use Rattle.region_object.specs.declared.call.RegionReply.TheVariants.{Accessed as AccessedReply, Moved}
-use Rattle.region_object.specs.Call.{txn_of, time_of, way_of, asked_by}
+use Rattle.region_object.specs.Call.{txn_of, time_of, way_of, access_asked}
 
 -- what contracts see of a memory: its number, its traits, the number of its first gate, and its log
 pub record LoggedMemory : Type 0 where
@@ -39,8 +39,8 @@ abbrev pub head_at : LoggedMemory → ℕ → TxnId → ℕ → Head
 head_at m position txn time = record { position = position; object = Memory m.number; txn = txn; time = time }
 
 -- the entry that a call adds at this position
-abbrev pub entry_of : LoggedMemory → ℕ → RegionCall → Entry
-entry_of m position call = entry_at (head_at m position (txn_of call) (time_of call)) (answered m.traits m.log.entries (way_of call) (asked_by call))
+abbrev pub region_entry : LoggedMemory → ℕ → RegionCall → Entry
+region_entry m position call = entry_at (head_at m position (txn_of call) (time_of call)) (answered m.traits m.log.entries (way_of call) (access_asked call))
 
 -- the memory with one more entry
 abbrev pub with_logged : LoggedMemory → Entry → LoggedMemory
@@ -48,7 +48,7 @@ with_logged m e = record m { log = with_entry m.log e }
 
 -- the memory after a call
 abbrev pub after_call : LoggedMemory → ℕ → RegionCall → LoggedMemory
-after_call m position call = with_logged m (entry_of m position call)
+after_call m position call = with_logged m (region_entry m position call)
 
 -- the DMI hint: the memory grants direct access, and the status is OK
 abbrev pub hint_of : MemoryTraits → Response → Bool

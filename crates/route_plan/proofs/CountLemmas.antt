@@ -23,7 +23,7 @@ use Rattle.route_plan.specs.declared.counts.Count.{Count}
 use Rattle.route_plan.specs.declared.step.Route.{Route}
 use Rattle.route_plan.specs.Counted.{Counted, counted_in, counted_of, is_led_to}
 use Rattle.route_plan.specs.Counted.Counted.{Entries, Logged, Invalidations}
-use Rattle.route_plan.specs.Counts.{AreMore, capped, count_in, counts_of, kept_at, no_count, number_of}
+use Rattle.route_plan.specs.Counts.{AreMore, capped, count_in, counts_of, kept_at, no_count, counted_number}
 use Rattle.route_plan.specs.Paths.{once}
 use Rattle.route_plan.specs.Planned.{leads_to}
 use Rattle.route_plan.specs.Routes.{route_by, route_seen}
@@ -98,16 +98,16 @@ both_more f g h before between after same sum first next c m lt =
     let here = sum c m in let a = first c m lt in let b = next c m (omega (arith, same)) in omega (arith, here, a, b)
 
 placed : (counts : List Count) (place m : ℕ) (sum : Count) (c : Counted) (more times : ℕ) (b : Bool) → (place == m) ≡ b → m < length counts
-    → number_of c sum ≡ capped (kept_at counts c place + more * times) → capped (kept_at (set counts place sum) c m) ≡ capped (kept_at counts c m + more * once b * times)
+    → counted_number c sum ≡ capped (kept_at counts c place + more * times) → capped (kept_at (set counts place sum) c m) ≡ capped (kept_at counts c m + more * once b * times)
 placed counts place m sum c more times true at lt added =
     let here : place ≡ m = eqb-true place m at in
     let new : get_or (set counts place sum) m no_count ≡ sum = get_or-set_at counts place m sum no_count (sym here) (omega arith) in
     let old : kept_at counts c place ≡ kept_at counts c m = ap (kept_at counts c) here in
-    let now : kept_at (set counts place sum) c m ≡ number_of c sum = ap (number_of c) new in
+    let now : kept_at (set counts place sum) c m ≡ counted_number c sum = ap (counted_number c) new in
     omega (arith, now, old, added)
 placed counts place m sum c more times false at lt added =
     let other : m ≢ place = λ e. true≢false (sym (eq-eqb place m (sym e)) ∙ at) in
-    let same : kept_at (set counts place sum) c m ≡ kept_at counts c m = ap (number_of c) (get_or-set_other counts place m sum no_count other) in
+    let same : kept_at (set counts place sum) c m ≡ kept_at counts c m = ap (counted_number c) (get_or-set_other counts place m sum no_count other) in
     omega (arith, same)
 
 led_by : (o : Option model.Route) (before latency m : ℕ) (r : Route) → Some r ≡ route_seen before latency o → leads_to o m ≡ (r.memory == m)
@@ -116,20 +116,20 @@ led_by (Some s) before latency m r is = let same : r.memory ≡ s.memory = ap (�
 
 -- what an address adds where it leads to a place
 pub more_at : (w : Walk) (r : Route) (counts : List Count) (more sum : Count) (times : ℕ) → Some r ≡ route_by w
-    → ((c : Counted) → number_of c sum ≡ capped (kept_at counts c r.memory + number_of c more * times))
-    → AreMore (λ c m. number_of c more * once (leads_to w.end m) * times) counts (set counts r.memory sum)
+    → ((c : Counted) → counted_number c sum ≡ capped (kept_at counts c r.memory + counted_number c more * times))
+    → AreMore (λ c m. counted_number c more * once (leads_to w.end m) * times) counts (set counts r.memory sum)
 more_at w r counts more sum times is added c m lt =
-    placed counts r.memory m sum c (number_of c more) times (leads_to w.end m) (sym (led_by w.end w.before w.latency m r is)) lt (added c)
+    placed counts r.memory m sum c (counted_number c more) times (leads_to w.end m) (sym (led_by w.end w.before w.latency m r is)) lt (added c)
 
 none_at : (counts : List Count) (m : ℕ) (c : Counted) (more times : ℕ) (b : Bool) → b ≡ false → capped (kept_at counts c m) ≡ capped (kept_at counts c m + more * once b * times)
 none_at counts m c more times b is = let none : more * once b * times ≡ more * 0 * times = ap (λ b. more * once b * times) is in omega (arith, none)
 
 -- and where it leads past all places
 pub more_past : (w : Walk) (r : Route) (counts : List Count) (more : Count) (times : ℕ) → Some r ≡ route_by w → length counts ≤ r.memory
-    → AreMore (λ c m. number_of c more * once (leads_to w.end m) * times) counts counts
+    → AreMore (λ c m. counted_number c more * once (leads_to w.end m) * times) counts counts
 more_past w r counts more times is past c m lt =
     let other : (r.memory == m) ≡ false = grind (arith, nat_tests) in
-    none_at counts m c (number_of c more) times (leads_to w.end m) (led_by w.end w.before w.latency m r is ∙ other)
+    none_at counts m c (counted_number c more) times (leads_to w.end m) (led_by w.end w.before w.latency m r is ∙ other)
 
 -- what is counted of a script is far from the greatest number
 once_le : (k : ℕ) (b : Bool) → k * once b ≤ k
@@ -162,13 +162,13 @@ script_le c p n m script h = omega (arith, total_le c p n m script h.each, h.few
 counted_at : (p : Platform) (n m : ℕ) (script : List Operation) (before after : List Count) (c : Counted) → AreProper script → get_or before m no_count ≡ no_count → m < length before
     → AreMore (λ c m. counted_in c p n m script) before after → kept_at after c m ≡ counted_in c p n m script
 counted_at p n m script before after c proper none lt all =
-    let start : kept_at before c m ≡ number_of c no_count = ap (number_of c) none in
-    let zero_there : number_of c no_count ≡ 0 = nothing c in
+    let start : kept_at before c m ≡ counted_number c no_count = ap (counted_number c) none in
+    let zero_there : counted_number c no_count ≡ 0 = nothing c in
     let here = all c m lt in
     let few = script_le c p n m script proper in
     omega (arith, start, zero_there, here, few)
   where
-    nothing : (c : Counted) → number_of c no_count ≡ 0
+    nothing : (c : Counted) → counted_number c no_count ≡ 0
     nothing Entries = refl
     nothing Logged = refl
     nothing Invalidations = refl

@@ -125,7 +125,7 @@ found_by false n w ws rest f next h =
 
 found_at : (n : ℕ) (ws : List WindowRow) (a : ℕ) (f : Found) → window_of n ws a ≡ Some f → (n ≤ f.index) × (slice_get ws (f.index - n) ≡ Some f.window)
 found_at n [] a f h = absurd (none-some f h)
-found_at n (w ∷ ws) a f h = found_by (model.is_within w a) n w ws (window_of (n + 1) ws a) f (λ rest. found_at (n + 1) ws a f rest) h
+found_at n (w ∷ ws) a f h = found_by (model.window_has w a) n w ws (window_of (n + 1) ws a) f (λ rest. found_at (n + 1) ws a f rest) h
 
 pub window_is_found : (ws : List WindowRow) (a : ℕ) (f : Found) → window_of 0 ws a ≡ Some f → slice_get ws f.index ≡ Some f.window
 window_is_found ws a f h =

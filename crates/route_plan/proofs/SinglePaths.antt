@@ -8,7 +8,7 @@ use Rattle.std.proofs.lemmas.Map.Keys.{IsDistinct-cons}
 use Rattle.std.proofs.lemmas.Map.Steps.{length-le_from_distinct_below}
 use Rattle.std.proofs.lemmas.Option.{get_or_from_slice_get, slice_get-get_or, slice_get_within}
 use Rattle.platform_file.specs.Bounded.{IsBoundedRouter, is_there}
-use Rattle.platform_file.specs.Reading.{Refusal, rows_from}
+use Rattle.platform_file.specs.Reading.{PlatformRefusal, rows_from}
 use Rattle.platform_file.proofs.ReadLemmas.{bind_ok, if_ok, unless_ok}
 use Rattle.tlm_model.specs.declared.platform.InitiatorRow.{InitiatorRow}
 use Rattle.tlm_model.specs.declared.platform.Platform.{Platform}
@@ -27,7 +27,7 @@ pub not_none : {A : Type 0} (x : A) → ◌≡◌ {A = Option A} None (Some x) �
 not_none x h = cc
 
 -- the test that a row passed, by its number
-row_passed : {X : Type 0} (test : ℕ → X → Result (Unit {0}) Refusal) (i : ℕ) (xs : List X) (done : List (Unit {0})) → rows_from test i xs ≡ Ok done
+row_passed : {X : Type 0} (test : ℕ → X → Result (Unit {0}) PlatformRefusal) (i : ℕ) (xs : List X) (done : List (Unit {0})) → rows_from test i xs ≡ Ok done
     → (k n : ℕ) (x : X) → slice_get xs k ≡ Some x → i + k ≡ n → test n x ≡ Ok tt
 unfolding rows_from
 row_passed test i [] done h k n x at same = absurd (not_none x at)

@@ -11,7 +11,7 @@ use Rattle.platform_file.specs.declared.fault.PlatformCode.TheVariants.{TooManyE
 use Rattle.platform_file.specs.declared.fault.PlatformFault.{PlatformFault}
 use Rattle.platform_file.specs.declared.fault.PlatformFault.TheVariants as fault
 use Rattle.platform_file.specs.declared.place.Place.TheVariants as place
-use Rattle.platform_file.specs.Reading.{Fails, Refusal, refusal, rows_from}
+use Rattle.platform_file.specs.Reading.{Fails, PlatformRefusal, refusal, rows_from}
 use Rattle.tlm_types.specs.Reading.{◌>>=◌}
 use Rattle.platform_file.proofs.ReadLemmas.{bind_ok, if_ok, rows_passed, unless_ok}
 use Rattle.tlm_types.specs.declared.words.ObjectNo.{ObjectNo}
@@ -139,7 +139,7 @@ bytes_of_all plan same =
     let memories = range_with_len 0 (length plan.platform.memories) in
     fold-map (λ (a : ℕ) (s : List Share). a + logged_in s) (memory_shares plan) 0 memories ∙ ap (λ (f : ℕ → ℕ). sum_by f memories) (λ j m. bytes_at plan m same j)
 
-abbrev checked_counts : ℕ → ℕ → Result (Unit {0}) Refusal
+abbrev checked_counts : ℕ → ℕ → Result (Unit {0}) PlatformRefusal
 checked_counts entries bytes =
     if nat_lt most_entries entries then Err (refusal TooManyEntries place.Top (codes "-")) else if nat_lt most_logged bytes then Err (refusal TooMuchData place.Top (codes "-")) else Ok tt
 
@@ -156,12 +156,12 @@ limits_by_shares p scripts kept seen shape same counted at = ap checked_shares (
 -- the answer of a plan whose counts are tested
 pub planned_ok : (plan : Plan) → checked_plan plan ≡ Ok tt → planned plan ≡ Ok plan
 unfolding planned
-planned_ok plan h = ap (λ (r : Result (Unit {0}) Refusal). r >>= λ _. Ok plan) h
+planned_ok plan h = ap (λ (r : Result (Unit {0}) PlatformRefusal). r >>= λ _. Ok plan) h
 
 pub planned_fails : (f : PlatformFault) (plan : Plan) → Fails f (checked_plan plan) → Fails f (planned plan)
 unfolding planned
 planned_fails fault.Memory plan h = tt
-planned_fails (fault.Refused code table key) plan h = ap (λ (r : Result (Unit {0}) Refusal). r >>= λ _. Ok plan) h
+planned_fails (fault.Refused code table key) plan h = ap (λ (r : Result (Unit {0}) PlatformRefusal). r >>= λ _. Ok plan) h
 
 pub few_in_all : (plan : Plan) → checked_plan plan ≡ Ok tt → (planned_in_all plan ≤ 1000000) × (logged_in_all plan ≤ 67108864)
 unfolding checked_plan

@@ -8,17 +8,17 @@ use Rattle.route_plan.specs.Counted.{Counted, counted_in}
 use Rattle.route_plan.specs.Counted.Counted.{Entries, Logged, Invalidations}
 
 -- one of the numbers of a count
-abbrev pub number_of : Counted → Count → ℕ
-number_of Entries k = k.entries
-number_of Logged k = k.logged
-number_of Invalidations k = k.invalidations
+abbrev pub counted_number : Counted → Count → ℕ
+counted_number Entries k = k.entries
+counted_number Logged k = k.logged
+counted_number Invalidations k = k.invalidations
 
 abbrev pub no_count : Count
 no_count = record { entries = 0; logged = 0; invalidations = 0 }
 
 -- what is kept for memory m
 abbrev pub kept_at : List Count → Counted → ℕ → ℕ
-kept_at counts c m = number_of c (slice_index_or counts m no_count)
+kept_at counts c m = counted_number c (slice_index_or counts m no_count)
 
 -- a sum that stands still at the greatest number
 abbrev pub capped : ℕ → ℕ

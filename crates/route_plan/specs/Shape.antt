@@ -4,7 +4,7 @@ use Rattle.std.specs.List.{list_any, range_with_len}
 use Rattle.platform_file.specs.declared.fault.PlatformCode.TheVariants.{Unbound, Cycle, TooDeep, TwoPaths, NotBuilt}
 use Rattle.platform_file.specs.declared.place.Place.TheVariants as place
 use Rattle.platform_file.specs.Bounded.{IsBounded}
-use Rattle.platform_file.specs.Reading.{Refusal, refusal, rows_from}
+use Rattle.platform_file.specs.Reading.{PlatformRefusal, refusal, rows_from}
 use Rattle.tlm_types.specs.Reading.{◌>>=◌}
 use Rattle.tlm_model.specs.declared.platform.InitiatorRow.{InitiatorRow}
 use Rattle.tlm_model.specs.declared.platform.MemoryRow.{MemoryRow}
@@ -19,19 +19,19 @@ use Rattle.route_plan.specs.Paths.{is_on_cycle, is_deeper, paths_to, is_named}
 abbrev pub most_routers : ℕ
 most_routers = 8
 
-abbrev pub checked_windowed : ℕ → RouterRow → Result (Unit {0}) Refusal
+abbrev pub checked_windowed : ℕ → RouterRow → Result (Unit {0}) PlatformRefusal
 checked_windowed i r = if length r.windows == 0 then Err (refusal Unbound (place.Router i) (codes "window")) else Ok tt
 
-abbrev pub checked_router_named : Platform → ℕ → RouterRow → Result (Unit {0}) Refusal
+abbrev pub checked_router_named : Platform → ℕ → RouterRow → Result (Unit {0}) PlatformRefusal
 checked_router_named p i r = if is_named p (Router i) then Ok tt else Err (refusal Unbound (place.Router i) (codes "name"))
 
-abbrev pub checked_memory_named : Platform → ℕ → MemoryRow → Result (Unit {0}) Refusal
+abbrev pub checked_memory_named : Platform → ℕ → MemoryRow → Result (Unit {0}) PlatformRefusal
 checked_memory_named p i m = if is_named p (Memory i) then Ok tt else Err (refusal Unbound (place.Memory i) (codes "name"))
 
-abbrev pub checked_acyclic : Platform → ℕ → RouterRow → Result (Unit {0}) Refusal
+abbrev pub checked_acyclic : Platform → ℕ → RouterRow → Result (Unit {0}) PlatformRefusal
 checked_acyclic p i r = if is_on_cycle p i then Err (refusal Cycle (place.Router i) (codes "window")) else Ok tt
 
-abbrev pub checked_depth : Platform → ℕ → InitiatorRow → Result (Unit {0}) Refusal
+abbrev pub checked_depth : Platform → ℕ → InitiatorRow → Result (Unit {0}) PlatformRefusal
 checked_depth p n i = if is_deeper most_routers p i.bind then Err (refusal TooDeep (place.Initiator n) (codes "bind")) else Ok tt
 
 -- two paths lead from an initiator to one router or to one memory
@@ -40,7 +40,7 @@ has_two_paths p i =
     list_any (λ r. nat_lt 1 (paths_to (length p.routers) p i.bind (Router r))) (range_with_len 0 (length p.routers))
     || list_any (λ m. nat_lt 1 (paths_to (length p.routers) p i.bind (Memory m))) (range_with_len 0 (length p.memories))
 
-abbrev pub checked_single : Platform → ℕ → InitiatorRow → Result (Unit {0}) Refusal
+abbrev pub checked_single : Platform → ℕ → InitiatorRow → Result (Unit {0}) PlatformRefusal
 checked_single p n i = if has_two_paths p i then Err (refusal TwoPaths (place.Initiator n) (codes "bind")) else Ok tt
 
 -- other styles than blocking aren't built yet
@@ -49,11 +49,11 @@ style_is_built Blocking = true
 style_is_built Direct = false
 style_is_built FourPhase = false
 
-abbrev pub checked_style : ℕ → InitiatorRow → Result (Unit {0}) Refusal
+abbrev pub checked_style : ℕ → InitiatorRow → Result (Unit {0}) PlatformRefusal
 checked_style n i = if style_is_built i.style then Ok tt else Err (refusal NotBuilt (place.Initiator n) (codes "style"))
 
 -- the tests of a platform's shape, in this order
-unfoldable pub checked_shape : Platform → Result (Unit {0}) Refusal
+unfoldable pub checked_shape : Platform → Result (Unit {0}) PlatformRefusal
 checked_shape p = do
   _ ← rows_from checked_windowed 0 p.routers
   _ ← rows_from (checked_router_named p) 0 p.routers

@@ -3,7 +3,7 @@ use Rattle.std.specs.Prelude.{ℕ, ◌+◌, ◌*◌, List, map, length, sum_by, 
 use Rattle.std.specs.List.{range_with_len}
 use Rattle.platform_file.specs.declared.fault.PlatformCode.TheVariants.{TooManyEntries, TooMuchData}
 use Rattle.platform_file.specs.declared.place.Place.TheVariants as place
-use Rattle.platform_file.specs.Reading.{Refusal, refusal}
+use Rattle.platform_file.specs.Reading.{PlatformRefusal, refusal}
 use Rattle.tlm_types.specs.declared.words.ObjectNo.TheVariants.{Memory}
 use Rattle.tlm_model.specs.declared.operation.Operation.{Operation}
 use Rattle.tlm_model.specs.declared.platform.MemoryRow.{MemoryRow}
@@ -67,7 +67,7 @@ abbrev pub logged_in : List Share → ℕ
 logged_in shares = sum_by (λ (s : Share). s.logged) shares
 
 -- the limits of what is counted, where this is all of it
-unfoldable pub checked_shares : List (List Share) → Result (Unit {0}) Refusal
+unfoldable pub checked_shares : List (List Share) → Result (Unit {0}) PlatformRefusal
 checked_shares shares =
     if nat_lt most_entries (sum_by entries_in shares) then Err (refusal TooManyEntries place.Top (codes "-"))
     else if nat_lt most_logged (sum_by logged_in shares) then Err (refusal TooMuchData place.Top (codes "-"))

@@ -3,7 +3,7 @@ use Rattle.std.specs.Prelude.{ℕ, ◌≡◌, ◌+◌, ◌<◌, length, sum_by, 
 use Rattle.std.specs.List.{range_with_len, AllByRecursion}
 use Rattle.platform_file.specs.declared.fault.PlatformCode.TheVariants.{TooManyEntries, TooMuchData}
 use Rattle.platform_file.specs.declared.place.Place.TheVariants as place
-use Rattle.platform_file.specs.Reading.{Refusal, refusal}
+use Rattle.platform_file.specs.Reading.{PlatformRefusal, refusal}
 use Rattle.tlm_types.specs.Reading.{◌>>=◌}
 use Rattle.tlm_types.specs.declared.words.ObjectNo.{ObjectNo}
 use Rattle.tlm_types.specs.declared.words.ObjectNo.TheVariants.{Memory, Hop, Pool}
@@ -41,14 +41,14 @@ unfoldable pub logged_in_all : Plan → ℕ
 logged_in_all p = sum_by (λ m. logged_bytes p m) (range_with_len 0 (length p.platform.memories))
 
 -- the limits of what is counted
-unfoldable pub checked_plan : Plan → Result (Unit {0}) Refusal
+unfoldable pub checked_plan : Plan → Result (Unit {0}) PlatformRefusal
 checked_plan p =
     if nat_lt most_entries (planned_in_all p) then Err (refusal TooManyEntries place.Top (codes "-"))
     else if nat_lt most_logged (logged_in_all p) then Err (refusal TooMuchData place.Top (codes "-"))
     else Ok tt
 
 -- a plan whose counts are within the limits, or why there is none
-unfoldable pub planned : Plan → Result Plan Refusal
+unfoldable pub planned : Plan → Result Plan PlatformRefusal
 planned p = checked_plan p >>= λ _. Ok p
 
 -- A valid plan: a platform of a good shape, a script for each of its initiators, and counts within the limits. Each

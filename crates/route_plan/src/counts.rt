@@ -2,7 +2,7 @@
 ghost use Rattle.std.specs.Prelude.{◌≡◌, ◌<◌, ◌≤◌, ◌*◌, ◌+◌, All, IfOk, length, sum_by};
 ghost use Rattle.std.specs.List.{AllByRecursion};
 ghost use Rattle.route_plan.specs.Counted.{Counted, is_led_to, counted_of, counted_in};
-ghost use Rattle.route_plan.specs.Counts.{AreMore, capped, counts_of, number_of};
+ghost use Rattle.route_plan.specs.Counts.{AreMore, capped, counts_of, counted_number};
 ghost use Rattle.route_plan.specs.Paths.{once};
 ghost use Rattle.tlm_model.specs.declared.ask.Ask.TheVariants.{Access as AnAccess, DebugRead as ADebugRead, Invalidation as AnInvalidation};
 ghost use Rattle.tlm_model.specs.Actions.{asks_of};
@@ -27,7 +27,7 @@ pub struct Count {
 impl Count {
     /// This and so many times more.
     fn plus(self, more: Count, times: u64) -> Count
-        ensures { (c : Counted) → number_of c result ≡ capped (number_of c self + number_of c more * times) }
+        ensures { (c : Counted) → counted_number c result ≡ capped (counted_number c self + counted_number c more * times) }
     {
         Count {
             entries: self
@@ -54,7 +54,7 @@ struct Tally<'p> {
 
 impl<'p> Tally<'p> {
     fn add(&self, counts: &mut [Count], address: u64, more: Count, times: u64)
-        ensures { AreMore (λ c m. number_of c more * once (is_led_to self.now.routes.now self.now.initiator m address) * times) counts.old counts.new }
+        ensures { AreMore (λ c m. counted_number c more * once (is_led_to self.now.routes.now self.now.initiator m address) * times) counts.old counts.new }
     {
         let Some(route) = self.routes.route(self.initiator, address) else {
             return;

@@ -12,7 +12,7 @@ use Rattle.tlm_model.specs.History.{IsNumbered, IsNumberedFrom}
 use Rattle.tlm_model.proofs.HistoryLemmas.{AllByRecursion-weaker}
 use Rattle.run_outcome.specs.declared.merge.window.Place.{Place}
 use Rattle.run_outcome.specs.Merge.{entries_in, merged}
-use Rattle.run_outcome.specs.Places.{HasAt, HasNoneBefore, HaveNoneBefore, IsPlaced, entries_of_logs, entry_at}
+use Rattle.run_outcome.specs.Places.{HasAt, HasNoneBefore, HaveNoneBefore, StandsAt, entries_of_logs, entry_at}
 use Rattle.run_outcome.proofs.ListLemmas.{at_map, has_element, within}
 use Rattle.run_outcome.proofs.MergeLemmas.{by_position-all, by_position-of}
 
@@ -107,13 +107,13 @@ at_place : (logs : List (List Entry)) (number index : ℕ) (log : List Entry) (e
 at_place logs number index log e here at = ap (option_and_then (λ (l : List Entry). slice_get l index)) here ∙ at
 
 -- an entry of this position stands at its place
-pub placed_at : (logs : List (List Entry)) (position : ℕ) (place : Place) (log : List Entry) → IsNumbered (merged logs) → slice_get logs place.log ≡ Some log → HasAt log position place.index → IsPlaced logs position place
+pub placed_at : (logs : List (List Entry)) (position : ℕ) (place : Place) (log : List Entry) → IsNumbered (merged logs) → slice_get logs place.log ≡ Some log → HasAt log position place.index → StandsAt logs position place
 placed_at logs position place log numbered here has =
     let there = at_place logs place.log place.index log has.entry here has.at in
     record { entry = has.entry; at = ap (slice_get (merged logs)) (sym has.is) ∙ merged_at logs place has.entry numbered there; there = there }
 
 -- an entry whose head has this position stands at its place
-pub placed_by_head : (logs : List LogView) (position : ℕ) (place : Place) (log : LogView) (head : Head) → IsNumbered (merged (entries_of_logs logs)) → place.log < length logs → log ≡ get_or logs place.log log → option_map head_of (slice_get log.entries place.index) ≡ Some head → head.position ≡ position → IsPlaced (entries_of_logs logs) position place
+pub placed_by_head : (logs : List LogView) (position : ℕ) (place : Place) (log : LogView) (head : Head) → IsNumbered (merged (entries_of_logs logs)) → place.log < length logs → log ≡ get_or logs place.log log → option_map head_of (slice_get log.entries place.index) ≡ Some head → head.position ≡ position → StandsAt (entries_of_logs logs) position place
 placed_by_head logs position place log head numbered below here is same =
     let has = has_head log.entries place.index head is in
     placed_at (entries_of_logs logs) position place log.entries numbered (log_at logs place.log log below here) (record { entry = has.entry; at = has.at; is = has.is ∙ same })

@@ -18,7 +18,7 @@ abbrev pub entry_at : List (List Entry) → Place → Option Entry
 entry_at logs place = option_and_then (λ (log : List Entry). slice_get log place.index) (slice_get logs place.log)
 
 -- the entry of a history at a position stands at this place
-pub record IsPlaced (logs : List (List Entry)) (position : ℕ) (place : Place) : Type 0 where
+pub record StandsAt (logs : List (List Entry)) (position : ℕ) (place : Place) : Type 0 where
   pub entry : Entry
   pub at : slice_get (merged logs) position ≡ Some entry
   pub there : entry_at logs place ≡ Some entry

@@ -5,9 +5,9 @@ use Rattle.std.proofs.lemmas.Bool.{eq-eqb, ne_eqb, cases_lt, cases_eq, cases_Boo
 use Rattle.std.proofs.lemmas.List.{get_or_past, get_or-set_same, get_or-set_other, get_or_default, get_or_append_left, get_or_push, get_or-map, length-set, length-map, length_push, map-id}
 use Rattle.std.proofs.lemmas.List.Sums.{sum_by-set, sum_by-cons, sum_by_push, count_by-le-length}
 use Rattle.std.proofs.lemmas.List.FromFn.{length-range_with_len, map-range_with_len_more}
-use Rattle.run_queue.specs.declared.jobs.Place.{Place}
-use Rattle.run_queue.specs.declared.jobs.Place.TheVariants.{Waiting, Out, Finished}
-use Rattle.run_queue.specs.Queue.{place_of, waits, has_finished, job_of, finished_count, AreNumbered, Gathers}
+use Rattle.run_queue.specs.declared.jobs.JobState.{JobState}
+use Rattle.run_queue.specs.declared.jobs.JobState.TheVariants.{Waiting, Out, Finished}
+use Rattle.run_queue.specs.Queue.{job_place, waits, has_finished, job_of, finished_count, AreNumbered, Gathers}
 use Rattle.run_queue.specs.Sound.{ArePlaced, IsSound}
 
 abbrev one_if : Bool → ℕ
@@ -60,56 +60,56 @@ range_with_len-more n =
     ∙ ap (λ (l : List ℕ). l ++ n ∷ []) (map-id (range_with_len 0 n))
 
 module _ {J : Type 0} where
-  waits_not_finished : (place : Place J) → waits place ≡ true → has_finished place ≡ false
+  waits_not_finished : (place : JobState J) → waits place ≡ true → has_finished place ≡ false
   waits_not_finished (Waiting job) waiting = refl
   waits_not_finished Out waiting = refl
   waits_not_finished (Finished job) waiting = absurd (false≢true waiting)
 
   -- what waits is a waiting job
-  pub waits_is : (place : Place J) → waits place ≡ true → ((job : J) → place ≡ Waiting job → ⊥) → ⊥
+  pub waits_is : (place : JobState J) → waits place ≡ true → ((job : J) → place ≡ Waiting job → ⊥) → ⊥
   waits_is (Waiting job) waiting none = none job refl
   waits_is Out waiting none = false≢true waiting
   waits_is (Finished job) waiting none = false≢true waiting
 
   -- who waits is one of the jobs
-  pub waits_within : (places : List (Place J)) (n : ℕ) → waits (place_of places n) ≡ true → n < length places
+  pub waits_within : (places : List (JobState J)) (n : ℕ) → waits (job_place places n) ≡ true → n < length places
   waits_within places n waiting =
       ⊎_elim (λ (within : n < length places). within)
       (λ (past : length places ≤ n). absurd (false≢true (sym (ap waits (get_or_past places n Out past)) ∙ waiting)))
       (cases_lt n (length places))
 
   -- what was read at a number is its place
-  pub place_of_read : (places : List (Place J)) (n : ℕ) (x : Place J) → n < length places → x ≡ get_or places n x → place_of places n ≡ x
+  pub place_of_read : (places : List (JobState J)) (n : ℕ) (x : JobState J) → n < length places → x ≡ get_or places n x → job_place places n ≡ x
   place_of_read places n x within is = get_or_default places n Out x within ∙ sym is
 
   -- what holds of the new place and of each other one holds of each after the change
-  each_set : (P : ℕ → Place J → Type 0) (places : List (Place J)) (n : ℕ) (new : Place J) → n < length places → P n new → ((k : ℕ) → k ≢ n → P k (place_of places k)) → (k : ℕ) → P k (place_of (set places n new) k)
+  each_set : (P : ℕ → JobState J → Type 0) (places : List (JobState J)) (n : ℕ) (new : JobState J) → n < length places → P n new → ((k : ℕ) → k ≢ n → P k (job_place places k)) → (k : ℕ) → P k (job_place (set places n new) k)
   each_set P places n new within here others k =
       ⊎_elim
-      (λ (same : k ≡ n). subst (P k) (sym (ap (place_of (set places n new)) same ∙ get_or-set_same places n new Out within)) (subst (λ (m : ℕ). P m new) (sym same) here))
+      (λ (same : k ≡ n). subst (P k) (sym (ap (job_place (set places n new)) same ∙ get_or-set_same places n new Out within)) (subst (λ (m : ℕ). P m new) (sym same) here))
       (λ (other : k ≢ n). subst (P k) (sym (get_or-set_other places n k new Out other)) (others k other))
       (cases_eq k n)
 
   -- a count after one place has changed
-  count_set : (p : Place J → Bool) (places : List (Place J)) (n : ℕ) (new : Place J) → n < length places → count_by p (set places n new) + one_if (p (place_of places n)) ≡ count_by p places + one_if (p new)
-  count_set p places n new within = sum_by-set (λ (x : Place J). one_if (p x)) places n new Out within
+  count_set : (p : JobState J → Bool) (places : List (JobState J)) (n : ℕ) (new : JobState J) → n < length places → count_by p (set places n new) + one_if (p (job_place places n)) ≡ count_by p places + one_if (p new)
+  count_set p places n new within = sum_by-set (λ (x : JobState J). one_if (p x)) places n new Out within
 
   -- jobs that all wait
-  waits-map : (jobs : List J) (k : ℕ) → k < length jobs → waits (place_of (map Waiting jobs) k) ≡ true
+  waits-map : (jobs : List J) (k : ℕ) → k < length jobs → waits (job_place (map Waiting jobs) k) ≡ true
   waits-map [] k within = absurd (omega arith)
   waits-map (j ∷ js) zero within = refl
   waits-map (j ∷ js) (suc k) within = waits-map js k (omega arith)
 
-  waits-map_past : (jobs : List J) (k : ℕ) → length jobs ≤ k → waits (place_of (map Waiting jobs) k) ≡ false
+  waits-map_past : (jobs : List J) (k : ℕ) → length jobs ≤ k → waits (job_place (map Waiting jobs) k) ≡ false
   waits-map_past jobs k past = ap waits (get_or_past (map Waiting jobs) k Out (omega (arith, length-map jobs (λ (j : J). Waiting j))))
 
   count-waits-map : (jobs : List J) → count_by waits (map Waiting jobs) ≡ length jobs
   count-waits-map [] = refl
-  count-waits-map (j ∷ js) = omega (arith, sum_by-cons (λ (x : Place J). one_if (waits x)) (Waiting j) (map Waiting js), count-waits-map js)
+  count-waits-map (j ∷ js) = omega (arith, sum_by-cons (λ (x : JobState J). one_if (waits x)) (Waiting j) (map Waiting js), count-waits-map js)
 
   pub finished_count-map : (jobs : List J) → finished_count (map Waiting jobs) ≡ 0
   finished_count-map [] = refl
-  finished_count-map (j ∷ js) = omega (arith, sum_by-cons (λ (x : Place J). one_if (has_finished x)) (Waiting j) (map Waiting js), finished_count-map js)
+  finished_count-map (j ∷ js) = omega (arith, sum_by-cons (λ (x : JobState J). one_if (has_finished x)) (Waiting j) (map Waiting js), finished_count-map js)
 
   Some_is : (a b : J) → Some a ≡ Some b → a ≡ b
   Some_is a b same = cc
@@ -123,18 +123,18 @@ module _ {J : Type 0} (number_of : J → ℕ) (is_done : J → Bool) where
             λ k job at.
             ⊎_elim
             (λ (within : k < length jobs).
-            let here : place_of (map Waiting jobs) k ≡ Waiting (get_or jobs k job) = get_or-map Waiting jobs k job Out within in
+            let here : job_place (map Waiting jobs) k ≡ Waiting (get_or jobs k job) = get_or-map Waiting jobs k job Out within in
             ap number_of (Some_is job (get_or jobs k job) (sym at ∙ ap job_of here)) ∙ numbered k job within)
             (λ (past : length jobs ≤ k).
-            let here : place_of (map Waiting jobs) k ≡ Out = get_or_past (map Waiting jobs) k Out (omega (arith, length-map jobs (λ (j : J). Waiting j))) in
+            let here : job_place (map Waiting jobs) k ≡ Out = get_or_past (map Waiting jobs) k Out (omega (arith, length-map jobs (λ (j : J). Waiting j))) in
             let none : None ≡ Some job = sym (ap job_of here) ∙ at in
             absurd (cc))
             (cases_lt k (length jobs));
         done =
             λ k job at.
-            let ended : has_finished (place_of (map Waiting jobs) k) ≡ true = ap has_finished at in
+            let ended : has_finished (job_place (map Waiting jobs) k) ≡ true = ap has_finished at in
             absurd (⊎_elim
-            (λ (within : k < length jobs). false≢true (sym (waits_not_finished (place_of (map Waiting jobs) k) (waits-map jobs k within)) ∙ ended))
+            (λ (within : k < length jobs). false≢true (sym (waits_not_finished (job_place (map Waiting jobs) k) (waits-map jobs k within)) ∙ ended))
             (λ (past : length jobs ≤ k). false≢true (sym (ap has_finished (get_or_past (map Waiting jobs) k Out (omega (arith, length-map jobs (λ (j : J). Waiting j))))) ∙ ended))
             (cases_lt k (length jobs)));
       }
@@ -152,19 +152,19 @@ module _ {J : Type 0} (number_of : J → ℕ) (is_done : J → Bool) where
         counted = length-range_with_len 0 (length jobs) ∙ sym (count-waits-map jobs);
       }
 
-  module _ (places : List (Place J)) (order : List ℕ) (sound : IsSound number_of is_done places order) where
+  module _ (places : List (JobState J)) (order : List ℕ) (sound : IsSound number_of is_done places order) where
     -- the first number of the order waits
-    pub first_waits : (n : ℕ) (rest : List ℕ) → order ≡ n ∷ rest → waits (place_of places n) ≡ true
+    pub first_waits : (n : ℕ) (rest : List ℕ) → order ≡ n ∷ rest → waits (job_place places n) ≡ true
     first_waits n rest is =
-        let line : times n (n ∷ rest) ≡ one_if (waits (place_of places n)) = sym (ap (times n) is) ∙ sound.line n in
+        let line : times n (n ∷ rest) ≡ one_if (waits (job_place places n)) = sym (ap (times n) is) ∙ sound.line n in
         let here = one_if-same n in
-        ⊎_elim (λ (waiting : waits (place_of places n) ≡ true). waiting)
-        (λ (idle : waits (place_of places n) ≡ false).
-        let none : one_if (waits (place_of places n)) ≡ 0 = ap one_if idle in
+        ⊎_elim (λ (waiting : waits (job_place places n) ≡ true). waiting)
+        (λ (idle : waits (job_place places n) ≡ false).
+        let none : one_if (waits (job_place places n)) ≡ 0 = ap one_if idle in
         absurd (omega (arith, times-cons n n rest)))
-        (cases_Bool (waits (place_of places n)))
+        (cases_Bool (waits (job_place places n)))
 
-    placed_set : (n : ℕ) (new : Place J) → n < length places → ((job : J) → job_of new ≡ Some job → number_of job ≡ n) → ((job : J) → new ≡ Finished job → is_done job ≡ true) → ArePlaced number_of is_done (set places n new)
+    placed_set : (n : ℕ) (new : JobState J) → n < length places → ((job : J) → job_of new ≡ Some job → number_of job ≡ n) → ((job : J) → new ≡ Finished job → is_done job ≡ true) → ArePlaced number_of is_done (set places n new)
     placed_set n new within number done =
         record {
           numbered = each_set (λ k place. (job : J) → job_of place ≡ Some job → number_of job ≡ k) places n new within number (λ k other. sound.placed.numbered k);
@@ -176,8 +176,8 @@ module _ {J : Type 0} (number_of : J → ℕ) (is_done : J → Bool) where
     sound_taken n rest is =
         let waiting = first_waits n rest is in
         let within = waits_within places n waiting in
-        let old : one_if (waits (place_of places n)) ≡ 1 = ap one_if waiting in
-        let whole : (k : ℕ) → one_if (eqb n k) + times k rest ≡ one_if (waits (place_of places k)) = λ k. sym (times-cons k n rest) ∙ sym (ap (times k) is) ∙ sound.line k in
+        let old : one_if (waits (job_place places n)) ≡ 1 = ap one_if waiting in
+        let whole : (k : ℕ) → one_if (eqb n k) + times k rest ≡ one_if (waits (job_place places k)) = λ k. sym (times-cons k n rest) ∙ sym (ap (times k) is) ∙ sound.line k in
         record {
           placed = placed_set n Out within (λ job at. absurd (cc)) (λ job at. absurd (cc));
           line =
@@ -190,14 +190,14 @@ module _ {J : Type 0} (number_of : J → ℕ) (is_done : J → Bool) where
     pub finished_taken : (n : ℕ) (rest : List ℕ) → order ≡ n ∷ rest → finished_count (set places n Out) ≡ finished_count places
     finished_taken n rest is =
         let waiting = first_waits n rest is in
-        let old : one_if (has_finished (place_of places n)) ≡ 0 = ap one_if (waits_not_finished (place_of places n) waiting) in
+        let old : one_if (has_finished (job_place places n)) ≡ 0 = ap one_if (waits_not_finished (job_place places n) waiting) in
         omega (arith, count_set has_finished places n Out (waits_within places n waiting))
 
-    module _ (n : ℕ) (job : J) (within : n < length places) (out : place_of places n ≡ Out) (number : number_of job ≡ n) where
+    module _ (n : ℕ) (job : J) (within : n < length places) (out : job_place places n ≡ Out) (number : number_of job ≡ n) where
       -- a job comes back
       pub sound_given : IsSound number_of is_done (set places n (Waiting job)) (order ++ n ∷ [])
       sound_given =
-          let idle : one_if (waits (place_of places n)) ≡ 0 = ap (λ (p : Place J). one_if (waits p)) out in
+          let idle : one_if (waits (job_place places n)) ≡ 0 = ap (λ (p : JobState J). one_if (waits p)) out in
           record {
             placed = placed_set n (Waiting job) within (λ other at. ap number_of (sym (Some_is job other at)) ∙ number) (λ other at. absurd (cc));
             line =
@@ -214,13 +214,13 @@ module _ {J : Type 0} (number_of : J → ℕ) (is_done : J → Bool) where
 
       pub finished_given : finished_count (set places n (Waiting job)) ≡ finished_count places
       finished_given =
-          let old : one_if (has_finished (place_of places n)) ≡ 0 = ap (λ (p : Place J). one_if (has_finished p)) out in
+          let old : one_if (has_finished (job_place places n)) ≡ 0 = ap (λ (p : JobState J). one_if (has_finished p)) out in
           omega (arith, count_set has_finished places n (Waiting job) within)
 
       -- a job finishes
       pub sound_ended : is_done job ≡ true → IsSound number_of is_done (set places n (Finished job)) order
       sound_ended done =
-          let idle : one_if (waits (place_of places n)) ≡ 0 = ap (λ (p : Place J). one_if (waits p)) out in
+          let idle : one_if (waits (job_place places n)) ≡ 0 = ap (λ (p : JobState J). one_if (waits p)) out in
           record {
             placed = placed_set n (Finished job) within (λ other at. ap number_of (sym (Some_is job other at)) ∙ number) (λ other at. (let same : job ≡ other = cc in ap is_done (sym same) ∙ done));
             line =
@@ -232,7 +232,7 @@ module _ {J : Type 0} (number_of : J → ℕ) (is_done : J → Bool) where
 
       pub finished_ended : finished_count (set places n (Finished job)) ≡ finished_count places + 1
       finished_ended =
-          let old : one_if (has_finished (place_of places n)) ≡ 0 = ap (λ (p : Place J). one_if (has_finished p)) out in
+          let old : one_if (has_finished (job_place places n)) ≡ 0 = ap (λ (p : JobState J). one_if (has_finished p)) out in
           omega (arith, count_set has_finished places n (Finished job) within)
 
   -- the jobs gathered so far, and the next one
@@ -245,20 +245,20 @@ module _ {J : Type 0} (number_of : J → ℕ) (is_done : J → Bool) where
       ap number_of (get_or_push room job d k last) ∙ number ∙ last)
       (cases_lt k (length room))
 
-  finished_is_done : (place : Place J) (job : J) → job_of place ≡ Some job → ((other : J) → place ≡ Finished other → is_done other ≡ true) → one_if (has_finished place) ≤ one_if (is_done job)
+  finished_is_done : (place : JobState J) (job : J) → job_of place ≡ Some job → ((other : J) → place ≡ Finished other → is_done other ≡ true) → one_if (has_finished place) ≤ one_if (is_done job)
   finished_is_done (Waiting other) job at done = omega arith
   finished_is_done Out job at done = omega arith
   finished_is_done (Finished other) job at done =
       let one : one_if (is_done job) ≡ 1 = ap (λ (j : J). one_if (is_done j)) (sym (Some_is other job at)) ∙ ap one_if (done other refl) in
       omega arith
 
-  pub gathers_more : (places : List (Place J)) → ArePlaced number_of is_done places → (passed : List (Place J)) (room : List J) (place : Place J) (job : J) → length passed < length places → place ≡ get_or places (length passed) place → job_of place ≡ Some job → Gathers number_of is_done passed room → Gathers number_of is_done (passed ++ place ∷ []) (room ++ job ∷ [])
+  pub gathers_more : (places : List (JobState J)) → ArePlaced number_of is_done places → (passed : List (JobState J)) (room : List J) (place : JobState J) (job : J) → length passed < length places → place ≡ get_or places (length passed) place → job_of place ≡ Some job → Gathers number_of is_done passed room → Gathers number_of is_done (passed ++ place ∷ []) (room ++ job ∷ [])
   gathers_more places placed passed room place job within is at so_far =
-      let here : place_of places (length passed) ≡ place = get_or_default places (length passed) Out place within ∙ sym is in
+      let here : job_place places (length passed) ≡ place = get_or_default places (length passed) Out place within ∙ sym is in
       let number : number_of job ≡ length passed = placed.numbered (length passed) job (ap job_of here ∙ at) in
       let done = finished_is_done place job at (λ other same. placed.done (length passed) other (here ∙ same)) in
       record {
         numbered = numbered_more room job so_far.numbered (number ∙ sym so_far.all);
         all = omega (arith, length_push room job, length_push passed place, so_far.all);
-        enough = omega (arith, sum_by_push (λ (x : Place J). one_if (has_finished x)) passed place, sum_by_push (λ (j : J). one_if (is_done j)) room job, so_far.enough);
+        enough = omega (arith, sum_by_push (λ (x : JobState J). one_if (has_finished x)) passed place, sum_by_push (λ (j : J). one_if (is_done j)) room job, so_far.enough);
       }

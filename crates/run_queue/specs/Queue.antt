@@ -1,50 +1,50 @@
 -- What is seen of the jobs.
 use Rattle.std.specs.Prelude.{◌≡◌, ◌==◌, ◌<◌, ◌≤◌, ℕ, Bool, true, false, List, [], ◌∷◌, ◌++◌, Option, Some, None, length, count_by, slice_index_or, slice_set, if◌then◌else◌}
-use Rattle.run_queue.specs.declared.jobs.Place.{Place}
-use Rattle.run_queue.specs.declared.jobs.Place.TheVariants.{Waiting, Out, Finished}
+use Rattle.run_queue.specs.declared.jobs.JobState.{JobState}
+use Rattle.run_queue.specs.declared.jobs.JobState.TheVariants.{Waiting, Out, Finished}
 use Rattle.run_queue.specs.declared.jobs.Taken.{Taken}
 use Rattle.run_queue.specs.declared.jobs.Taken.TheVariants.{Took, Nothing, AllDone}
 
 -- where the job of each number is, the numbers that wait in the order in which they are taken, and how many jobs have to finish
 pub record Queue (J : Type 0) : Type 0 where
-  pub places : List (Place J)
+  pub places : List (JobState J)
   pub order : List ℕ
   pub unfinished : ℕ
 
 module _ {J : Type 0} where
   -- the place of a number; a number that no job has counts as out
-  abbrev pub place_of : List (Place J) → ℕ → Place J
-  place_of places number = slice_index_or places number Out
+  abbrev pub job_place : List (JobState J) → ℕ → JobState J
+  job_place places number = slice_index_or places number Out
 
   -- a job's number is out
-  abbrev pub IsOut : List (Place J) → ℕ → Type 0
-  IsOut places number = (number < length places) × (place_of places number ≡ Out)
+  abbrev pub IsOut : List (JobState J) → ℕ → Type 0
+  IsOut places number = (number < length places) × (job_place places number ≡ Out)
 
   -- does the job wait
-  abbrev pub waits : Place J → Bool
+  abbrev pub waits : JobState J → Bool
   waits (Waiting job) = true
   waits Out = false
   waits (Finished job) = false
 
   -- has the job finished
-  abbrev pub has_finished : Place J → Bool
+  abbrev pub has_finished : JobState J → Bool
   has_finished (Waiting job) = false
   has_finished Out = false
   has_finished (Finished job) = true
 
   -- the job that is there
-  abbrev pub job_of : Place J → Option J
+  abbrev pub job_of : JobState J → Option J
   job_of (Waiting job) = Some job
   job_of Out = None
   job_of (Finished job) = Some job
 
   -- how many jobs have finished
-  abbrev pub finished_count : List (Place J) → ℕ
+  abbrev pub finished_count : List (JobState J) → ℕ
   finished_count places = count_by has_finished places
 
   -- the numbers that wait stand in the order once each, and no others do
-  abbrev pub IsLineOf : List (Place J) → List ℕ → Type 0
-  IsLineOf places order = (k : ℕ) → count_by (λ n. n == k) order ≡ (if waits (place_of places k) then 1 else 0)
+  abbrev pub IsLineOf : List (JobState J) → List ℕ → Type 0
+  IsLineOf places order = (k : ℕ) → count_by (λ n. n == k) order ≡ (if waits (job_place places k) then 1 else 0)
 
   abbrev pub IsLine : Queue J → Type 0
   IsLine q = IsLineOf q.places q.order
@@ -79,12 +79,12 @@ module _ {J : Type 0} (number_of : J → ℕ) where
   -- the job that was first in the order has gone out, and nothing else has changed
   pub record Takes (old new : Queue J) (job : J) : Type 0 where
     pub first : old.order ≡ number_of job ∷ new.order
-    pub waited : place_of old.places (number_of job) ≡ Waiting job
+    pub waited : job_place old.places (number_of job) ≡ Waiting job
     pub out : new.places ≡ slice_set old.places (number_of job) Out
     pub unfinished : new.unfinished ≡ old.unfinished
 
   -- these are the jobs of all places by number, and at least those that have finished are done
-  pub record Gathers (is_done : J → Bool) (places : List (Place J)) (jobs : List J) : Type 0 where
+  pub record Gathers (is_done : J → Bool) (places : List (JobState J)) (jobs : List J) : Type 0 where
     pub numbered : AreNumbered jobs
     pub all : length jobs ≡ length places
     pub enough : finished_count places ≤ count_by is_done jobs

@@ -1,17 +1,17 @@
 -- What is always true of the jobs.
 use Rattle.std.specs.Prelude.{◌≡◌, ℕ, Bool, true, List, Some, length, count_by}
-use Rattle.run_queue.specs.declared.jobs.Place.{Place}
-use Rattle.run_queue.specs.declared.jobs.Place.TheVariants.{Finished}
-use Rattle.run_queue.specs.Queue.{place_of, waits, job_of, IsLineOf}
+use Rattle.run_queue.specs.declared.jobs.JobState.{JobState}
+use Rattle.run_queue.specs.declared.jobs.JobState.TheVariants.{Finished}
+use Rattle.run_queue.specs.Queue.{job_place, waits, job_of, IsLineOf}
 
 module _ {J : Type 0} (number_of : J → ℕ) (is_done : J → Bool) where
   -- each job is at its number, and who has finished is done
-  pub record ArePlaced (places : List (Place J)) : Type 0 where
-    pub numbered : (k : ℕ) (job : J) → job_of (place_of places k) ≡ Some job → number_of job ≡ k
-    pub done : (k : ℕ) (job : J) → place_of places k ≡ Finished job → is_done job ≡ true
+  pub record ArePlaced (places : List (JobState J)) : Type 0 where
+    pub numbered : (k : ℕ) (job : J) → job_of (job_place places k) ≡ Some job → number_of job ≡ k
+    pub done : (k : ℕ) (job : J) → job_place places k ≡ Finished job → is_done job ≡ true
 
   -- besides, the order has just those that wait
-  pub record IsSound (places : List (Place J)) (order : List ℕ) : Type 0 where
+  pub record IsSound (places : List (JobState J)) (order : List ℕ) : Type 0 where
     pub placed : ArePlaced places
     pub line : IsLineOf places order
     pub counted : length order ≡ count_by waits places

@@ -32,20 +32,20 @@ pub trait Job: Drop {
 
 /// Where the job of a number is: it waits, is out with a worker, or has finished.
 #[derive(Drop)]
-pub enum Place<J> {
+pub enum JobState<J> {
     Waiting(J),
     Out,
     Finished(J),
 }
 
-impl<J> Place<J> {
+impl<J> JobState<J> {
     fn into_job(self) -> Option<J>
         ensures { result ≡ job_of self }
     {
         match self {
-            Place::Waiting(job) => Some(job),
-            Place::Out => None,
-            Place::Finished(job) => Some(job),
+            JobState::Waiting(job) => Some(job),
+            JobState::Out => None,
+            JobState::Finished(job) => Some(job),
         }
     }
 }
@@ -61,7 +61,7 @@ pub enum Taken<J> {
 /// Jobs, each at the place of its number.
 #[derive(Drop)]
 pub struct Jobs<J: Job> {
-    places: Vec<Place<J>>,
+    places: Vec<JobState<J>>,
     order: VecDeque<usize>,
     finished: usize,
     unfinished: u32,
@@ -92,22 +92,22 @@ fn make_order(alloc: Global, count: usize) -> Result<VecDeque<usize>, Memory>
     Ok(order)
 }
 
-fn make_places<J: Drop>(alloc: Global, jobs: Vec<J>) -> Result<Vec<Place<J>>, AllocError>
-    ensures { IfOk result (λ v. v.items ≡ map Place.Waiting jobs.items) }
+fn make_places<J: Drop>(alloc: Global, jobs: Vec<J>) -> Result<Vec<JobState<J>>, AllocError>
+    ensures { IfOk result (λ v. v.items ≡ map JobState.Waiting jobs.items) }
 {
     jobs.into_iter()
-        .map(|job| Place::Waiting(job))
+        .map(|job| JobState::Waiting(job))
         .collect(alloc)
 }
 
-fn is_out<J>(places: &[Place<J>], number: usize) -> bool
+fn is_out<J>(places: &[JobState<J>], number: usize) -> bool
     ensures { IsTrue result ↔ IsOut places.now number }
 {
-    matches!(places.get(number), Some(Place::Out))
+    matches!(places.get(number), Some(JobState::Out))
 }
 
 // All jobs, where none is out.
-fn gather<J: Job>(places: Vec<Place<J>>, mut room: Vec<J>) -> Option<Vec<J>>
+fn gather<J: Job>(places: Vec<JobState<J>>, mut room: Vec<J>) -> Option<Vec<J>>
     requires placed { ArePlaced J.number_of J.is_done places.items }
     requires empty { room.items ≡ [] }
     requires fits { length places.items ≤ vec_capacity room }
@@ -125,7 +125,7 @@ impl<J: Job> Jobs<J> {
     pub fn new(alloc: Global, jobs: Vec<J>, unfinished: u32) -> Result<Jobs<J>, Memory>
         requires { AreNumbered J.number_of jobs.items }
         ensures { IfOk result (λ q. q ≡ record {
-          places = map Place.Waiting jobs.items;
+          places = map JobState.Waiting jobs.items;
           order = range_with_len 0 (length jobs.items);
           unfinished = unfinished;
         }) }
@@ -163,7 +163,7 @@ impl<J: Job> Jobs<J> {
         let Some(number) = self.order.pop_front() else {
             return Taken::Nothing;
         };
-        let Place::Waiting(job) = mem::replace(&mut self.places[number], Place::Out) else {
+        let JobState::Waiting(job) = mem::replace(&mut self.places[number], JobState::Out) else {
             unreachable!()
         };
         Taken::Took(job)
@@ -177,7 +177,7 @@ impl<J: Job> Jobs<J> {
     {
         let number = job.number() as usize;
         if is_out(&self.places, number) {
-            self.places[number] = Place::Waiting(job);
+            self.places[number] = JobState::Waiting(job);
             self.order.push_back_reserved(number);
         }
     }
@@ -191,7 +191,7 @@ impl<J: Job> Jobs<J> {
     {
         let number = job.number() as usize;
         if is_out(&self.places, number) {
-            self.places[number] = Place::Finished(job);
+            self.places[number] = JobState::Finished(job);
             self.finished += 1;
         }
     }

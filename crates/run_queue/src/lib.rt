@@ -1,7 +1,7 @@
 //! A queue of jobs that workers take, give a turn, and give back, until enough of them have finished.
 //!
 //! - A `Job` has a number and tells whether it is done.
-//! - `Jobs<J>` has each job at a `Place`: it waits, is out with a worker, or has finished. Contracts see
+//! - `Jobs<J>` has each job at a `JobState`: it waits, is out with a worker, or has finished. Contracts see
 //!   the places by number, the order of the numbers that wait, and how many jobs have to finish.
 //! - `RunQueue<J>` is the same for threads, under a lock. Who hands in a job can take the next one under
 //!   the same lock.
@@ -15,5 +15,5 @@
 mod jobs;
 mod queue;
 
-pub use jobs::{Job, Jobs, Place, Taken};
+pub use jobs::{Job, JobState, Jobs, Taken};
 pub use queue::RunQueue;

@@ -6,7 +6,7 @@ use Rattle.tlm_model.specs.declared.operation.Operation.TheVariants.{Write, Read
 use Rattle.tlm_model.specs.Requests.{numbers_of}
 use Rattle.traffic_script.specs.Progress.{Progress, advanced}
 use Rattle.traffic_script.specs.Proper.{AreProper, IsProper}
-use Rattle.script_engine.specs.State.{Due, State, begun, due_after, due_at, is_fenced, length_of, op_at, op_for, op_of, passed_by, told_by}
+use Rattle.script_engine.specs.State.{Due, State, begun_engine, due_after, due_at, is_fenced, length_of, op_at, op_for, op_of, passed_by, told_by}
 use Rattle.script_engine.specs.Asking.{numbers_due}
 use Rattle.script_engine.specs.Ready.{HasBytes, IsReady}
 use Rattle.script_engine.proofs.Remaining.{IsFirst, drop_past, few_numbers, left, left_advanced}
@@ -48,7 +48,7 @@ module _ (n seq : ℕ) (due : Option Due) (p : Progress) (b : Bool) (now : State
       let done : is_fenced (op_of now) ≡ false = rw (← is, none, drop_past p.operations p.done (sym past)) refl in
       cc
 
-pub ready_begun : (n : ℕ) (script : List Operation) → AreProper script → IsReady (begun n script)
+pub ready_begun : (n : ℕ) (script : List Operation) → AreProper script → IsReady (begun_engine n script)
 ready_begun n script proper = record { numbered = omega (arith, few_numbers script, proper.few); due = tt; proper = proper.each }
 
 passed_ready : (n seq : ℕ) (due : Option Due) (ops : List Operation) (b : Bool) → is_fenced (op_at seq due ops) ≡ false →

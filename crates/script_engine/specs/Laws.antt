@@ -9,15 +9,15 @@ use Rattle.tlm_model.specs.Requests.{end_of, numbers_in, requests_of}
 use Rattle.tlm_model.specs.Rounds.{syncs_from}
 use Rattle.script_engine.specs.declared.op.Op.TheVariants.{Access, Debug, Done}
 use Rattle.generic_payload.specs.Payload.{PayloadView}
-use Rattle.script_engine.specs.State.{State, begun, op_of, is_fenced, payload_of, told_by, passed_by}
+use Rattle.script_engine.specs.State.{State, begun_engine, op_of, is_fenced, payload_of, told_by, passed_by}
 use Rattle.script_engine.specs.Asking.{IsAnswered, asked_by, end_at, numbers_at, requests_at, stage_after, syncs_at, syncs_then, time_after_op}
 
 -- a new engine is to ask for all that its script asks for
 pub record BeginsAtTheStart : Type 0 where
-  pub requests : (p : Platform) (i : Initiator) (h : List Entry) (n : ℕ) → requests_at p i h 0 0 (begun n i.script) ≡ requests_of p i h
-  pub end : (p : Platform) (i : Initiator) (n : ℕ) → end_at p i 0 (begun n i.script) ≡ end_of p i
-  pub syncs : (p : Platform) (i : Initiator) (n : ℕ) → syncs_at p i 0 0 (begun n i.script) ≡ syncs_from p i 0 0 i.script
-  pub numbers : (i : Initiator) (n : ℕ) → numbers_at (begun n i.script) ≡ numbers_in i.script
+  pub requests : (p : Platform) (i : Initiator) (h : List Entry) (n : ℕ) → requests_at p i h 0 0 (begun_engine n i.script) ≡ requests_of p i h
+  pub end : (p : Platform) (i : Initiator) (n : ℕ) → end_at p i 0 (begun_engine n i.script) ≡ end_of p i
+  pub syncs : (p : Platform) (i : Initiator) (n : ℕ) → syncs_at p i 0 0 (begun_engine n i.script) ≡ syncs_from p i 0 0 i.script
+  pub numbers : (i : Initiator) (n : ℕ) → numbers_at (begun_engine n i.script) ≡ numbers_in i.script
 
 -- passing what is next asks for its request, and what is to be asked for after that is the rest
 pub record PassesInOrder : Type 0 where

@@ -29,8 +29,8 @@ pub record State : Type 0 where
   pub ended : Bool
 
 -- an engine that has a script before it
-abbrev pub begun : ℕ → List Operation → State
-begun initiator script = record { initiator = initiator; seq = 0; due = None; remaining = script; ended = false }
+abbrev pub begun_engine : ℕ → List Operation → State
+begun_engine initiator script = record { initiator = initiator; seq = 0; due = None; remaining = script; ended = false }
 
 -- without byte enables and without a streaming width of its own
 abbrev pub is_plain : List ℕ → Option ℕ → Bool

@@ -1,6 +1,6 @@
 // The engine.
 ghost use Rattle.std.specs.Prelude.{◌≡◌, ◌≤◌, length, true, false};
-ghost use Rattle.script_engine.specs.State.{begun, is_fenced, length_of, op_of, passed_by, payload_of, told_by};
+ghost use Rattle.script_engine.specs.State.{begun_engine, is_fenced, length_of, op_of, passed_by, payload_of, told_by};
 
 use crate::buffer::Buffer;
 use crate::op::Op;
@@ -37,7 +37,7 @@ impl Model for Engine {
 impl Engine {
     /// An engine with a whole script before it. Its sequence numbers count from 0.
     pub fn new(initiator: u32, script: Script) -> Engine
-        ensures { result ≡ begun initiator script }
+        ensures { result ≡ begun_engine initiator script }
     {
         Engine {
             initiator,

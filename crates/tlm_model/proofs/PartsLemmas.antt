@@ -13,7 +13,7 @@ use Rattle.tlm_model.specs.declared.platform.MemoryRow.{MemoryRow}
 use Rattle.tlm_model.specs.declared.platform.Platform.{Platform}
 use Rattle.tlm_model.specs.Store.{store_after}
 use Rattle.tlm_model.specs.History.{Store, after, is_object, entries_at, IsAnswer, IsLegalEntry, IsLegalFrom, store_from}
-use Rattle.tlm_model.specs.Log.{bytes_after, bytes_from, IsAnswered, IsLogFrom}
+use Rattle.tlm_model.specs.Log.{bytes_after, bytes_from, AnswersByBytes, IsLogFrom}
 
 -- an access stands at a memory that there is
 abbrev pub HasMemory : Platform → ObjectNo → What → Type 0
@@ -48,15 +48,15 @@ rest_at : (t : MemoryTraits) (b : Bool) (e : Entry) (bytes : List ℕ) (rest : L
 rest_at t true e bytes rest h = h.1
 rest_at t false e bytes rest h = h
 
-first_at : (t : MemoryTraits) (b : Bool) (e : Entry) (bytes : List ℕ) (rest : List Entry) → IsLogFrom t bytes (cond b (e ∷ rest) rest) → b ≡ true → IsAnswered t bytes e.what
+first_at : (t : MemoryTraits) (b : Bool) (e : Entry) (bytes : List ℕ) (rest : List Entry) → IsLogFrom t bytes (cond b (e ∷ rest) rest) → b ≡ true → AnswersByBytes t bytes e.what
 first_at t true e bytes rest h q = h.0
 first_at t false e bytes rest h q = cc
 
-answer_at : (part : Option MemoryRow) (bytes : List ℕ) (way : _) (a : _) (r : _) (got : _) → IsSome part → ((p : MemoryRow) → part ≡ Some p → IsAnswered p.traits bytes (Accessed way a r got)) → IsAnswer part bytes way a r got
+answer_at : (part : Option MemoryRow) (bytes : List ℕ) (way : _) (a : _) (r : _) (got : _) → IsSome part → ((p : MemoryRow) → part ≡ Some p → AnswersByBytes p.traits bytes (Accessed way a r got)) → IsAnswer part bytes way a r got
 answer_at None bytes way a r got h f = cc
 answer_at (Some p) bytes way a r got h f = f p refl
 
-legal_at : (p : Platform) (s : Store) (o : ObjectNo) (w : What) → HasMemory p o w → ((m : ℕ) (part : MemoryRow) → slice_get p.memories m ≡ Some part → is_object (Memory m) o ≡ true → IsAnswered part.traits (s m) w) → IsLegalEntry p s o w
+legal_at : (p : Platform) (s : Store) (o : ObjectNo) (w : What) → HasMemory p o w → ((m : ℕ) (part : MemoryRow) → slice_get p.memories m ≡ Some part → is_object (Memory m) o ≡ true → AnswersByBytes part.traits (s m) w) → IsLegalEntry p s o w
 legal_at p s (Memory n) (Accessed way a r got) h f = answer_at (slice_get p.memories n) (s n) way a r got h (λ part q. f n part q (eq-eqb n n refl))
 legal_at p s (Memory n) (Granted g k l d) h f = tt
 legal_at p s (Memory n) (Invalidated k l) h f = tt

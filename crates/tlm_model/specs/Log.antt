@@ -19,13 +19,13 @@ bytes_from bytes (e ∷ es) = bytes_from (bytes_after e.what bytes) es
 abbrev pub log_bytes : MemoryTraits → List Entry → List ℕ
 log_bytes m log = bytes_from (zeros m.size) log
 
-abbrev pub IsAnswered : MemoryTraits → List ℕ → What → Type 0
-IsAnswered m bytes (Accessed way access status got) = (status ≡ status_of m way access) × (got ≡ got_of way status access bytes)
-IsAnswered m bytes w = Unit {0}
+abbrev pub AnswersByBytes : MemoryTraits → List ℕ → What → Type 0
+AnswersByBytes m bytes (Accessed way access status got) = (status ≡ status_of m way access) × (got ≡ got_of way status access bytes)
+AnswersByBytes m bytes w = Unit {0}
 
 abbrev pub IsLogFrom : MemoryTraits → List ℕ → List Entry → Type 0
 IsLogFrom m bytes [] = Unit {0}
-IsLogFrom m bytes (e ∷ es) = IsAnswered m bytes e.what × IsLogFrom m (bytes_after e.what bytes) es
+IsLogFrom m bytes (e ∷ es) = AnswersByBytes m bytes e.what × IsLogFrom m (bytes_after e.what bytes) es
 
 -- the statuses and bytes of a log are those of its memory
 abbrev pub IsLog : MemoryTraits → List Entry → Type 0

@@ -28,8 +28,8 @@ pub record Walk : Type 0 where
   pub latency : ℕ
   pub hops : List ℕ
 
-abbrev pub is_within : WindowRow → ℕ → Bool
-is_within w a = nat_le w.first a && nat_le a w.last
+abbrev pub window_has : WindowRow → ℕ → Bool
+window_has w a = nat_le w.first a && nat_le a w.last
 
 -- a window and its index
 pub record Found : Type 0 where
@@ -39,7 +39,7 @@ pub record Found : Type 0 where
 -- the first of these windows that has the address, where they are numbered from n
 abbrev pub window_of : ℕ → List WindowRow → ℕ → Option Found
 window_of n [] a = None
-window_of n (w ∷ ws) a = if is_within w a then Some (record { index = n; window = w }) else window_of (n + 1) ws a
+window_of n (w ∷ ws) a = if window_has w a then Some (record { index = n; window = w }) else window_of (n + 1) ws a
 
 -- The number of a router's window as a hop: the initiators' bindings come first, in order, and then the
 -- windows of each router in order.

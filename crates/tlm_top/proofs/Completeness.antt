@@ -2,7 +2,7 @@
 use Rattle.std.proofs.Common.{◌≡◌, ℕ, zero, suc, ◌<◌, ◌≤◌, List, [], ◌∷◌, length, take, Option, Some, None, Ok, Err, refl, ap, sym, subst, ◌∙◌, arith}
 use Rattle.std.specs.Prelude.{slice_get, IfSome}
 use Rattle.std.specs.List.{AllByRecursion}
-use Rattle.platform_file.specs.Reading.{Refusal}
+use Rattle.platform_file.specs.Reading.{PlatformRefusal}
 use Rattle.tlm_model.specs.declared.operation.Operation.{Operation}
 use Rattle.tlm_model.specs.declared.platform.InitiatorRow.{InitiatorRow}
 use Rattle.tlm_model.specs.declared.platform.Platform.{Platform}
@@ -72,14 +72,14 @@ next_script o command n row ample next =
     script_at o.files.holds ample.plan.platform.initiators ample.plan.scripts n row ample.scripts ample.asked.scripts
     (ap (λ (p : Platform). slice_get p.initiators n) (sym same) ∙ next.next)
 
-no_refused_file : (o : Outside) (command : CommandLine) (r : Refusal) → IsAmple o command → HasRefusedFile o.files.holds command r → ⊥
+no_refused_file : (o : Outside) (command : CommandLine) (r : PlatformRefusal) → IsAmple o command → HasRefusedFile o.files.holds command r → ⊥
 no_refused_file o (run file workers trace) r ample refused =
     let p = ample.asked.platform in
     let same = text_is o.files.holds file p.text refused.text ample.platform p.loaded refused.loaded in
     let wrong : Ok ample.plan.platform ≡ Err r = sym p.read ∙ (ap shaped_platform same ∙ refused.refused) in cc
 no_refused_file o (script file) r ample refused = refused
 
-no_refused_plan : (o : Outside) (command : CommandLine) (r : Refusal) → IsAmple o command → HasRefusedPlan o.files.holds command r → ⊥
+no_refused_plan : (o : Outside) (command : CommandLine) (r : PlatformRefusal) → IsAmple o command → HasRefusedPlan o.files.holds command r → ⊥
 no_refused_plan o command r ample refused =
     let same = platform_is o.files.holds command refused.plan.platform ample.plan.platform ample.platform refused.asked.platform ample.asked.platform in
     let scripts = scripts_are o.files.holds ample.plan.platform.initiators refused.plan.scripts ample.plan.scripts ample.scripts

@@ -2,7 +2,7 @@
 use Rattle.std.proofs.Common.{◌≡◌, ℕ, suc, ◌+◌, ◌≤◌, ◌^◌, arith, List, [], ◌∷◌, length, Result, Ok, Err, refl, ap, sym, subst, ◌∙◌}
 use Rattle.std.specs.List.{AllByRecursion}
 use Rattle.outside.specs.Causes.{Rose}
-use Rattle.platform_file.specs.Reading.{Refusal, Fails}
+use Rattle.platform_file.specs.Reading.{PlatformRefusal, Fails}
 use Rattle.tlm_types.specs.Reading.{◌>>=◌}
 use Rattle.platform_file.specs.declared.fault.PlatformFault.{PlatformFault}
 use Rattle.platform_file.specs.declared.fault.PlatformFault.TheVariants.{Refused, Memory}
@@ -35,7 +35,7 @@ AreScripts-proper h [] (s ∷ scripts) are = absurd are
 AreScripts-proper h (row ∷ rows) [] are = absurd are
 AreScripts-proper h (row ∷ rows) (s ∷ scripts) are = (script_proper are.0.text s are.0.read, AreScripts-proper h rows scripts are.1)
 
-within : (p q : Plan) (checked : Result (Unit {0}) Refusal) → (checked >>= λ _. Ok p) ≡ Ok q → (checked ≡ Ok tt) × (q ≡ p)
+within : (p q : Plan) (checked : Result (Unit {0}) PlatformRefusal) → (checked >>= λ _. Ok p) ≡ Ok q → (checked ≡ Ok tt) × (q ≡ p)
 within p q (Ok tt) is = (refl, let same : p ≡ q = cc in sym same)
 within p q (Err e) is = cc
 
@@ -49,7 +49,7 @@ planned_is h command p q shape platform scripts is =
       record { shape = shape; scripts = AreScripts-length h p.platform.initiators p.scripts scripts; proper = AreScripts-proper h p.platform.initiators p.scripts scripts; limits = w.0 },
     )
 
-refused : (p : Plan) (checked : Result (Unit {0}) Refusal) (r : Refusal) → (checked >>= λ _. Ok p) ≡ Err r → checked ≡ Err r
+refused : (p : Plan) (checked : Result (Unit {0}) PlatformRefusal) (r : PlatformRefusal) → (checked >>= λ _. Ok p) ≡ Err r → checked ≡ Err r
 refused p (Ok tt) r is = cc
 refused p (Err e) r is = let same : e ≡ r = cc in ap Err same
 

@@ -2,22 +2,22 @@
 use Rattle.std.specs.Prelude.{ℕ, List, [], ◌∷◌, Bool, true, false, codes}
 use Rattle.std.specs.Fmt.{decimal}
 use Rattle.std.specs.List.{concat}
-use Rattle.platform_file.specs.Code.{code_word as platform_word}
+use Rattle.platform_file.specs.Code.{platform_code_word as platform_word}
 use Rattle.platform_file.specs.declared.fault.PlatformFault.{PlatformFault}
 use Rattle.platform_file.specs.declared.fault.PlatformFault.TheVariants.{Refused, Memory}
-use Rattle.traffic_script.specs.Reading.{code_word as script_word}
+use Rattle.traffic_script.specs.Reading.{script_code_word as script_word}
 use Rattle.tlm_top.specs.declared.exit.Exit.{Exit}
 use Rattle.tlm_top.specs.declared.exit.Exit.TheVariants.{Done, Usage, PlatformRefused, ScriptRefused, ReadFault, WriteFault, NoMemory, TooLong}
 
-abbrev pub number_of : Exit → ℕ
-number_of (Done sealed) = 0
-number_of Usage = 1
-number_of (PlatformRefused code table key) = 2
-number_of (ScriptRefused initiator name line code) = 3
-number_of (ReadFault name) = 4
-number_of (WriteFault sealed) = 5
-number_of NoMemory = 6
-number_of (TooLong name) = 7
+abbrev pub exit_number : Exit → ℕ
+exit_number (Done sealed) = 0
+exit_number Usage = 1
+exit_number (PlatformRefused code table key) = 2
+exit_number (ScriptRefused initiator name line code) = 3
+exit_number (ReadFault name) = 4
+exit_number (WriteFault sealed) = 5
+exit_number NoMemory = 6
+exit_number (TooLong name) = 7
 
 -- what a fault of a platform is answered with
 abbrev pub exit_of : PlatformFault → Exit

@@ -3,7 +3,7 @@ use Rattle.std.specs.Prelude.{ℕ, ◌≡◌, List, take, Some, Err, slice_get}
 use Rattle.tlm_model.specs.declared.operation.Operation.{Operation}
 use Rattle.tlm_model.specs.declared.platform.InitiatorRow.{InitiatorRow}
 use Rattle.traffic_script.specs.Lines.{script_of}
-use Rattle.traffic_script.specs.Reading.{Refusal}
+use Rattle.traffic_script.specs.Reading.{ScriptRefusal}
 use Rattle.outside.specs.declared.traits.LoadFault.{LoadFault}
 use Rattle.outside.specs.declared.traits.LoadFault.TheVariants.{Failed, TooLong as load_too_long, Memory as load_memory}
 use Rattle.traffic_script.specs.declared.fault.ScriptFault.{ScriptFault}
@@ -25,7 +25,7 @@ IsFileFault f file (PlatformRefused code table key) = IsFileRefused f.holds file
 IsFileFault f file exit = IsLoadFault f file exit
 
 -- a text under this name is refused as a script
-pub record IsTextRefused (h : Holding) (name : List ℕ) (refusal : Refusal) : Type 0 where
+pub record IsTextRefused (h : Holding) (name : List ℕ) (refusal : ScriptRefusal) : Type 0 where
   pub text : List ℕ
   pub loaded : IsText h name text
   pub refused : script_of text ≡ Err refusal

@@ -2,7 +2,7 @@
 use Rattle.std.specs.Prelude.{ℕ, ◌≡◌, List, [], Bool}
 use Rattle.outside.specs.StreamState.{StreamState, collected, told_by}
 use Rattle.trace_print.specs.Writes.{SinkChange}
-use Rattle.tlm_top.specs.Exits.{number_of}
+use Rattle.tlm_top.specs.Exits.{exit_number}
 use Rattle.tlm_top.specs.declared.exit.Exit.{Exit}
 use Rattle.tlm_top.specs.declared.exit.Exit.TheVariants.{Done}
 
@@ -23,4 +23,4 @@ IsWritten exit s = Unit {0}
 
 -- the number of an answer
 abbrev pub IsExitNumber : ℕ → Type 0
-IsExitNumber n = (exit : Exit) × (n ≡ number_of exit)
+IsExitNumber n = (exit : Exit) × (n ≡ exit_number exit)

@@ -45,12 +45,12 @@ pub enum Exit {
 }
 
 impl Exit {
-    ghost use Rattle.tlm_top.specs.Exits.{number_of};
+    ghost use Rattle.tlm_top.specs.Exits.{exit_number};
 
     /// The number that the program ends with: 0 for Done, 1 for Usage, 2 for PlatformRefused, 3 for
     /// ScriptRefused, 4 for ReadFault, 5 for WriteFault, 6 for NoMemory, 7 for TooLong.
     pub fn number(&self) -> u8
-        ensures { result ≡ number_of self.now }
+        ensures { result ≡ exit_number self.now }
     {
         match self {
             Exit::Done(_) => 0,

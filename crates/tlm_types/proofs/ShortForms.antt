@@ -5,9 +5,9 @@ use Rattle.std.specs.Prelude.{map}
 use Rattle.tlm_types.specs.declared.log.item.Item.{Item}
 use Rattle.tlm_types.specs.declared.log.item.Item.TheVariants.{Access, Direct, Call, Take, Acquire, Release, Long}
 use Rattle.tlm_types.specs.declared.log.long.LongItem.{LongItem}
-use Rattle.tlm_types.specs.LogItem.{long_form, no_item, IsPlaced}
+use Rattle.tlm_types.specs.LogItem.{long_form, no_item, FitsItems}
 
-pub long_form-append : (long more : List LongItem) (item : Item) → IsPlaced (length long) item → long_form (long ++ more) item ≡ long_form long item
+pub long_form-append : (long more : List LongItem) (item : Item) → FitsItems (length long) item → long_form (long ++ more) item ≡ long_form long item
 long_form-append long more (Access way count access head) placed = refl
 long_form-append long more (Direct gate count access head) placed = refl
 long_form-append long more (Call phase answer initiator object head) placed = refl
@@ -16,7 +16,7 @@ long_form-append long more (Acquire initiator object slot head) placed = refl
 long_form-append long more (Release freed initiator object slot head) placed = refl
 long_form-append long more (Long place) placed = get_or_append_left long more no_item place placed
 
-pub long_forms-append : (long more : List LongItem) (items : List Item) → All (IsPlaced (length long)) items → map (long_form (long ++ more)) items ≡ map (long_form long) items
+pub long_forms-append : (long more : List LongItem) (items : List Item) → All (FitsItems (length long)) items → map (long_form (long ++ more)) items ≡ map (long_form long) items
 long_forms-append long more [] placed = refl
 long_forms-append long more (item ∷ items) placed =
     let first = long_form-append long more item (placed 0 item (omega arith)) in

@@ -14,7 +14,7 @@ use Rattle.tlm_types.specs.declared.words.Command.{Command}
 use Rattle.tlm_types.specs.declared.words.Way.{Way}
 use Rattle.tlm_types.specs.declared.words.Command.TheVariants.{Read, Write, Ignore}
 use Rattle.tlm_types.specs.Log.{access_by, entry_at, kept_of, kept_sent, plain_of, read_at, sent_by}
-use Rattle.tlm_types.specs.LogItem.{what_in, entry_of, entries_of, item_for, plain_in, stored_at, IsKept, IsLast}
+use Rattle.tlm_types.specs.LogItem.{what_in, item_entry, entries_of, item_for, plain_in, stored_at, IsKept, IsLast}
 
 -- a part of the bytes is the same after more were appended
 pub slice_range-append : (xs ys : List ℕ) (i j : ℕ) → i ≤ j → j ≤ length xs → slice_range (xs ++ ys) i j ≡ slice_range xs i j
@@ -63,7 +63,7 @@ what_in-last bytes sent enables got f s last =
 pub entries_of-access : (bytes sent enables got : List ℕ) (items : List LongItem) (head : Head) (f : Facts) (s : Span) → All (λ i. IsKept (length bytes) i.start i.event) items → IsLast (length bytes) (length sent) (length enables) (length got) s → entries_of (bytes ++ (sent ++ (enables ++ got))) (items ++ item_for head s.start (Access (stored_at f s)) ∷ []) ≡ entries_of bytes items ++ entry_at head (access_by f sent enables got) ∷ []
 entries_of-access bytes sent enables got items head f s kept last =
     let more = sent ++ (enables ++ got) in
-    let split = map-append (entry_of (bytes ++ more)) items (item_for head s.start (Access (stored_at f s)) ∷ []) in
+    let split = map-append (item_entry (bytes ++ more)) items (item_for head s.start (Access (stored_at f s)) ∷ []) in
     let before = entries_of-append bytes more items kept in
     let pushed = what_in-last bytes sent enables got f s last in
     rw (split, before, pushed) refl

@@ -84,11 +84,11 @@ abbrev pub what_in : List ℕ → ℕ → Event → What
 what_in bytes start (Simple plain) = plain_what plain
 what_in bytes start (Access a) = access_by (facts_in a) (slice_range bytes start a.enables_start) (slice_range bytes a.enables_start a.got_start) (slice_range bytes a.got_start a.end)
 
-abbrev pub entry_of : List ℕ → LongItem → Entry
-entry_of bytes item = entry_at (head_in item) (what_in bytes item.start item.event)
+abbrev pub item_entry : List ℕ → LongItem → Entry
+item_entry bytes item = entry_at (head_in item) (what_in bytes item.start item.event)
 
 abbrev pub entries_of : List ℕ → List LongItem → List Entry
-entries_of bytes items = map (entry_of bytes) items
+entries_of bytes items = map (item_entry bytes) items
 
 -- the bytes of an access lie among the first n
 abbrev pub IsKept : ℕ → ℕ → Event → Type 0
@@ -151,16 +151,16 @@ long_form long (items.Release freed initiator object slot head) = item_for (full
 long_form long (items.Long place) = get_or long place no_item
 
 -- a place is one of n long items, and the bytes of a short access end below 2^32
-abbrev pub IsPlaced : ℕ → Item → Type 0
-IsPlaced n (items.Access way count access head) = access.start + count < 2 ^ 32
-IsPlaced n (items.Direct gate count access head) = access.start + count < 2 ^ 32
-IsPlaced n (items.Long place) = place < n
-IsPlaced n item = Unit {0}
+abbrev pub FitsItems : ℕ → Item → Type 0
+FitsItems n (items.Access way count access head) = access.start + count < 2 ^ 32
+FitsItems n (items.Direct gate count access head) = access.start + count < 2 ^ 32
+FitsItems n (items.Long place) = place < n
+FitsItems n item = Unit {0}
 
 -- the short form of a long item, which needs no place
 pub record IsShortFor (whole : LongItem) (item : Item) : Type 0 where
   pub same : long_form [] item ≡ whole
-  pub placed : IsPlaced 0 item
+  pub placed : FitsItems 0 item
 
 -- the items of a log in their long form, and for how many there is room
 pub record ItemsView : Type 0 where
@@ -169,7 +169,7 @@ pub record ItemsView : Type 0 where
 
 -- lists of these items and long items, with room for so many
 pub record AreItems (items : List Item) (long : List LongItem) (room items_capacity long_capacity : ℕ) : Type 0 where
-  pub placed : All (IsPlaced (length long)) items
+  pub placed : All (FitsItems (length long)) items
   pub few : length long ≤ length items
   pub roomy : room ≤ items_capacity
   pub roomy_long : room ≤ long_capacity

@@ -10,13 +10,13 @@ use std::marker::Model;
 
 /// The tickets and the bytes of one object. Contracts see its number, and them as a pocket.
 #[derive(Drop)]
-pub struct Place {
+pub struct ObjectRights {
     object: u32,
     entries: Option<Token>,
     bytes: Option<Token>,
 }
 
-impl Model for Place {
+impl Model for ObjectRights {
     ghost use Rattle.std.specs.Prelude.{ℕ};
     ghost use Rattle.std.specs.Coded.{coded×, coded_ℕ};
     ghost use Rattle.token_book.specs.Account.{amount_of};
@@ -66,7 +66,7 @@ fn take_bytes(tokens: &Tokens, kept: &mut Option<Token>, object: u32, bytes: u64
     Some(tokens.part(kept, bytes))
 }
 
-impl Place {
+impl ObjectRights {
     /// The number of its object.
     pub fn object(&self) -> u32
         ensures { result ≡ self.now.0 }
@@ -96,19 +96,19 @@ impl Place {
     }
 
     /// The place of the token's owner, with this token alone.
-    pub fn of(token: Token) -> Place
+    pub fn of(token: Token) -> ObjectRights
         requires { token.name < 2 }
         ensures { result ≡ (token.owner, with_token token (no_pocket token.table)) }
     {
         let object = token.owner();
         if token.name() == 0 {
-            Place {
+            ObjectRights {
                 object,
                 entries: Some(token),
                 bytes: None,
             }
         } else {
-            Place {
+            ObjectRights {
                 object,
                 entries: None,
                 bytes: Some(token),

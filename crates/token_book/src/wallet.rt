@@ -8,7 +8,7 @@ ghost use Rattle.token_book.specs.Ticket.{entry_right, bytes_rights, IsTicket};
 ghost use Rattle.token_book.specs.Pocket.{Pocket, tickets_in, bytes_in, with_token};
 ghost use Rattle.token_book.specs.Purse.{empty_purse, left_of, bytes_of, HasPlace, HasRoom, IsOf, with_pocket, pocket_of, pulled, put_in};
 
-use crate::place::Place;
+use crate::place::ObjectRights;
 use crate::ticket::Ticket;
 use crate::tokens::{Token, Tokens};
 use std::alloc::Global;
@@ -20,7 +20,7 @@ use tlm_types::Memory;
 #[derive(Drop)]
 pub struct Wallet {
     most: u32,
-    places: Vec<Place>,
+    places: Vec<ObjectRights>,
 }
 
 impl Model for Wallet {
@@ -36,7 +36,7 @@ impl Model for Wallet {
 }
 
 // The place of an object.
-fn index_of(places: &[Place], object: u32) -> Option<usize>
+fn index_of(places: &[ObjectRights], object: u32) -> Option<usize>
     ensures found { IfSome result (λ i. (p : Pocket) × (slice_get places.now i ≡ Some (object, p)) × (map.find nat_cmp object places.now ≡ Some p)) }
     ensures none { IfNone result (map.find nat_cmp object places.now ≡ None) }
 {
@@ -49,7 +49,7 @@ fn index_of(places: &[Place], object: u32) -> Option<usize>
 }
 
 // Takes the place at an index out if it is empty.
-fn drop_empty(places: &mut Vec<Place>, i: usize)
+fn drop_empty(places: &mut Vec<ObjectRights>, i: usize)
     requires { i < vec_len places.old }
     ensures items { (e : ℕ × Pocket) → slice_get places.old.items i ≡ Some e → places.new.items ≡ (if e.1.left + e.1.bytes == 0 then remove places.old.items i else places.old.items) }
     ensures len { vec_len places.new ≤ vec_len places.old }
@@ -74,7 +74,7 @@ impl Wallet {
     }
 
     // The place of an object.
-    fn place(&self, object: u32) -> Option<&Place>
+    fn place(&self, object: u32) -> Option<&ObjectRights>
         ensures found { IfSome result (λ place. map.get self.now.held object ≡ Some place.now.1) }
         ensures none { IfNone result (map.get self.now.held object ≡ None) }
         ensures place { HasPlace self.now object ↔ (0 < left_of self.now object + bytes_of self.now object) }
@@ -108,7 +108,7 @@ impl Wallet {
     }
 
     // Keeps a place unless it is empty.
-    fn keep(&mut self, place: Place)
+    fn keep(&mut self, place: ObjectRights)
         requires new { map.get self.old.held place.0 ≡ None }
         requires room { map.len self.old.held < self.old.places }
         ensures { self.new ≡ with_pocket self.old place.0 place.1 }
@@ -157,7 +157,7 @@ impl Wallet {
     {
         match index_of(&self.places, token.owner()) {
             Some(i) => self.places[i].add(tokens, token),
-            None => self.keep(Place::of(token)),
+            None => self.keep(ObjectRights::of(token)),
         }
     }
 }

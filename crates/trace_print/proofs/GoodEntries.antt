@@ -34,7 +34,7 @@ use Rattle.tlm_model.specs.Plan.{Plan, Initiator}
 use Rattle.report_model.specs.Report.{shown_by}
 use Rattle.tlm_types.specs.Log.{is_access}
 use Rattle.tlm_model.specs.Requests.{Asked, Transport, DebugRead, Invalidation, Request, got_in, requests_of}
-use Rattle.tlm_model.specs.Route.{Found, Route, into_memory, into_router, into_window, is_within, later, latency_of, before_of, route_of, walk, window_of}
+use Rattle.tlm_model.specs.Route.{Found, Route, into_memory, into_router, into_window, window_has, later, latency_of, before_of, route_of, walk, window_of}
 use Rattle.tlm_model.specs.Scripts.{HasWay, IsAccessOf, IsEntryOf, IsWay, OfRequest}
 use Rattle.tlm_model.specs.Store.{got_by, got_of, is_enabled, place_of, put_from, stored_by, taken_from}
 use Rattle.tlm_model.specs.Times.{HasTime, decoupled_time}
@@ -203,13 +203,13 @@ told-what p s stored route small asked told o w accessed is came legal = absurd 
 
 -- where addresses lead
 
-found-within : (n : ℕ) (ws : List WindowRow) (a : ℕ) (f : Found) → window_of n ws a ≡ Some f → (k : ℕ) × (slice_get ws k ≡ Some f.window) × (is_within f.window a ≡ true)
+found-within : (n : ℕ) (ws : List WindowRow) (a : ℕ) (f : Found) → window_of n ws a ≡ Some f → (k : ℕ) × (slice_get ws k ≡ Some f.window) × (window_has f.window a ≡ true)
 found-within n [] a f h = absurd (not_none f h)
-found-within n (w ∷ ws) a f h = go (λ rest. found-within (n + 1) ws a f rest) (is_within w a) refl h
+found-within n (w ∷ ws) a f h = go (λ rest. found-within (n + 1) ws a f rest) (window_has w a) refl h
   where
-    go : (window_of (n + 1) ws a ≡ Some f → (k : ℕ) × (slice_get ws k ≡ Some f.window) × (is_within f.window a ≡ true)) → (b : Bool) → is_within w a ≡ b
-        → (if b then Some (record { index = n; window = w }) else window_of (n + 1) ws a) ≡ Some f → (k : ℕ) × (slice_get (w ∷ ws) k ≡ Some f.window) × (is_within f.window a ≡ true)
-    go next true e h = let same : w ≡ f.window = ap (λ (x : Found). x.window) (some_same {A = Found} (record { index = n; window = w }) f h) in (0, ap (λ (x : WindowRow). Some x) same, subst (λ (x : WindowRow). is_within x a ≡ true) same e)
+    go : (window_of (n + 1) ws a ≡ Some f → (k : ℕ) × (slice_get ws k ≡ Some f.window) × (window_has f.window a ≡ true)) → (b : Bool) → window_has w a ≡ b
+        → (if b then Some (record { index = n; window = w }) else window_of (n + 1) ws a) ≡ Some f → (k : ℕ) × (slice_get (w ∷ ws) k ≡ Some f.window) × (window_has f.window a ≡ true)
+    go next true e h = let same : w ≡ f.window = ap (λ (x : Found). x.window) (some_same {A = Found} (record { index = n; window = w }) f h) in (0, ap (λ (x : WindowRow). Some x) same, subst (λ (x : WindowRow). window_has x a ≡ true) same e)
     go next false e h = let t = next h in (suc t.0, t.1, t.2)
 
 leads-small : (p : Platform) → IsBounded p → (r : ℕ) (row : RouterRow) → slice_get p.routers r ≡ Some row → (a : ℕ) (f : Found) → window_of 0 row.windows a ≡ Some f → a - f.window.first + f.window.base < 2 ^ 64

@@ -10,7 +10,7 @@ use Rattle.std.proofs.lemmas.Option.{slice_get_past, slice_get_read}
 use Rattle.tlm_model.specs.declared.operation.Operation.{Operation}
 use Rattle.traffic_script.specs.declared.piece.Piece.{Piece}
 use Rattle.traffic_script.specs.Pieces.{repeated, written_out}
-use Rattle.traffic_script.specs.declared.place.Place.{Place}
+use Rattle.traffic_script.specs.declared.place.ScriptPlace.{ScriptPlace}
 use Rattle.traffic_script.specs.Progress.{left_in, left_from, IsWithinFirst, IsWithin, IsReached}
 use Rattle.std.proofs.lemmas.Bool.{cases_lt}
 
@@ -123,7 +123,7 @@ is_there pieces i rounds operation ops n e h =
         omega (arith, length-drop n ops)
 
 -- and it is reached after one more operation
-pub reached_next : (pieces : List Piece) (at next : Place) (count done : ℕ) → IsReached pieces at count done → done < count → IsWithin next pieces → left_from next pieces ≡ drop 1 (left_from at pieces) → IsReached pieces next count (done + 1)
+pub reached_next : (pieces : List Piece) (at next : ScriptPlace) (count done : ℕ) → IsReached pieces at count done → done < count → IsWithin next pieces → left_from next pieces ≡ drop 1 (left_from at pieces) → IsReached pieces next count (done + 1)
 reached_next pieces at next count done r h within rest = record {
   proper = r.proper;
   counted = r.counted;
@@ -140,5 +140,5 @@ proper_at [] (suc n) (Some op) each e = cc
 proper_at (x ∷ ops) zero (Some op) each e = subst IsProper (let same : x ≡ op.now = cc in same) each.0
 proper_at (x ∷ ops) (suc n) (Some op) each e = proper_at ops n (Some op) each.1 e
 
-pub asked_proper : (pieces : List Piece) (at : Place) (count done : ℕ) (r : Option (Bor Operation)) → IsReached pieces at count done → option_copied r ≡ slice_get (written_out pieces) done → IfSome r (λ op. IsProper op.now)
+pub asked_proper : (pieces : List Piece) (at : ScriptPlace) (count done : ℕ) (r : Option (Bor Operation)) → IsReached pieces at count done → option_copied r ≡ slice_get (written_out pieces) done → IfSome r (λ op. IsProper op.now)
 asked_proper pieces at count done r reached e = proper_at (written_out pieces) done r reached.proper.each e

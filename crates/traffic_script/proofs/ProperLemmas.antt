@@ -17,7 +17,7 @@ use Rattle.traffic_script.specs.declared.statement.Statement.{Statement}
 use Rattle.traffic_script.specs.declared.statement.Statement.TheVariants.{Asks, Repeats, Ends}
 use Rattle.tlm_types.specs.Reading.{◌>>=◌}
 use Rattle.traffic_script.specs.Words.{words_of, text_of}
-use Rattle.traffic_script.specs.Numbers.{number_in, number_of, within, length_of, times_of, addend_of, byte_of, bytes_of, hex_of, few, only_enables, data_of, enables_of}
+use Rattle.traffic_script.specs.Numbers.{number_in, read_number, within, length_of, times_of, addend_of, byte_of, bytes_of, read_hex, few, only_enables, data_of, enables_of}
 use Rattle.tlm_types.specs.Enables.{is_enable}
 use Rattle.traffic_script.specs.Options.{no_options, with_enables, with_width, with_option, with_options}
 use Rattle.traffic_script.specs.Statements.{keyword_of, write_of, read_of, ignore_of, debug_of, copy_of, add_of, wait_of, alone, repeat_of, asks, statement_by, statement_in, statement_of}
@@ -31,7 +31,7 @@ number_in-lt base digits n e =
     let same : digits_value base digits ≡ n = cc in
     subst (λ m. m < 2 ^ 64) same (ltb-true _ _ tests.1)
 
-number_of-lt : (word : List ℕ) (n : ℕ) → number_of word ≡ Ok n → n < 2 ^ 64
+number_of-lt : (word : List ℕ) (n : ℕ) → read_number word ≡ Ok n → n < 2 ^ 64
 number_of-lt word n e = by_prefix (starts_with nat_eq word (codes "0x")) e
   where
     by_prefix : (b : Bool) → cond b (number_in 16 (drop 2 word)) (number_in 10 word) ≡ Ok n → n < 2 ^ 64
@@ -47,19 +47,19 @@ within-range code least most m n e =
 
 length-proper : (word : List ℕ) (n : ℕ) → length_of word ≡ Ok n → IsLength n
 length-proper word n e =
-    let value = bind-Ok (number_of word) (within BadLength 1 4096) n e in
+    let value = bind-Ok (read_number word) (within BadLength 1 4096) n e in
     let range = within-range BadLength 1 4096 value.0 n value.2 in
     record { some = range.0; few = range.1 }
 
 times-proper : (word : List ℕ) (n : ℕ) → times_of word ≡ Ok n → AreTimes n
 times-proper word n e =
-    let value = bind-Ok (number_of word) (within BadNumber 1 100000) n e in
+    let value = bind-Ok (read_number word) (within BadNumber 1 100000) n e in
     let range = within-range BadNumber 1 100000 value.0 n value.2 in
     record { some = range.0; few = range.1 }
 
 addend-lt : (word : List ℕ) (n : ℕ) → addend_of word ≡ Ok n → n < 2 ^ 32
 addend-lt word n e =
-    let value = bind-Ok (number_of word) (within BadNumber 0 0xffff_ffff) n e in
+    let value = bind-Ok (read_number word) (within BadNumber 0 0xffff_ffff) n e in
     let range = within-range BadNumber 0 0xffff_ffff value.0 n value.2 in
     omega arith
 
@@ -93,7 +93,7 @@ bytes_of-bytes (high ∷ low ∷ more) bytes e =
     let same : first.0 ∷ rest.0 ≡ bytes = cc in
     subst AreBytes same (byte-small high low first.0 first.1, bytes_of-bytes more rest.0 rest.1)
 
-hex-some : (word bytes : List ℕ) → hex_of word ≡ Ok bytes → 1 ≤ length bytes
+hex-some : (word bytes : List ℕ) → read_hex word ≡ Ok bytes → 1 ≤ length bytes
 hex-some word bytes e =
     let read = unless-Ok (nat_eq (length word) 0) (bytes_of word) BadHex bytes e in
     let some : 0 < length word = grind (arith, nat_tests, read.0) in
@@ -107,13 +107,13 @@ few-Ok bytes found e =
 
 data-proper : (word bytes : List ℕ) → data_of word ≡ Ok bytes → IsLength (length bytes)
 data-proper word bytes e =
-    let read = bind-Ok (hex_of word) few bytes e in
+    let read = bind-Ok (read_hex word) few bytes e in
     let kept = few-Ok read.0 bytes read.2 in
     record { some = subst (λ bs. 1 ≤ length bs) kept.0 (hex-some word read.0 read.1); few = kept.1 }
 
 data-bytes : (word bytes : List ℕ) → data_of word ≡ Ok bytes → AreBytes bytes
 data-bytes word bytes e =
-    let read = bind-Ok (hex_of word) few bytes e in
+    let read = bind-Ok (read_hex word) few bytes e in
     let kept = few-Ok read.0 bytes read.2 in
     let digits = unless-Ok (nat_eq (length word) 0) (bytes_of word) BadHex read.0 read.1 in
     subst AreBytes kept.0 (bytes_of-bytes word read.0 digits.1)
@@ -134,8 +134,8 @@ each-enable (b ∷ bytes) e =
 
 enables-proper : (word enables : List ℕ) → enables_of word ≡ Ok enables → AreEnables enables
 enables-proper word enables e =
-    let last = bind-Ok (hex_of word >>= only_enables) few enables e in
-    let read = bind-Ok (hex_of word) only_enables last.0 last.1 in
+    let last = bind-Ok (read_hex word >>= only_enables) few enables e in
+    let read = bind-Ok (read_hex word) only_enables last.0 last.1 in
     let only = if-Ok (list_all is_enable read.0) (Ok read.0) BadHex last.0 read.2 in
     let kept = few-Ok last.0 enables last.2 in
     let same : read.0 ≡ enables = cc in
@@ -159,8 +159,8 @@ with_enables-proper o hex found p e =
 
 with_width-proper : (o : Options) (word : List ℕ) (found : Options) → AreProperOptions o → with_width o word ≡ Ok found → AreProperOptions found
 with_width-proper o word found p e =
-    let once = unless-Ok (is_some o.width) (number_of word >>= λ width. Ok (record o { width = Some width })) BadOption found e in
-    let read = bind-Ok (number_of word) (λ width. Ok (record o { width = Some width })) found once.1 in
+    let once = unless-Ok (is_some o.width) (read_number word >>= λ width. Ok (record o { width = Some width })) BadOption found e in
+    let read = bind-Ok (read_number word) (λ width. Ok (record o { width = Some width })) found once.1 in
     let now : Options = record o { width = Some read.0 } in
     let same : now ≡ found = cc in
     subst AreProperOptions same (record { enabled = p.enabled; wide = number_of-lt word read.0 read.1 })
@@ -188,7 +188,7 @@ write-proper : (words : List (List ℕ)) (op : Operation) → write_of words ≡
 write-proper [] op e = cc
 write-proper (address ∷ []) op e = cc
 write-proper (address ∷ data_word ∷ words) op e =
-    let at = bind-Ok (number_of address) (λ at. data_of data_word >>= λ bytes. with_options no_options words >>= λ (o : Options). Ok (Write at bytes (unwrap_or o.enables []) o.width)) op e in
+    let at = bind-Ok (read_number address) (λ at. data_of data_word >>= λ bytes. with_options no_options words >>= λ (o : Options). Ok (Write at bytes (unwrap_or o.enables []) o.width)) op e in
     let sent = bind-Ok (data_of data_word) (λ bytes. with_options no_options words >>= λ (o : Options). Ok (Write at.0 bytes (unwrap_or o.enables []) o.width)) op at.2 in
     let options = bind-Ok (with_options no_options words) (λ (o : Options). Ok (Write at.0 sent.0 (unwrap_or o.enables []) o.width)) op sent.2 in
     let same : Write at.0 sent.0 (unwrap_or options.0.enables []) options.0.width ≡ op = cc in
@@ -199,7 +199,7 @@ read-proper : (words : List (List ℕ)) (op : Operation) → read_of words ≡ O
 read-proper [] op e = cc
 read-proper (address ∷ []) op e = cc
 read-proper (address ∷ count ∷ words) op e =
-    let at = bind-Ok (number_of address) (λ at. length_of count >>= λ n. with_options no_options words >>= λ (o : Options). Ok (Read at n (unwrap_or o.enables []) o.width)) op e in
+    let at = bind-Ok (read_number address) (λ at. length_of count >>= λ n. with_options no_options words >>= λ (o : Options). Ok (Read at n (unwrap_or o.enables []) o.width)) op e in
     let n = bind-Ok (length_of count) (λ n. with_options no_options words >>= λ (o : Options). Ok (Read at.0 n (unwrap_or o.enables []) o.width)) op at.2 in
     let options = bind-Ok (with_options no_options words) (λ (o : Options). Ok (Read at.0 n.0 (unwrap_or o.enables []) o.width)) op n.2 in
     let same : Read at.0 n.0 (unwrap_or options.0.enables []) options.0.width ≡ op = cc in
@@ -209,7 +209,7 @@ read-proper (address ∷ count ∷ words) op e =
 ignore-proper : (words : List (List ℕ)) (op : Operation) → ignore_of words ≡ Ok op → IsProper op
 ignore-proper [] op e = cc
 ignore-proper (address ∷ []) op e =
-    let at = bind-Ok (number_of address) (λ at. Ok (Ignore at)) op e in
+    let at = bind-Ok (read_number address) (λ at. Ok (Ignore at)) op e in
     let same : Ignore at.0 ≡ op = cc in
     subst IsProper same (number_of-lt address at.0 at.1)
 ignore-proper (address ∷ more ∷ words) op e = cc
@@ -218,7 +218,7 @@ debug-proper : (words : List (List ℕ)) (op : Operation) → debug_of words ≡
 debug-proper [] op e = cc
 debug-proper (address ∷ []) op e = cc
 debug-proper (address ∷ count ∷ []) op e =
-    let at = bind-Ok (number_of address) (λ at. length_of count >>= λ n. Ok (Debug at n)) op e in
+    let at = bind-Ok (read_number address) (λ at. length_of count >>= λ n. Ok (Debug at n)) op e in
     let n = bind-Ok (length_of count) (λ n. Ok (Debug at.0 n)) op at.2 in
     let same : Debug at.0 n.0 ≡ op = cc in
     subst IsProper same (number_of-lt address at.0 at.1, length-proper count n.0 n.1)
@@ -229,8 +229,8 @@ copy-proper [] op e = cc
 copy-proper (source ∷ []) op e = cc
 copy-proper (source ∷ target ∷ []) op e = cc
 copy-proper (source ∷ target ∷ count ∷ []) op e =
-    let from = bind-Ok (number_of source) (λ from. number_of target >>= λ to. length_of count >>= λ n. Ok (Copy from to n)) op e in
-    let to = bind-Ok (number_of target) (λ to. length_of count >>= λ n. Ok (Copy from.0 to n)) op from.2 in
+    let from = bind-Ok (read_number source) (λ from. read_number target >>= λ to. length_of count >>= λ n. Ok (Copy from to n)) op e in
+    let to = bind-Ok (read_number target) (λ to. length_of count >>= λ n. Ok (Copy from.0 to n)) op from.2 in
     let n = bind-Ok (length_of count) (λ n. Ok (Copy from.0 to.0 n)) op to.2 in
     let same : Copy from.0 to.0 n.0 ≡ op = cc in
     subst IsProper same (number_of-lt source from.0 from.1, number_of-lt target to.0 to.1, length-proper count n.0 n.1)
@@ -240,7 +240,7 @@ add-proper : (words : List (List ℕ)) (op : Operation) → add_of words ≡ Ok 
 add-proper [] op e = cc
 add-proper (address ∷ []) op e = cc
 add-proper (address ∷ number ∷ []) op e =
-    let at = bind-Ok (number_of address) (λ at. addend_of number >>= λ n. Ok (Add at n)) op e in
+    let at = bind-Ok (read_number address) (λ at. addend_of number >>= λ n. Ok (Add at n)) op e in
     let n = bind-Ok (addend_of number) (λ n. Ok (Add at.0 n)) op at.2 in
     let same : Add at.0 n.0 ≡ op = cc in
     subst IsProper same (number_of-lt address at.0 at.1, addend-lt number n.0 n.1)
@@ -249,7 +249,7 @@ add-proper (address ∷ number ∷ more ∷ words) op e = cc
 wait-proper : (words : List (List ℕ)) (op : Operation) → wait_of words ≡ Ok op → IsProper op
 wait-proper [] op e = cc
 wait-proper (number ∷ []) op e =
-    let time = bind-Ok (number_of number) (λ time. Ok (Wait time)) op e in
+    let time = bind-Ok (read_number number) (λ time. Ok (Wait time)) op e in
     let same : Wait time.0 ≡ op = cc in
     subst IsProper same (number_of-lt number time.0 time.1)
 wait-proper (number ∷ more ∷ words) op e = cc

@@ -6,7 +6,7 @@ use Rattle.traffic_script.specs.declared.fault.ScriptCode.TheVariants.{NestedRep
 use Rattle.traffic_script.specs.declared.statement.Statement.{Statement}
 use Rattle.traffic_script.specs.declared.statement.Statement.TheVariants.{Asks, Repeats, Ends}
 use Rattle.traffic_script.specs.Pieces.{repeated}
-use Rattle.traffic_script.specs.Reading.{Refusal}
+use Rattle.traffic_script.specs.Reading.{ScriptRefusal}
 
 -- a repeat that hasn't ended: its line, how often it is done, and its operations so far
 pub record Block : Type 0 where
@@ -43,8 +43,8 @@ begun_in before None n times = Ok (record { before = before; block = Some (recor
 begun_in before (Some b) n times = Err NestedRepeat
 
 -- with a repeat that begins at line n
-abbrev pub begun : Draft → ℕ → ℕ → Result Draft ScriptCode
-begun d n times = begun_in d.before d.block n times
+abbrev pub repeat_begun : Draft → ℕ → ℕ → Result Draft ScriptCode
+repeat_begun d n times = begun_in d.before d.block n times
 
 abbrev pub ended_in : List Operation → Option Block → Result Draft ScriptCode
 ended_in before None = Err EndWithoutRepeat
@@ -61,13 +61,13 @@ ended d = ended_in d.before d.block
 abbrev pub taken : ℕ → Draft → Option Statement → Result Draft ScriptCode
 taken n d None = Ok d
 taken n d (Some (Asks operation)) = added d operation
-taken n d (Some (Repeats times)) = begun d n times
+taken n d (Some (Repeats times)) = repeat_begun d n times
 taken n d (Some Ends) = ended d
 
-abbrev pub finished_in : List Operation → Option Block → Result (List Operation) Refusal
+abbrev pub finished_in : List Operation → Option Block → Result (List Operation) ScriptRefusal
 finished_in before None = Ok before
 finished_in before (Some b) = Err (record { line = b.line; code = RepeatWithoutEnd })
 
 -- what was read, where no line is left
-abbrev pub finished : Draft → Result (List Operation) Refusal
+abbrev pub finished : Draft → Result (List Operation) ScriptRefusal
 finished d = finished_in d.before d.block

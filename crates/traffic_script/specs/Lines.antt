@@ -4,7 +4,7 @@ use Rattle.std.specs.Str.Lines.{lines}
 use Rattle.tlm_model.specs.declared.operation.Operation.{Operation}
 use Rattle.traffic_script.specs.declared.fault.ScriptCode.{ScriptCode}
 use Rattle.traffic_script.specs.declared.fault.ScriptCode.TheVariants.{TooManyLines}
-use Rattle.traffic_script.specs.Reading.{Refusal, placed}
+use Rattle.traffic_script.specs.Reading.{ScriptRefusal, placed}
 use Rattle.tlm_types.specs.Reading.{◌>>=◌}
 use Rattle.traffic_script.specs.Statements.{statement_of}
 use Rattle.traffic_script.specs.Drafts.{Draft, empty_draft, taken, finished}
@@ -14,13 +14,13 @@ abbrev pub with_line : ℕ → Draft → List ℕ → Result Draft ScriptCode
 with_line n d line = statement_of line >>= λ statement. taken n d statement
 
 -- with these lines, from line n on
-abbrev pub with_lines : ℕ → Draft → List (List ℕ) → Result Draft Refusal
+abbrev pub with_lines : ℕ → Draft → List (List ℕ) → Result Draft ScriptRefusal
 with_lines n d [] = Ok d
 with_lines n d (line ∷ more) = placed n (with_line n d line) >>= λ next. with_lines (n + 1) next more
 
 -- The operations of a script, with repeats written out, or its first refusal. Lines end with a line feed, the
 -- last may lack it, and a carriage return before a line feed is dropped.
-unfoldable pub script_of : List ℕ → Result (List Operation) Refusal
+unfoldable pub script_of : List ℕ → Result (List Operation) ScriptRefusal
 script_of text =
     if nat_le (length (lines text)) 10000 then with_lines 1 empty_draft (lines text) >>= finished
     else Err (record { line = 10001; code = TooManyLines })

@@ -15,8 +15,8 @@ number_in base digits =
     then Ok (digits_value base digits) else Err BadNumber
 
 -- a number: decimal digits, or `0x` and hexadecimal digits
-abbrev pub number_of : List ℕ → Result ℕ ScriptCode
-number_of word = if starts_with nat_eq word (codes "0x") then number_in 16 (drop 2 word) else number_in 10 word
+abbrev pub read_number : List ℕ → Result ℕ ScriptCode
+read_number word = if starts_with nat_eq word (codes "0x") then number_in 16 (drop 2 word) else number_in 10 word
 
 -- a number from least to most, or this code
 abbrev pub within : ScriptCode → ℕ → ℕ → ℕ → Result ℕ ScriptCode
@@ -24,15 +24,15 @@ within code least most n = if nat_le least n && nat_le n most then Ok n else Err
 
 -- a length in bytes
 abbrev pub length_of : List ℕ → Result ℕ ScriptCode
-length_of word = number_of word >>= within BadLength 1 4096
+length_of word = read_number word >>= within BadLength 1 4096
 
 -- how often a repeat is done
 abbrev pub times_of : List ℕ → Result ℕ ScriptCode
-times_of word = number_of word >>= within BadNumber 1 100000
+times_of word = read_number word >>= within BadNumber 1 100000
 
 -- the number that `add` adds
 abbrev pub addend_of : List ℕ → Result ℕ ScriptCode
-addend_of word = number_of word >>= within BadNumber 0 0xffff_ffff
+addend_of word = read_number word >>= within BadNumber 0 0xffff_ffff
 
 -- two hexadecimal digits are a byte
 abbrev pub byte_of : ℕ → ℕ → Result ℕ ScriptCode
@@ -48,8 +48,8 @@ bytes_of (high ∷ low ∷ more) = do
   Ok (byte ∷ bytes)
 
 -- at least two digits
-abbrev pub hex_of : List ℕ → Result (List ℕ) ScriptCode
-hex_of word = if length word == 0 then Err BadHex else bytes_of word
+abbrev pub read_hex : List ℕ → Result (List ℕ) ScriptCode
+read_hex word = if length word == 0 then Err BadHex else bytes_of word
 
 -- at most 4,096 bytes
 abbrev pub few : List ℕ → Result (List ℕ) ScriptCode
@@ -60,7 +60,7 @@ abbrev pub only_enables : List ℕ → Result (List ℕ) ScriptCode
 only_enables bytes = if list_all is_enable bytes then Ok bytes else Err BadHex
 
 abbrev pub data_of : List ℕ → Result (List ℕ) ScriptCode
-data_of word = hex_of word >>= few
+data_of word = read_hex word >>= few
 
 abbrev pub enables_of : List ℕ → Result (List ℕ) ScriptCode
-enables_of word = hex_of word >>= only_enables >>= few
+enables_of word = read_hex word >>= only_enables >>= few

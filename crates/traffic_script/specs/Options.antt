@@ -5,7 +5,7 @@ use Rattle.traffic_script.specs.declared.fault.ScriptCode.{ScriptCode}
 use Rattle.traffic_script.specs.declared.fault.ScriptCode.TheVariants.{BadOption}
 use Rattle.traffic_script.specs.declared.options.Options.{Options}
 use Rattle.tlm_types.specs.Reading.{◌>>=◌}
-use Rattle.traffic_script.specs.Numbers.{number_of, enables_of}
+use Rattle.traffic_script.specs.Numbers.{read_number, enables_of}
 
 abbrev pub no_options : Options
 no_options = record { enables = None; width = None }
@@ -18,7 +18,7 @@ with_enables options hex = if is_some options.enables then Err BadOption else
 -- `sw=` with a streaming width, once
 abbrev pub with_width : Options → List ℕ → Result Options ScriptCode
 with_width options number = if is_some options.width then Err BadOption else
-    (number_of number >>= λ width. Ok (record options { width = Some width }))
+    (read_number number >>= λ width. Ok (record options { width = Some width }))
 
 -- one more option
 abbrev pub with_option : Options → List ℕ → Result Options ScriptCode

@@ -2,7 +2,7 @@
 use Rattle.std.specs.Prelude.{ℕ, ◌≡◌, ◌+◌, ◌<◌, ◌≤◌, List, [], ◌∷◌, ◌++◌, length, drop, nat_lt, if◌then◌else◌}
 use Rattle.tlm_model.specs.declared.operation.Operation.{Operation}
 use Rattle.traffic_script.specs.declared.piece.Piece.{Piece}
-use Rattle.traffic_script.specs.declared.place.Place.{Place}
+use Rattle.traffic_script.specs.declared.place.ScriptPlace.{ScriptPlace}
 use Rattle.traffic_script.specs.Pieces.{repeated, written_out}
 use Rattle.traffic_script.specs.Proper.{AreProper}
 
@@ -25,7 +25,7 @@ left_in rounds operation [] = []
 left_in rounds operation (p ∷ pieces) = drop operation p.operations ++ (repeated rounds p.operations ++ written_out pieces)
 
 -- what is left from a place on
-abbrev pub left_from : Place → List Piece → List Operation
+abbrev pub left_from : ScriptPlace → List Piece → List Operation
 left_from at pieces = left_in at.rounds at.operation (drop at.piece pieces)
 
 abbrev pub IsWithinFirst : ℕ → List Piece → Type 0
@@ -33,11 +33,11 @@ IsWithinFirst operation [] = Unit {0}
 IsWithinFirst operation (p ∷ pieces) = operation < length p.operations
 
 -- a place is at an operation of its piece, where there is such a piece
-abbrev pub IsWithin : Place → List Piece → Type 0
+abbrev pub IsWithin : ScriptPlace → List Piece → Type 0
 IsWithin at pieces = IsWithinFirst at.operation (drop at.piece pieces)
 
 -- a place in proper pieces is where so many operations are done
-pub record IsReached (pieces : List Piece) (at : Place) (count done : ℕ) : Type 0 where
+pub record IsReached (pieces : List Piece) (at : ScriptPlace) (count done : ℕ) : Type 0 where
   pub proper : AreProper (written_out pieces)
   pub counted : count ≡ length (written_out pieces)
   pub within_count : done ≤ count

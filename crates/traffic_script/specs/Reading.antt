@@ -9,34 +9,34 @@ use Rattle.traffic_script.specs.declared.fault.LineFault.{LineFault}
 use Rattle.traffic_script.specs.declared.fault.LineFault.TheVariants as line
 
 -- a code as it is printed
-abbrev pub code_word : ScriptCode → List ℕ
-code_word TooManyLines = codes "too_many_lines"
-code_word BadByte = codes "bad_byte"
-code_word UnknownOperation = codes "unknown_operation"
-code_word Arity = codes "arity"
-code_word BadNumber = codes "bad_number"
-code_word BadHex = codes "bad_hex"
-code_word BadLength = codes "bad_length"
-code_word BadOption = codes "bad_option"
-code_word NestedRepeat = codes "nested_repeat"
-code_word EndWithoutRepeat = codes "end_without_repeat"
-code_word EmptyRepeat = codes "empty_repeat"
-code_word TooManyOperations = codes "too_many_operations"
-code_word RepeatWithoutEnd = codes "repeat_without_end"
-code_word NotBuilt = codes "not_built"
+abbrev pub script_code_word : ScriptCode → List ℕ
+script_code_word TooManyLines = codes "too_many_lines"
+script_code_word BadByte = codes "bad_byte"
+script_code_word UnknownOperation = codes "unknown_operation"
+script_code_word Arity = codes "arity"
+script_code_word BadNumber = codes "bad_number"
+script_code_word BadHex = codes "bad_hex"
+script_code_word BadLength = codes "bad_length"
+script_code_word BadOption = codes "bad_option"
+script_code_word NestedRepeat = codes "nested_repeat"
+script_code_word EndWithoutRepeat = codes "end_without_repeat"
+script_code_word EmptyRepeat = codes "empty_repeat"
+script_code_word TooManyOperations = codes "too_many_operations"
+script_code_word RepeatWithoutEnd = codes "repeat_without_end"
+script_code_word NotBuilt = codes "not_built"
 
 -- why a script is refused: the number of a line, from 1, and the code
-pub record Refusal : Type 0 where
+pub record ScriptRefusal : Type 0 where
   pub line : ℕ
   pub code : ScriptCode
 
 -- a code at a line
-abbrev pub placed : {A : Type 0} → ℕ → Result A ScriptCode → Result A Refusal
+abbrev pub placed : {A : Type 0} → ℕ → Result A ScriptCode → Result A ScriptRefusal
 placed n (Ok x) = Ok x
 placed n (Err code) = Err (record { line = n; code = code })
 
 -- what a fault says: nothing where memory ran out
-abbrev pub script_refusal_of : ScriptFault → Option Refusal
+abbrev pub script_refusal_of : ScriptFault → Option ScriptRefusal
 script_refusal_of (script.Refused n code) = Some (record { line = n; code = code })
 script_refusal_of script.Memory = None
 
@@ -46,15 +46,15 @@ code_of (line.Refused code) = Some code
 code_of line.Memory = None
 
 -- the fault is the refusal that reading gives, unless memory ran out
-abbrev pub Fails : {A : Type 0} → ScriptFault → Result A Refusal → Type 0
-Fails fault read = FailsAs (script_refusal_of fault) read
+abbrev pub ScriptFails : {A : Type 0} → ScriptFault → Result A ScriptRefusal → Type 0
+ScriptFails fault read = FailsAs (script_refusal_of fault) read
 
 abbrev pub FailsCode : {A : Type 0} → LineFault → Result A ScriptCode → Type 0
 FailsCode fault read = FailsAs (code_of fault) read
 
 -- what a function returned is what reading gives, unless memory ran out
-abbrev pub Gives : {A : Type 0} → Result A ScriptFault → Result A Refusal → Type 0
-Gives result read = Returns script_refusal_of (λ x. x) result read
+abbrev pub ScriptGives : {A : Type 0} → Result A ScriptFault → Result A ScriptRefusal → Type 0
+ScriptGives result read = Returns script_refusal_of (λ x. x) result read
 
 abbrev pub GivesCode : {A : Type 0} → Result A LineFault → Result A ScriptCode → Type 0
 GivesCode result read = Returns code_of (λ x. x) result read

@@ -11,7 +11,7 @@ use Rattle.traffic_script.specs.declared.statement.Statement.{Statement}
 use Rattle.traffic_script.specs.declared.statement.Statement.TheVariants.{Asks, Repeats, Ends}
 use Rattle.tlm_types.specs.Reading.{◌>>=◌}
 use Rattle.traffic_script.specs.Words.{words_of, text_of}
-use Rattle.traffic_script.specs.Numbers.{number_of, length_of, times_of, addend_of, data_of}
+use Rattle.traffic_script.specs.Numbers.{read_number, length_of, times_of, addend_of, data_of}
 use Rattle.traffic_script.specs.Options.{no_options, with_options}
 
 -- what the first word of a line names
@@ -34,7 +34,7 @@ keyword_of word =
 -- `write ADDR HEX` with options
 abbrev pub write_of : List (List ℕ) → Result Operation ScriptCode
 write_of (address ∷ data_word ∷ words) = do
-  at ← number_of address
+  at ← read_number address
   bytes ← data_of data_word
   options ← with_options no_options words
   Ok (Write at bytes (unwrap_or options.enables []) options.width)
@@ -43,7 +43,7 @@ write_of words = Err Arity
 -- `read ADDR LEN` with options
 abbrev pub read_of : List (List ℕ) → Result Operation ScriptCode
 read_of (address ∷ count ∷ words) = do
-  at ← number_of address
+  at ← read_number address
   n ← length_of count
   options ← with_options no_options words
   Ok (Read at n (unwrap_or options.enables []) options.width)
@@ -51,13 +51,13 @@ read_of words = Err Arity
 
 -- `ignore ADDR`
 abbrev pub ignore_of : List (List ℕ) → Result Operation ScriptCode
-ignore_of (address ∷ []) = number_of address >>= λ at. Ok (Ignore at)
+ignore_of (address ∷ []) = read_number address >>= λ at. Ok (Ignore at)
 ignore_of words = Err Arity
 
 -- `debug ADDR LEN`
 abbrev pub debug_of : List (List ℕ) → Result Operation ScriptCode
 debug_of (address ∷ count ∷ []) = do
-  at ← number_of address
+  at ← read_number address
   n ← length_of count
   Ok (Debug at n)
 debug_of words = Err Arity
@@ -65,8 +65,8 @@ debug_of words = Err Arity
 -- `copy SRC DST LEN`
 abbrev pub copy_of : List (List ℕ) → Result Operation ScriptCode
 copy_of (source ∷ target ∷ count ∷ []) = do
-  from ← number_of source
-  to ← number_of target
+  from ← read_number source
+  to ← read_number target
   n ← length_of count
   Ok (Copy from to n)
 copy_of words = Err Arity
@@ -74,14 +74,14 @@ copy_of words = Err Arity
 -- `add ADDR N`
 abbrev pub add_of : List (List ℕ) → Result Operation ScriptCode
 add_of (address ∷ number ∷ []) = do
-  at ← number_of address
+  at ← read_number address
   n ← addend_of number
   Ok (Add at n)
 add_of words = Err Arity
 
 -- `wait PS`
 abbrev pub wait_of : List (List ℕ) → Result Operation ScriptCode
-wait_of (number ∷ []) = number_of number >>= λ time. Ok (Wait time)
+wait_of (number ∷ []) = read_number number >>= λ time. Ok (Wait time)
 wait_of words = Err Arity
 
 -- a word that stands alone

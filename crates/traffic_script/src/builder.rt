@@ -1,8 +1,8 @@
 // A script of which so many lines are read.
 ghost use Rattle.std.specs.Prelude.{◌≡◌, ◌<◌, ◌++◌, IfOk};
-ghost use Rattle.traffic_script.specs.Reading.{Gives, GivesCode};
+ghost use Rattle.traffic_script.specs.Reading.{ScriptGives, GivesCode};
 ghost use Rattle.traffic_script.specs.Pieces.{repeated, written_out};
-ghost use Rattle.traffic_script.specs.Drafts.{empty_draft, added, begun, ended, taken, finished};
+ghost use Rattle.traffic_script.specs.Drafts.{empty_draft, added, repeat_begun, ended, taken, finished};
 ghost use Rattle.traffic_script.specs.Lines.{with_line};
 ghost use Rattle.traffic_script.specs.Proper.{IsProperDraft};
 
@@ -95,7 +95,7 @@ impl Builder {
     }
 
     fn with_repeat(self, alloc: Global, line: u32, times: u32) -> Result<Builder, LineFault>
-        ensures { GivesCode result (begun self line times) }
+        ensures { GivesCode result (repeat_begun self line times) }
     {
         let Builder {
             pieces,
@@ -174,7 +174,7 @@ impl Builder {
     /// The script, where no line is left.
     pub fn finish(self, alloc: Global) -> Result<Script, ScriptFault>
         requires { IsProperDraft self }
-        ensures { Gives result (finished self) }
+        ensures { ScriptGives result (finished self) }
     {
         let Builder {
             pieces,

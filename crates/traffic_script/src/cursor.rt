@@ -5,7 +5,7 @@ ghost use Rattle.traffic_script.specs.Progress.{Progress, advanced, IsProperProg
 ghost use Rattle.traffic_script.specs.Proper.{AreProper, IsProper};
 
 use crate::piece::Piece;
-use crate::place::{Place, first_place, next_place, operation_at};
+use crate::place::{ScriptPlace, first_place, next_place, operation_at};
 use crate::script::Script;
 use std::alloc::Global;
 use std::marker::Model;
@@ -16,7 +16,7 @@ use tlm_model::Operation;
 #[derive(Drop)]
 pub struct Cursor {
     pieces: Arc<Vec<Piece>, Global>,
-    place: Place,
+    place: ScriptPlace,
     count: u64,
     done: u64,
 }

@@ -3,7 +3,7 @@ ghost use Rattle.std.specs.Prelude.{◌≡◌};
 ghost use Rattle.traffic_script.specs.declared.fault.ScriptFault.{ScriptFault};
 ghost use Rattle.traffic_script.specs.declared.fault.LineFault.{LineFault};
 ghost use Rattle.traffic_script.specs.declared.fault.LineFault.TheVariants.{Refused, Memory};
-ghost use Rattle.traffic_script.specs.Reading.{code_word, fault_at};
+ghost use Rattle.traffic_script.specs.Reading.{script_code_word, fault_at};
 
 use std::alloc::{AllocError, AllocFailed};
 use thiserror::Error;
@@ -40,7 +40,7 @@ pub enum ScriptCode {
 impl ScriptCode {
     /// The code as it is printed.
     pub fn name(self) -> &'static str
-        ensures { result.now ≡ code_word self }
+        ensures { result.now ≡ script_code_word self }
     {
         match self {
             ScriptCode::TooManyLines => "too_many_lines",

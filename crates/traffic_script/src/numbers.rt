@@ -4,7 +4,7 @@ ghost use Rattle.std.specs.Option.{SomeIff};
 ghost use Rattle.std.specs.Char.{is_digit, digit_value};
 ghost use Rattle.std.specs.List.{list_all};
 ghost use Rattle.traffic_script.specs.Reading.{GivesCode};
-ghost use Rattle.traffic_script.specs.Numbers.{number_in, number_of, within, length_of, times_of, addend_of, byte_of, bytes_of, hex_of, data_of, enables_of};
+ghost use Rattle.traffic_script.specs.Numbers.{number_in, read_number, within, length_of, times_of, addend_of, byte_of, bytes_of, read_hex, data_of, enables_of};
 ghost use Rattle.tlm_types.specs.Enables.{is_enable};
 
 use crate::fault::{LineFault, ScriptCode};
@@ -57,7 +57,7 @@ fn number_in(base: u32, digits: &[u8]) -> Result<u64, ScriptCode>
 }
 
 pub fn number(word: &[u8]) -> Result<u64, ScriptCode>
-    ensures { result ≡ number_of word.now }
+    ensures { result ≡ read_number word.now }
 {
     if word.starts_with(b"0x") {
         return number_in(16, &word[2..]);
@@ -156,7 +156,7 @@ fn bytes(alloc: Global, digits: &[u8]) -> Result<Bytes, LineFault>
 }
 
 fn hex(alloc: Global, word: &[u8]) -> Result<Bytes, LineFault>
-    ensures { GivesCode result (hex_of word.now) }
+    ensures { GivesCode result (read_hex word.now) }
 {
     if word.is_empty() {
         return Err(LineFault::Refused(ScriptCode::BadHex));

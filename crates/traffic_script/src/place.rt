@@ -9,14 +9,14 @@ use tlm_model::Operation;
 
 /// An operation of a piece, with so many rounds of that piece after this one.
 #[derive(Clone, Copy)]
-pub struct Place {
+pub struct ScriptPlace {
     pub piece: usize,
     pub operation: usize,
     pub rounds: u32,
 }
 
 /// The operation at a place.
-pub fn operation_at(pieces: &[Piece], at: Place) -> Option<&Operation>
+pub fn operation_at(pieces: &[Piece], at: ScriptPlace) -> Option<&Operation>
     requires { IsWithin at pieces.now }
     ensures { option_copied result ≡ slice_get (left_from at pieces.now) 0 }
 {
@@ -25,7 +25,7 @@ pub fn operation_at(pieces: &[Piece], at: Place) -> Option<&Operation>
 }
 
 /// The first operation of a piece.
-pub fn first_place(pieces: &[Piece], piece: usize) -> Place
+pub fn first_place(pieces: &[Piece], piece: usize) -> ScriptPlace
     ensures within { IsWithin result pieces.now }
     ensures rest { left_from result pieces.now ≡ written_out (drop piece pieces.now) }
 {
@@ -33,7 +33,7 @@ pub fn first_place(pieces: &[Piece], piece: usize) -> Place
         Some(first) => first.times - 1,
         None => 0,
     };
-    Place {
+    ScriptPlace {
         piece,
         operation: 0,
         rounds,
@@ -41,7 +41,7 @@ pub fn first_place(pieces: &[Piece], piece: usize) -> Place
 }
 
 /// The operation after this one.
-pub fn next_place(pieces: &[Piece], at: Place) -> Place
+pub fn next_place(pieces: &[Piece], at: ScriptPlace) -> ScriptPlace
     requires there { at.piece < length pieces.now }
     requires within { IsWithin at pieces.now }
     ensures within { IsWithin result pieces.now }
@@ -49,14 +49,14 @@ pub fn next_place(pieces: &[Piece], at: Place) -> Place
 {
     let operations = pieces[at.piece].operations.as_slice();
     if at.operation + 1 < operations.len() {
-        return Place {
+        return ScriptPlace {
             piece: at.piece,
             operation: at.operation + 1,
             rounds: at.rounds,
         };
     }
     if at.rounds > 0 {
-        return Place {
+        return ScriptPlace {
             piece: at.piece,
             operation: 0,
             rounds: at.rounds - 1,

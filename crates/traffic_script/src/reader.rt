@@ -1,7 +1,7 @@
 // How a script is read.
 ghost use Rattle.std.specs.Prelude.{◌≤◌, length, IfOk};
 ghost use Rattle.std.specs.Str.Lines.{lines};
-ghost use Rattle.traffic_script.specs.Reading.{Gives};
+ghost use Rattle.traffic_script.specs.Reading.{ScriptGives};
 ghost use Rattle.traffic_script.specs.Drafts.{empty_draft};
 ghost use Rattle.traffic_script.specs.Lines.{with_lines, script_of};
 ghost use Rattle.traffic_script.specs.Proper.{AreProper, IsProperDraft};
@@ -16,7 +16,7 @@ const MOST_LINES: u32 = 10_000;
 
 fn read_lines(alloc: Global, text: &[u8]) -> Result<Builder, ScriptFault>
     requires { length (lines text.now) ≤ 10000 }
-    ensures read { Gives result (with_lines 1 empty_draft (lines text.now)) }
+    ensures read { ScriptGives result (with_lines 1 empty_draft (lines text.now)) }
     ensures proper { IfOk result IsProperDraft }
 {
     let mut builder = Builder::new(alloc);
@@ -37,7 +37,7 @@ fn read_lines(alloc: Global, text: &[u8]) -> Result<Builder, ScriptFault>
 /// `ScriptFault::Memory` says that memory was refused.
 #[tactic(auto, unfolding(crate::specs::Lines::script_of))]
 pub fn read_script(alloc: Global, text: &[u8]) -> Result<Script, ScriptFault>
-    ensures read { Gives result (script_of text.now) }
+    ensures read { ScriptGives result (script_of text.now) }
     ensures proper { IfOk result AreProper }
 {
     if count_lines(text) > MOST_LINES as usize {

@@ -1,7 +1,7 @@
 // The words of a line.
 ghost use Rattle.std.specs.Prelude.{◌≡◌, ◌≢◌, ◌<◌, false, [], ◌∷◌, length, position, slice_index, ◌==◌, IfSome, MatchOption, MatchResult, Ok, Err, ◌≤◌};
 ghost use Rattle.std.specs.List.{list_all, before_first};
-ghost use Rattle.traffic_script.specs.Words.{is_plain, is_blank, words_of, text_of};
+ghost use Rattle.traffic_script.specs.Words.{is_printable, is_blank, words_of, text_of};
 
 use crate::fault::ScriptCode;
 use crate::lines::find;
@@ -13,19 +13,19 @@ fn is_blank(byte: u8) -> bool
     byte == b' ' || byte == b'\t'
 }
 
-fn is_plain(byte: u8) -> bool
-    ensures { result ≡ is_plain byte }
+fn is_printable(byte: u8) -> bool
+    ensures { result ≡ is_printable byte }
 {
     byte == b'\t' || (b' ' <= byte && byte <= b'~')
 }
 
 // It looks at every byte, since a loop that may stop early takes them one at a time.
 fn all_plain(line: &[u8]) -> bool
-    ensures { result ≡ list_all is_plain line.now }
+    ensures { result ≡ list_all is_printable line.now }
 {
     let mut plain = true;
     for byte in line {
-        plain &= is_plain(*byte);
+        plain &= is_printable(*byte);
     }
     plain
 }

@@ -2,7 +2,7 @@
 ghost use Rattle.std.specs.Prelude.{◌≡◌, ◌≤◌, ◌<◌, length, IfOk, IfSome, IfNone, slice_get};
 ghost use Rattle.tlm_model.specs.History.{IsNumbered};
 ghost use Rattle.run_outcome.specs.Merge.{merged};
-ghost use Rattle.run_outcome.specs.Places.{entries_of_logs, HasAt, HasNoneBefore, IsPlaced};
+ghost use Rattle.run_outcome.specs.Places.{entries_of_logs, HasAt, HasNoneBefore, StandsAt};
 
 use std::alloc::Global;
 use tlm_types::{Log, Memory};
@@ -48,7 +48,7 @@ impl Window {
     pub(super) fn place_of(&mut self, logs: &[Log], position: u64) -> Place
         requires numbered { IsNumbered (merged (entries_of_logs logs.now)) }
         requires within { position < length (merged (entries_of_logs logs.now)) }
-        ensures { IsPlaced (entries_of_logs logs.now) position result }
+        ensures { StandsAt (entries_of_logs logs.now) position result }
     {
         if let Some(place) = self.noted_at(logs, position) {
             return place;
@@ -63,7 +63,7 @@ impl Window {
     // The place that was noted for this position, where the entry there has it.
     fn noted_at(&self, logs: &[Log], position: u64) -> Option<Place>
         requires { IsNumbered (merged (entries_of_logs logs.now)) }
-        ensures { IfSome result (IsPlaced (entries_of_logs logs.now) position) }
+        ensures { IfSome result (StandsAt (entries_of_logs logs.now) position) }
     {
         let ahead = position.checked_sub(self.first)?;
         let place = self.places.get(ahead as usize)?;
@@ -111,7 +111,7 @@ fn note_log(places: &mut [Place], first: u64, log: &Log, number: usize, from: u6
 fn find(logs: &[Log], position: u64) -> Place
     requires numbered { IsNumbered (merged (entries_of_logs logs.now)) }
     requires within { position < length (merged (entries_of_logs logs.now)) }
-    ensures { IsPlaced (entries_of_logs logs.now) position result }
+    ensures { StandsAt (entries_of_logs logs.now) position result }
 {
     for log in 0..logs.len() {
         if let Some(index) = find_in(&logs[log], position) {

@@ -2,7 +2,7 @@
 // entries have is kept in a short form, and the fields of an item are in an order that leaves no room
 // between them.
 ghost use Rattle.std.specs.Prelude.{◌≡◌, ◌+◌, ◌^◌, ◌<◌, length, Some, IfSome, IsSome, IsTrue};
-ghost use Rattle.tlm_types.specs.LogItem.{access_in, facts_from, full_access, full_head, full_way, head_in, item_for, long_form, plain_in, short_facts, short_span, span_from, stored_at, IsOrdered, IsPlaced, IsShortFor};
+ghost use Rattle.tlm_types.specs.LogItem.{access_in, facts_from, full_access, full_head, full_way, head_in, item_for, long_form, plain_in, short_facts, short_span, span_from, stored_at, IsOrdered, FitsItems, IsShortFor};
 ghost use Rattle.tlm_types.specs.declared.log.long.Event.TheVariants as events;
 ghost use Rattle.tlm_types.specs.declared.words.ObjectNo.TheVariants.{Memory};
 
@@ -96,7 +96,7 @@ impl Item {
     // The entry without what happened. `long` are the long items of its log.
     #[inline(always)]
     pub(super) fn head(&self, long: &[LongItem]) -> Head
-        requires { IsPlaced (length long.now) self.now }
+        requires { FitsItems (length long.now) self.now }
         ensures { result ≡ head_in (long_form long.now self.now) }
     {
         match self {
@@ -133,7 +133,7 @@ impl Item {
 
     // What happened, and for an access none.
     pub(super) fn what(&self, long: &[LongItem]) -> Option<What>
-        requires { IsPlaced (length long.now) self.now }
+        requires { FitsItems (length long.now) self.now }
         ensures { result ≡ plain_in (long_form long.now self.now).event }
     {
         match self {
@@ -155,7 +155,7 @@ impl Item {
     // The plain parts of an access, and for any other entry none.
     #[inline(always)]
     pub(super) fn facts(&self, long: &[LongItem]) -> Option<Facts>
-        requires { IsPlaced (length long.now) self.now }
+        requires { FitsItems (length long.now) self.now }
         ensures { result ≡ facts_from (long_form long.now self.now).event }
     {
         match self {
@@ -179,7 +179,7 @@ impl Item {
     // An access, with where its bytes stand, and for any other entry none.
     #[inline(always)]
     pub(super) fn access(&self, long: &[LongItem]) -> Option<PlacedAccess>
-        requires { IsPlaced (length long.now) self.now }
+        requires { FitsItems (length long.now) self.now }
         ensures { result ≡ access_in (long_form long.now self.now) }
     {
         match self {
@@ -203,7 +203,7 @@ impl Item {
     // Where the bytes of an access stand.
     #[inline(always)]
     pub(super) fn span(&self, long: &[LongItem]) -> Span
-        requires placed { IsPlaced (length long.now) self.now }
+        requires placed { FitsItems (length long.now) self.now }
         requires access { let item = long_form long.now self.now in IsSome (span_from item.start item.event) }
         ensures { let item = long_form long.now self.now in span_from item.start item.event ≡ Some result }
     {

@@ -1,6 +1,6 @@
 // The items of a log: those of most entries in a short form, and the others in a second list.
 ghost use Rattle.std.specs.Prelude.{◌≡◌, ◌<◌, [], ◌∷◌, ◌++◌, length, Some, IsOk, IsSome, IfOk, OnOk, OnErr, slice_get, option_map, option_and_then};
-ghost use Rattle.tlm_types.specs.LogItem.{access_in, facts_from, head_in, item_for, long_form, plain_in, span_at, stored_at, IsOrdered, IsPlaced};
+ghost use Rattle.tlm_types.specs.LogItem.{access_in, facts_from, head_in, item_for, long_form, plain_in, span_at, stored_at, IsOrdered, FitsItems};
 ghost use Rattle.tlm_types.specs.declared.log.long.Event.TheVariants as events;
 
 use super::item::{Item, short_access, short_event};
@@ -82,7 +82,7 @@ impl Items {
 
     #[inline(always)]
     fn push_short(&mut self, item: Item) -> Result<(), Memory>
-        requires { IsPlaced 0 item }
+        requires { FitsItems 0 item }
         ensures ok { OnOk result (self.new ≡ record self.old { items = self.old.items ++ long_form [] item ∷ [] }) }
         ensures err { OnErr result (self.new ≡ self.old) }
         ensures roomy { length self.old.items < self.old.room → IsOk result }

@@ -1,7 +1,7 @@
 use Rattle.std.proofs.Common.{◌≡◌, ◌+◌, ◌<◌, ◌≤◌, ℕ, List, [], ◌∷◌, length, replicate, sum, ap, sym, ◌∙◌, subst, arith}
 use Rattle.std.proofs.lemmas.List.{length-replicate}
 use Rattle.atomic_table.specs.Table.{opening}
-use Rattle.one_history.specs.Rule.{plain, first_view, IsWhole}
+use Rattle.one_history.specs.Rule.{plain, first_view, IsOneLog}
 use Rattle.one_history.proofs.Wholes.{opens}
 use Rattle.one_history.proofs.history.History.new.Goals as goal
 
@@ -11,7 +11,7 @@ of_words-requires g c =
     let n = k.3 in
     let fits = c.ranges.notes in
     let words : 0 ∷ replicate {A = ℕ} (sum c.in_ok-key.key.gates.items) 0 ≡ c.as_slice.result.now = ap (λ (l : List ℕ). 0 ∷ replicate {A = ℕ} (sum l) 0) k.2 ∙ sym (c.as_slice.ensures.value ∙ c.in_ok-words.ensures) in
-    subst (λ (l : List ℕ). IsWhole g.W.Law.backs (plain c.in_ok-key.key) (opening l [] (first_view (plain c.in_ok-key.key)))) words (opens g.W.Law.backs (plain c.in_ok-key.key) (omega arith))
+    subst (λ (l : List ℕ). IsOneLog g.W.Law.backs (plain c.in_ok-key.key) (opening l [] (first_view (plain c.in_ok-key.key)))) words (opens g.W.Law.backs (plain c.in_ok-key.key) (omega arith))
 
 pub invariant_of-history : goal.invariant_of-history
 invariant_of-history g c =

@@ -5,8 +5,8 @@ use Rattle.std.specs.Option.{option_map}
 use Rattle.tlm_types.specs.declared.entry.What.TheVariants.{Release}
 use Rattle.token_book.specs.Account.{retired}
 use Rattle.flow_model.specs.Events.{Event}
-use Rattle.payload_pool.specs.declared.slot.Kept.{Kept}
-use Rattle.payload_pool.specs.Slots.{SlotView, slot_at, given_back, number_of}
+use Rattle.payload_pool.specs.declared.slot.KeptPayload.{KeptPayload}
+use Rattle.payload_pool.specs.Slots.{SlotView, slot_at, given_back, reference_number}
 use Rattle.payload_pool.specs.Pool.{PoolView, IsPool, changed, event_by}
 use Rattle.payload_pool.specs.Inside.{view_of}
 use Rattle.payload_pool.specs.Calls.{is_out}
@@ -23,7 +23,7 @@ give_back-freed-requires-clause-number c =
     let t = c.args.token in
     let k = c.in-Some.place in
     let h = holds_at v c.self.invariant t c.name-name.result k c.deref.result.now c.place_of.result c.deref.ensures.value c.name-name.ensures c.place_of.ensures c.in-Some.is c.requires.token.1 c.retire.ensures.out in
-    let number = c.min-number.ensures ∙ ap (λ (n : ℕ). number_of n) c.name-name.ensures in
+    let number = c.min-number.ensures ∙ ap (λ (n : ℕ). reference_number n) c.name-name.ensures in
     rw (number, read_slot v c.self.invariant k c.index_mut.result.now h.place.within c.index_mut.ensures.value) (some_at v c.self.invariant t k h)
 
 pub push-requires-clause-room : goal.push-requires-clause-room
@@ -39,7 +39,7 @@ held c =
     holds_at (view_of c.self.inside) c.self.invariant c.args.token c.name-name.result c.in-Some.place c.deref.result.now c.place_of.result c.deref.ensures.value c.name-name.ensures c.place_of.ensures c.in-Some.is c.requires.token.1 c.retire.ensures.out
 
 abbrev bytes : (c : goal.After-push) → Option ℕ
-bytes c = option_map (λ (b : Kept). b.payload.room) c.args.kept
+bytes c = option_map (λ (b : KeptPayload). b.payload.room) c.args.kept
 
 freed : (c : goal.After-push) → c.give_back-freed.result ≡ (length (slot_at c.self.inside.slots.items c.in-Some.place).out == 1)
 freed c =
@@ -48,7 +48,7 @@ freed c =
 
 -- the pool afterwards
 after : (c : goal.After-push) → record { initiator = c.self.inside.initiator; room = c.self.inside.room; slots = set c.self.inside.slots.items c.in-Some.place c.give_back-freed.new.self; log = c.push.new.self; book = c.retire.new.book }
-    ≡ changed (view_of c.self.inside) c.in-Some.place (given_back (number_of c.args.token.name) (bytes c) (slot_at c.self.inside.slots.items c.in-Some.place)) (event_by (view_of c.self.inside) c.args.position (slot_at c.self.inside.slots.items c.in-Some.place).txn c.args.at (Release c.in-Some.place (length (slot_at c.self.inside.slots.items c.in-Some.place).out == 1)) (number_of c.args.token.name)) (retired c.self.inside.book c.args.token)
+    ≡ changed (view_of c.self.inside) c.in-Some.place (given_back (reference_number c.args.token.name) (bytes c) (slot_at c.self.inside.slots.items c.in-Some.place)) (event_by (view_of c.self.inside) c.args.position (slot_at c.self.inside.slots.items c.in-Some.place).txn c.args.at (Release c.in-Some.place (length (slot_at c.self.inside.slots.items c.in-Some.place).out == 1)) (reference_number c.args.token.name)) (retired c.self.inside.book c.args.token)
 after c =
     let v = view_of c.self.inside in
     let k = c.in-Some.place in
@@ -60,7 +60,7 @@ after c =
 pub invariant_of-self : goal.invariant_of-self
 invariant_of-self c =
     let v = view_of c.self.inside in
-    let part = subst (λ (w : PoolView). MatchOption c.args.kept (c.args.token.name % 32 < 15) (λ (b : Kept). (16 ≤ c.args.token.name % 32) × (b.payload.room ≡ w.room))) (sym c.self.view_is) c.requires.part in
+    let part = subst (λ (w : PoolView). MatchOption c.args.kept (c.args.token.name % 32 < 15) (λ (b : KeptPayload). (16 ≤ c.args.token.name % 32) × (b.payload.room ≡ w.room))) (sym c.self.view_is) c.requires.part in
     let past = subst (λ (w : PoolView). is_out w c.args.token.name ≡ true → All (λ (y : Event). y.position < c.args.position) w.log.events) (sym c.self.view_is) c.requires.past (held c).place.any in
     subst IsPool (sym (after c)) (kept_release v c.self.invariant c.args.token c.in-Some.place c.args.position c.args.at (bytes c) (held c) (brought v c.self.invariant c.args.token.name c.args.kept part) past)
 

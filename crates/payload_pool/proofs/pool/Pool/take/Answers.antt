@@ -5,7 +5,7 @@ use Rattle.token_book.specs.Account.{issued}
 use Rattle.tlm_types.specs.declared.entry.What.TheVariants.{Take}
 use Rattle.generic_payload.specs.Payload.{new_payload}
 use Rattle.flow_model.specs.Events.{Event}
-use Rattle.payload_pool.specs.Slots.{SlotView, is_free, begun, name_of}
+use Rattle.payload_pool.specs.Slots.{SlotView, is_free, taken_slot, name_of}
 use Rattle.payload_pool.specs.Pool.{PoolView, IsPool, changed, event_by, has_free}
 use Rattle.payload_pool.specs.Inside.{view_of}
 use Rattle.payload_pool.proofs.Found.{found_in, none_in, passes_found}
@@ -60,7 +60,7 @@ issue_own-own-requires-clause-few c =
 
 -- the pool afterwards
 after : (c : goal.After-issue_own-own) → record { initiator = c.self.inside.initiator; room = c.self.inside.room; slots = set c.self.inside.slots.items c.in_ok-place.place c.begin-payload.new.self; log = c.push.new.self; book = c.issue_own-own.new.book }
-    ≡ changed (view_of c.self.inside) c.in_ok-place.place (begun c.args.txn c.args.position) (event_by (view_of c.self.inside) c.args.position c.args.txn c.args.at (Take c.in_ok-place.place) 0) (issued c.self.inside.book (name_of c.args.position 16) 1)
+    ≡ changed (view_of c.self.inside) c.in_ok-place.place (taken_slot c.args.txn c.args.position) (event_by (view_of c.self.inside) c.args.position c.args.txn c.args.at (Take c.in_ok-place.place) 0) (issued c.self.inside.book (name_of c.args.position 16) 1)
 after c = rw (c.begin-payload.ensures.slot, c.push.ensures, c.head.ensures, c.issue_own-own.ensures.book) refl
 
 pub invariant_of-self : goal.invariant_of-self

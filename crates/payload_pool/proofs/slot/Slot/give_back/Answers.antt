@@ -2,12 +2,12 @@ use Rattle.std.proofs.Common.{◌≡◌, ℕ, ◌==◌, ◌≤◌, Bool, Option,
 use Rattle.std.specs.List.{list_any}
 use Rattle.std.specs.Option.{option_map, option_or}
 use Rattle.std.proofs.lemmas.Bool.{both_ways, lt-ltb}
-use Rattle.payload_pool.specs.declared.slot.Kept.{Kept}
+use Rattle.payload_pool.specs.declared.slot.KeptPayload.{KeptPayload}
 use Rattle.payload_pool.specs.Slots.{SlotView, tally}
 use Rattle.payload_pool.proofs.Found.{any_count, found_in, none_in}
 use Rattle.payload_pool.proofs.slot.Slot.give_back.Goals as goal
 
-map_or : (a b : Option Kept) → option_map (λ (k : Kept). k.payload.room) (option_or a b) ≡ option_or (option_map (λ (k : Kept). k.payload.room) a) (option_map (λ (k : Kept). k.payload.room) b)
+map_or : (a b : Option KeptPayload) → option_map (λ (k : KeptPayload). k.payload.room) (option_or a b) ≡ option_or (option_map (λ (k : KeptPayload). k.payload.room) a) (option_map (λ (k : KeptPayload). k.payload.room) b)
 map_or None b = refl
 map_or (Some k) b = refl
 

@@ -1,6 +1,6 @@
 use Rattle.std.proofs.Common.{ℕ, [], ◌∷◌, ◌++◌, length, ap, ◌∙◌, zero-add}
 use Rattle.shared_object.specs.Written.{noted}
-use Rattle.region_object.specs.Region.{LoggedMemory, entry_of}
+use Rattle.region_object.specs.Region.{LoggedMemory, region_entry}
 use Rattle.region_object.specs.Written.{written_from}
 use Rattle.region_object.proofs.Written.{written_from-more}
 use Rattle.region_object.proofs.object.RegionObject.apply.Goals as goal
@@ -8,7 +8,7 @@ use Rattle.region_object.proofs.object.RegionObject.apply.Goals as goal
 pub returns-clause-entry : goal.returns-clause-entry
 returns-clause-entry c is =
     let r = c.args.self.now in
-    let e = entry_of r c.args.position c.args.call in
+    let e = region_entry r c.args.position c.args.call in
     ap (λ (m : LoggedMemory). written_from 0 m.log.entries) c.apply-reply.ensures.memory
     ∙ written_from-more 0 r.log.entries e
     ∙ ap (λ (k : ℕ). written_from 0 r.log.entries ++ noted k e ∷ []) (zero-add (length r.log.entries))

@@ -1,6 +1,6 @@
 use Rattle.std.proofs.Common.{ℕ, ◌+◌, List, ap, subst, sym, ◌∙◌, arith, length-set}
-use Rattle.run_queue.specs.declared.jobs.Place.{Place}
-use Rattle.run_queue.specs.declared.jobs.Place.TheVariants.{Finished}
+use Rattle.run_queue.specs.declared.jobs.JobState.{JobState}
+use Rattle.run_queue.specs.declared.jobs.JobState.TheVariants.{Finished}
 use Rattle.run_queue.specs.Queue.{IsOut}
 use Rattle.run_queue.proofs.Places.{sound_ended, finished_ended}
 use Rattle.run_queue.proofs.jobs.Jobs.finish.Goals as goal
@@ -12,7 +12,7 @@ invariant_of-self g c =
     let n = c.number-number.result in
     let job = c.args.job in
     let inv = c.self.invariant in
-    let out : IsOut places n = subst (λ (xs : List (Place g.row.J.Denot)). IsOut xs n) c.deref.ensures.value (c.is_out.ensures.0 c.if-is_out.true) in
+    let out : IsOut places n = subst (λ (xs : List (JobState g.row.J.Denot)). IsOut xs n) c.deref.ensures.value (c.is_out.ensures.0 c.if-is_out.true) in
     let number = sym c.number-number.ensures in
     let length_new = length-set places n (Finished job) in (
       sound_ended g.J.Job.number_of g.J.Job.is_done places order inv.0 n job out.0 out.1 number c.requires,

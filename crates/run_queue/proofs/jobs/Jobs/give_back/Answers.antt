@@ -1,6 +1,6 @@
 use Rattle.std.proofs.Common.{List, subst, sym, ◌∙◌, arith, length-set}
-use Rattle.run_queue.specs.declared.jobs.Place.{Place}
-use Rattle.run_queue.specs.declared.jobs.Place.TheVariants.{Waiting}
+use Rattle.run_queue.specs.declared.jobs.JobState.{JobState}
+use Rattle.run_queue.specs.declared.jobs.JobState.TheVariants.{Waiting}
 use Rattle.run_queue.specs.Queue.{IsOut}
 use Rattle.run_queue.specs.Sound.{IsSound}
 use Rattle.run_queue.proofs.Places.{sound_given, given_fits, finished_given}
@@ -11,7 +11,7 @@ push_back_reserved-requires g c =
     let places = c.self.inside.places.items in
     let n = c.number-number.result in
     let inv = c.self.invariant in
-    let out : IsOut places n = subst (λ (xs : List (Place g.row.J.Denot)). IsOut xs n) c.deref.ensures.value (c.is_out.ensures.0 c.if-is_out.true) in
+    let out : IsOut places n = subst (λ (xs : List (JobState g.row.J.Denot)). IsOut xs n) c.deref.ensures.value (c.is_out.ensures.0 c.if-is_out.true) in
     let fits = given_fits g.J.Job.number_of g.J.Job.is_done places c.self.inside.order.items inv.0 n c.args.job out.0 out.1 (sym c.number-number.ensures) in
     omega (arith, inv.2, c.self.inside.order.ok.0)
 
@@ -22,7 +22,7 @@ invariant_of-self g c =
     let n = c.number-number.result in
     let job = c.args.job in
     let inv = c.self.invariant in
-    let out : IsOut places n = subst (λ (xs : List (Place g.row.J.Denot)). IsOut xs n) c.deref.ensures.value (c.is_out.ensures.0 c.if-is_out.true) in
+    let out : IsOut places n = subst (λ (xs : List (JobState g.row.J.Denot)). IsOut xs n) c.deref.ensures.value (c.is_out.ensures.0 c.if-is_out.true) in
     let number = sym c.number-number.ensures in
     let length_new = length-set places n (Waiting job) in (
       subst (IsSound g.J.Job.number_of g.J.Job.is_done _) (sym c.push_back_reserved.ensures.items)

@@ -1,7 +1,7 @@
 use Rattle.std.proofs.Common.{◌≡◌, ℕ, ◌∷◌, set, ap, subst, sym, ◌∙◌, arith, length-set}
-use Rattle.run_queue.specs.declared.jobs.Place.{Place}
-use Rattle.run_queue.specs.declared.jobs.Place.TheVariants.{Waiting, Out}
-use Rattle.run_queue.specs.Queue.{Queue, place_of, waits, job_of, finished_count}
+use Rattle.run_queue.specs.declared.jobs.JobState.{JobState}
+use Rattle.run_queue.specs.declared.jobs.JobState.TheVariants.{Waiting, Out}
+use Rattle.run_queue.specs.Queue.{Queue, job_place, waits, job_of, finished_count}
 use Rattle.run_queue.specs.Sound.{IsSound}
 use Rattle.run_queue.proofs.Places.{first_waits, waits_within, waits_is, place_of_read, sound_taken, finished_taken}
 use Rattle.run_queue.proofs.jobs.Jobs.take.Goals as goal
@@ -30,9 +30,9 @@ invariant_of-self-2 g c =
     let inv = c.self.invariant in
     let out = sym c.replace.ensures.after in
     let length_new = length-set places n c.replace.new.dest in (
-      subst (λ (p : Place g.row.J.Denot). IsSound g.J.Job.number_of g.J.Job.is_done (set places n p) c.pop_front.new.self.items) out
+      subst (λ (p : JobState g.row.J.Denot). IsSound g.J.Job.number_of g.J.Job.is_done (set places n p) c.pop_front.new.self.items) out
           (sound_taken g.J.Job.number_of g.J.Job.is_done places order inv.0 n _ c.in-Some.ensures.items),
-      inv.1 ∙ sym (finished_taken g.J.Job.number_of g.J.Job.is_done places order inv.0 n _ c.in-Some.ensures.items) ∙ ap (λ (p : Place g.row.J.Denot). finished_count (set places n p)) out,
+      inv.1 ∙ sym (finished_taken g.J.Job.number_of g.J.Job.is_done places order inv.0 n _ c.in-Some.ensures.items) ∙ ap (λ (p : JobState g.row.J.Denot). finished_count (set places n p)) out,
       omega (arith, inv.2, c.in-Some.ensures.capacity),
       inv.3,
       omega (arith, inv.4),
@@ -46,12 +46,12 @@ returns-clause-took g c =
     let inv = c.self.invariant in
     let waiting = first_waits g.J.Job.number_of g.J.Job.is_done places c.self.inside.order.items inv.0 n _ c.in-Some.ensures.items in
     let read = place_of_read places n c.index_mut.result.now (waits_within places n waiting) c.index_mut.ensures.value in
-    let here : place_of places n ≡ Waiting job = read ∙ sym c.replace.ensures.value ∙ c.in-Waiting.is in
+    let here : job_place places n ≡ Waiting job = read ∙ sym c.replace.ensures.value ∙ c.in-Waiting.is in
     let number : g.J.Job.number_of job ≡ n = inv.0.placed.numbered n job (ap job_of here) in
     let seen = c.self.view_is in
     record {
       first = ap (λ (q : Queue g.row.J.Denot). q.order) (sym seen) ∙ c.in-Some.ensures.items ∙ ap (λ (m : ℕ). m ∷ c.pop_front.new.self.items) (sym number);
-      waited = ap (λ (q : Queue g.row.J.Denot). place_of q.places (g.J.Job.number_of job)) (sym seen) ∙ ap (place_of places) number ∙ here;
+      waited = ap (λ (q : Queue g.row.J.Denot). job_place q.places (g.J.Job.number_of job)) (sym seen) ∙ ap (job_place places) number ∙ here;
       out = ap (set places n) c.replace.ensures.after ∙ ap (λ (m : ℕ). set places m Out) (sym number) ∙ ap (λ (q : Queue g.row.J.Denot). set q.places (g.J.Job.number_of job) Out) seen;
       unfinished = ap (λ (q : Queue g.row.J.Denot). q.unfinished) seen;
     }
