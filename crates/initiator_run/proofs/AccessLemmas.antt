@@ -19,11 +19,11 @@ use Rattle.script_engine.specs.Laws.{PassesInOrder, IsToldInOrder}
 use Rattle.script_engine.specs.State.{State, op_of, is_fenced, payload_of, passed_by, told_by}
 use Rattle.script_engine.specs.Asking.{IsAnswered, asked_by, requests_at, stage_after, syncs_at, syncs_then, end_at, numbers_at, time_after_op}
 use Rattle.initiator_run.specs.Come.{HasCounted, HasCome}
-use Rattle.initiator_run.specs.Served.{IsServed}
+use Rattle.traffic_script.specs.Proper.{IsProper}
 use Rattle.initiator_run.specs.Run.{Run, engine_after, arrived, accessed, refused_item, refused_op, with_refusal, IsAccessOp, address_of, request_for}
 use Rattle.initiator_run.proofs.ComeLemmas.{HasMade-unrouted, HasMade-answered}
 use Rattle.initiator_run.proofs.CountLemmas.{Leaves, HasCounted-moved, time_stepped}
-use Rattle.initiator_run.proofs.MoveLemmas.{come_by, passed_initiator, passed_served, told_at_initiator, told_served}
+use Rattle.initiator_run.proofs.MoveLemmas.{come_by, passed_initiator, passed_proper, told_at_initiator, told_proper}
 use Rattle.initiator_run.proofs.NextLemmas.{seq_of_request}
 use Rattle.initiator_run.proofs.RoundLemmas.{rounds_after}
 
@@ -41,9 +41,9 @@ pub after_initiator : (b : Bool) (e : State) (got : List ℕ) → (cond b (told_
 after_initiator true e got = told_at_initiator e got e.due
 after_initiator false e got = passed_initiator e e.remaining
 
-after_served : (b : Bool) (e : State) (got : List ℕ) → AllByRecursion IsServed e.remaining → AllByRecursion IsServed (cond b (told_by e got) (passed_by e)).remaining
-after_served true e got served = told_served e got e.due served
-after_served false e got served = passed_served e e.remaining refl served
+after_proper : (b : Bool) (e : State) (got : List ℕ) → AllByRecursion IsProper e.remaining → AllByRecursion IsProper (cond b (told_by e got) (passed_by e)).remaining
+after_proper true e got proper = told_proper e got e.due proper
+after_proper false e got proper = passed_proper e e.remaining refl proper
 
 -- the laws of an engine's steps
 pub record Laws : Type 0 where
@@ -150,7 +150,7 @@ HasCome-unrouted laws p i h r by room got is latency nowhere answers told come =
     ∙ (ap (λ (x : List RefusedItem). map refused_item (filter (λ x. has_no_route p i x x.asked) come.made) ++ x) (told come.stage)
     ∙ sym (filtered-push (λ x. has_no_route p i x x.asked) come.made q true (access_route p i op (payload_of r.engine room) t come.stage is ∙ ap (λ (x : Option Route). is_none x) nowhere))))
     (HasCounted-moved p i before op (engine_after r.engine got) (arrived op by r.keeper) counted (leaves_after laws p i before by got is latency))
-    (after_served (is_fenced op) r.engine got come.served)
+    (after_proper (is_fenced op) r.engine got come.proper)
   where
     op : Op
     op = op_of r.engine
@@ -192,7 +192,7 @@ HasCome-answered laws p i h e r by room got route is latency leads mine number a
     (one_more laws r come.made q got is come.count)
     (come.refused ∙ sym (filtered-push (λ x. has_no_route p i x x.asked) come.made q false (access_route p i op (payload_of r.engine room) t come.stage is ∙ ap (λ (x : Option Route). is_none x) leads) ∙ append_nil (map refused_item (filter (λ x. has_no_route p i x x.asked) come.made))))
     (HasCounted-moved p i r op (engine_after r.engine got) (arrived op by r.keeper) come.counted (leaves_after laws p i r by got is latency))
-    (after_served (is_fenced op) r.engine got come.served)
+    (after_proper (is_fenced op) r.engine got come.proper)
   where
     op : Op
     op = op_of r.engine

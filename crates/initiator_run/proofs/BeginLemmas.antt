@@ -14,7 +14,8 @@ use Rattle.tlm_model.specs.Rounds.{syncs_after, syncs_from}
 use Rattle.tlm_model.specs.declared.ask.Ask.TheVariants.{Access as AnAccess, DebugRead as ADebugRead, Invalidation as AnInvalidation}
 use Rattle.tlm_model.specs.Actions.{asks_of}
 use Rattle.route_plan.specs.Planned.{at_memory}
-use Rattle.initiator_run.specs.Served.{IsServed, IsServable}
+use Rattle.traffic_script.specs.Proper.{AreProper}
+use Rattle.route_plan.specs.Valid.{IsValid}
 use Rattle.initiator_run.specs.Left.{asked_in, leads}
 
 -- at most one sync stands after an operation
@@ -46,18 +47,14 @@ asked_planned p i m (Add a n ∷ ops) =
 asked_planned p i m (Invalidate a n ∷ ops) = ap (λ (n : ℕ). leads p i m a + n) (asked_planned p i m ops) ∙ sym (sum_by-cons (at_memory p i m) (AnInvalidation a) (flat_map asks_of ops))
 asked_planned p i m (op ∷ ops) = zero-add (asked_in p i m ops) ∙ asked_planned p i m ops
 
--- the script of an initiator
-pub record HasScript (p : Plan) (i : Initiator) : Type 0 where
-  pub served : AllByRecursion IsServed i.script
-  pub few : length i.script ≤ 100000
-
-script_from : (p : Plan) (k n : ℕ) (rows : List InitiatorRow) (scripts : List (List Operation)) (i : Initiator) → AllByRecursion (AllByRecursion IsServed) scripts → AllByRecursion (λ (s : List Operation). length s ≤ 100000) scripts → slice_get (initiators_from k rows scripts) n ≡ Some i → HasScript p i
-script_from p k n [] scripts i served few is = cc
-script_from p k n (row ∷ rows) [] i served few is = cc
-script_from p k zero (row ∷ rows) (script ∷ scripts) i served few is =
+script_from : (k n : ℕ) (rows : List InitiatorRow) (scripts : List (List Operation)) (i : Initiator) → AllByRecursion AreProper scripts → slice_get (initiators_from k rows scripts) n ≡ Some i → AreProper i.script
+script_from k n [] scripts i all is = cc
+script_from k n (row ∷ rows) [] i all is = cc
+script_from k zero (row ∷ rows) (script ∷ scripts) i all is =
     let same : record { number = k; row = row; script = script } ≡ i = cc in
-    subst (HasScript p) same (record { served = served.0; few = few.0 })
-script_from p k (suc n) (row ∷ rows) (script ∷ scripts) i served few is = script_from p (k + 1) n rows scripts i served.1 few.1 is
+    subst (λ (x : Initiator). AreProper x.script) same all.0
+script_from k (suc n) (row ∷ rows) (script ∷ scripts) i all is = script_from (k + 1) n rows scripts i all.1 is
 
-pub script_at : (p : Plan) → IsServable p → (k : ℕ) (i : Initiator) → slice_get (initiators_of p) k ≡ Some i → HasScript p i
-script_at p servable k i mine = script_from p 0 k p.platform.initiators p.scripts i servable.served servable.few mine
+-- the script of an initiator of a valid plan is proper
+pub proper_at : (p : Plan) → IsValid p → (n : ℕ) (i : Initiator) → slice_get (initiators_of p) n ≡ Some i → AreProper i.script
+proper_at p valid n i is = script_from 0 n p.platform.initiators p.scripts i valid.proper is

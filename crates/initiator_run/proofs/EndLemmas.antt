@@ -19,7 +19,7 @@ use Rattle.script_engine.specs.Laws.{BeginsAtTheStart, EndsWithNothingLeft}
 use Rattle.script_engine.specs.State.{begun_engine, op_of, payload_of}
 use Rattle.script_engine.specs.Asking.{requests_at, syncs_at}
 use Rattle.initiator_run.specs.Come.{HasCome, has_ended, rounds_at}
-use Rattle.initiator_run.specs.Served.{IsServed}
+use Rattle.traffic_script.specs.Proper.{IsProper}
 use Rattle.initiator_run.specs.Run.{Run, fresh_run, refused_item, request_for, IsAccessOp, address_of}
 use Rattle.initiator_run.proofs.ComeLemmas.{HasMade-other}
 use Rattle.initiator_run.proofs.NextLemmas.{request_is_first, seq_of_request}
@@ -34,7 +34,7 @@ HasCome-other p i h e r apart come = record {
   count = come.count;
   refused = come.refused;
   counted = come.counted;
-  served = come.served;
+  proper = come.proper;
 }
 
 -- a run that was finished is where it was
@@ -55,7 +55,7 @@ HasCome-finished p i h r b come = record {
     few = come.counted.few;
     roomy = come.counted.roomy;
   };
-  served = come.served;
+  proper = come.proper;
 }
 
 -- so is one that is let into another round
@@ -76,7 +76,7 @@ HasCome-round p i h r n come = record {
     few = come.counted.few;
     roomy = come.counted.roomy;
   };
-  served = come.served;
+  proper = come.proper;
 }
 
 -- the requests of a history, as they were made and are left
@@ -139,8 +139,8 @@ HasCome-open p i h r route is leads come =
     ∙ one_unsettled p i h come.made first.more q (request_is_open p i h r route is leads come)
 
 -- a run that has not begun
-pub HasCome-begun : (begins : BeginsAtTheStart) (p : Platform) (i : Initiator) (room : ℕ) → syncs_from p i 0 0 i.script < 2 ^ 64 → numbers_in i.script ≤ room → AllByRecursion IsServed i.script → HasCome p i [] (fresh_run i.number i.script p.quantum room)
-HasCome-begun begins p i room few roomy served = record {
+pub HasCome-begun : (begins : BeginsAtTheStart) (p : Platform) (i : Initiator) (room : ℕ) → syncs_from p i 0 0 i.script < 2 ^ 64 → numbers_in i.script ≤ room → AllByRecursion IsProper i.script → HasCome p i [] (fresh_run i.number i.script p.quantum room)
+HasCome-begun begins p i room few roomy proper = record {
   stage = 0;
   made = [];
   asked = record {
@@ -160,7 +160,7 @@ HasCome-begun begins p i room few roomy served = record {
     few = few;
     roomy = roomy;
   };
-  served = served;
+  proper = proper;
 }
   where
     whole : (s : ℕ) → s - 0 ≡ s

@@ -16,5 +16,4 @@ pub mod BoardLemmas
 pub mod AdvanceLemmas
 pub mod RouteLemmas
 pub mod EntryLemmas
-pub mod ServableLemmas
 pub mod BeginLemmas

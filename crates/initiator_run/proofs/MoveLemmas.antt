@@ -14,7 +14,7 @@ use Rattle.script_engine.specs.Laws.{PassesInOrder}
 use Rattle.script_engine.specs.State.{Due, State, op_of, is_fenced, payload_of, passed_over, passed_by, told_first, told_at}
 use Rattle.script_engine.specs.Asking.{asked_by, requests_at, stage_after, time_after_op}
 use Rattle.initiator_run.specs.Come.{HasMade, HasCounted, HasCome}
-use Rattle.initiator_run.specs.Served.{IsServed}
+use Rattle.traffic_script.specs.Proper.{IsProper}
 use Rattle.initiator_run.specs.Run.{Run, with_sync, waited, passed, refused_item, IsQuiet}
 use Rattle.initiator_run.proofs.ComeLemmas.{HasMade-quiet}
 use Rattle.initiator_run.proofs.RoundLemmas.{rounds_passed}
@@ -24,9 +24,9 @@ pub passed_initiator : (e : State) (ops : List Operation) → (passed_over e ops
 passed_initiator e [] = refl
 passed_initiator e (op ∷ ops) = refl
 
-pub passed_served : (e : State) (ops : List Operation) → e.remaining ≡ ops → AllByRecursion IsServed ops → AllByRecursion IsServed (passed_over e ops).remaining
-passed_served e [] same served = subst (AllByRecursion IsServed) (sym same) served
-passed_served e (op ∷ ops) same served = served.1
+pub passed_proper : (e : State) (ops : List Operation) → e.remaining ≡ ops → AllByRecursion IsProper ops → AllByRecursion IsProper (passed_over e ops).remaining
+passed_proper e [] same proper = subst (AllByRecursion IsProper) (sym same) proper
+passed_proper e (op ∷ ops) same proper = proper.1
 
 told_initiator : (e : State) (got : List ℕ) (due : Option Due) (ops : List Operation) → (told_first e got ops).initiator ≡ e.initiator
 told_initiator e got due [] = refl
@@ -36,20 +36,20 @@ pub told_at_initiator : (e : State) (got : List ℕ) (due : Option Due) → (tol
 told_at_initiator e got None = told_initiator e got None e.remaining
 told_at_initiator e got (Some w) = refl
 
-told_first_served : (e : State) (got : List ℕ) (ops : List Operation) → e.remaining ≡ ops → AllByRecursion IsServed ops → AllByRecursion IsServed (told_first e got ops).remaining
-told_first_served e got [] same served = subst (AllByRecursion IsServed) (sym same) served
-told_first_served e got (op ∷ ops) same served = served.1
+told_first_proper : (e : State) (got : List ℕ) (ops : List Operation) → e.remaining ≡ ops → AllByRecursion IsProper ops → AllByRecursion IsProper (told_first e got ops).remaining
+told_first_proper e got [] same proper = subst (AllByRecursion IsProper) (sym same) proper
+told_first_proper e got (op ∷ ops) same proper = proper.1
 
-pub told_served : (e : State) (got : List ℕ) (due : Option Due) → AllByRecursion IsServed e.remaining → AllByRecursion IsServed (told_at e got due).remaining
-told_served e got None served = told_first_served e got e.remaining refl served
-told_served e got (Some w) served = served
+pub told_proper : (e : State) (got : List ℕ) (due : Option Due) → AllByRecursion IsProper e.remaining → AllByRecursion IsProper (told_at e got due).remaining
+told_proper e got None proper = told_first_proper e got e.remaining refl proper
+told_proper e got (Some w) proper = proper
 
 -- a run is where its history leaves it, with the sync that is due
 pub come_by : (p : Platform) (i : Initiator) (h : List Entry) (op : Op) (r : Run) (stage : ℕ) (made : List Request)
     → HasMade p i h made (λ m. requests_at p i m (current_time r.keeper) stage r.engine) → length made ≡ r.engine.seq
     → r.refused.items ≡ map refused_item (filter (λ q. has_no_route p i q q.asked) made)
-    → HasCounted p i (with_sync op r) → AllByRecursion IsServed r.engine.remaining → HasCome p i h (with_sync op r)
-come_by p i h op r stage made asked count refused counted served = record {
+    → HasCounted p i (with_sync op r) → AllByRecursion IsProper r.engine.remaining → HasCome p i h (with_sync op r)
+come_by p i h op r stage made asked count refused counted proper = record {
   stage = stage;
   made = made;
   asked = HasMade-quiet p i h made _ _
@@ -59,7 +59,7 @@ come_by p i h op r stage made asked count refused counted served = record {
   count = count ∙ ap (λ (e : State). e.seq) (sym (with_sync_engine op r));
   refused = ap (λ (x : _). x.items) (with_sync_refused op r) ∙ refused;
   counted = counted;
-  served = subst (λ (e : State). AllByRecursion IsServed e.remaining) (sym (with_sync_engine op r)) served;
+  proper = subst (λ (e : State). AllByRecursion IsProper e.remaining) (sym (with_sync_engine op r)) proper;
 }
 
 quiet_asks : (op : Op) (payload : PayloadView) (t g : ℕ) → IsQuiet op → asked_by op payload t g ≡ []
@@ -109,7 +109,7 @@ HasCome-quiet p i h r passes quiet come =
       rounds = λ s. rounds_passed p i r.keeper.last_sync t s r.engine unfenced (quiet_is_not_done op quiet);
       numbers = passes.numbers r.engine unfenced;
     }))
-    (passed_served r.engine r.engine.remaining refl come.served)
+    (passed_proper r.engine r.engine.remaining refl come.proper)
   where
     op : Op
     op = op_of r.engine

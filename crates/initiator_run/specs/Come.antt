@@ -13,7 +13,7 @@ use Rattle.quantum_keeper.specs.Keeper.{current_time}
 use Rattle.script_engine.specs.State.{Due, State}
 use Rattle.script_engine.specs.Asking.{requests_at, end_at, syncs_at, numbers_at}
 use Rattle.initiator_run.specs.Run.{Run, refused_item}
-use Rattle.initiator_run.specs.Served.{IsServed}
+use Rattle.traffic_script.specs.Proper.{IsProper}
 
 -- An initiator has made these requests, and what it asks for from here on, `left`, follows whatever is
 -- answered next.
@@ -53,7 +53,7 @@ pub record HasCome (p : Platform) (i : Initiator) (h : List Entry) (r : Run) : T
   pub count : length made ≡ r.engine.seq
   pub refused : r.refused.items ≡ map refused_item (filter (λ q. has_no_route p i q q.asked) made)
   pub counted : HasCounted p i r
-  pub served : AllByRecursion IsServed r.engine.remaining
+  pub proper : AllByRecursion IsProper r.engine.remaining
 
 -- all that an initiator asks for is settled: its script has ended, but for what needs no answer
 abbrev pub has_ended : Platform → Initiator → List Entry → Bool

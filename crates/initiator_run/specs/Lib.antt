@@ -1,4 +1,3 @@
-pub mod Served
 pub mod Entry
 pub mod Run
 pub mod Board

@@ -5,8 +5,6 @@
 //!   that has no route is noted as refused, one that has is a `NextAccess`, and `complete` goes on after it.
 //! - `take_turn` makes its moves up to and with its next entry at a memory, as far as the rounds let it; a
 //!   `Turn` tells how that ended.
-//! - `look_through` tells that a plan is servable: its initiators are blocking, and no script has an
-//!   `invalidate`.
 //!
 //! Promises: a move keeps to the script by the replies so far (`Keeps`), makes at most one sync
 //! (`SyncsOnce`) and takes at most one operation, or access of one (`StepsOnce`); where it makes no
@@ -16,9 +14,7 @@
 #![tactic(auto)]
 
 mod run;
-mod served;
 mod turn;
 
 pub use run::{InitiatorRun, Move, NextAccess};
-pub use served::look_through;
 pub use turn::{Turn, take_turn};

@@ -14,7 +14,7 @@ use Rattle.tlm_model.specs.declared.platform.MemoryRow.{MemoryRow}
 use Rattle.tlm_model.specs.declared.platform.Platform.{Platform}
 use Rattle.tlm_model.specs.declared.platform.RouterRow.{RouterRow}
 use Rattle.tlm_model.specs.Plan.{Plan}
-use Rattle.platform_file.specs.Bounded.{IsBounded}
+use Rattle.platform_model.specs.Bounded.{IsBounded}
 use Rattle.route_plan.specs.Planned.{planned_at}
 use Rattle.route_plan.specs.Valid.{IsObject, checked_plan, hop_count, planned_in_all}
 use Rattle.route_plan.proofs.NumberLemmas.{window_hop-le}

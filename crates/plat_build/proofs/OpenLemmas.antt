@@ -8,7 +8,7 @@ use Rattle.tlm_types.specs.declared.words.ObjectNo.{ObjectNo}
 use Rattle.tlm_types.specs.declared.words.ObjectNo.TheVariants.{Memory, Hop}
 use Rattle.tlm_model.specs.declared.platform.Platform.{Platform}
 use Rattle.tlm_model.specs.Plan.{Plan}
-use Rattle.platform_file.specs.Bounded.{IsBounded}
+use Rattle.platform_model.specs.Bounded.{IsBounded}
 use Rattle.route_plan.specs.Planned.{planned_at}
 use Rattle.route_plan.specs.Valid.{checked_plan, hop_count}
 use Rattle.plat_build.specs.Objects.{frame_of, gates_at, gates_of, notes_of, objects_of, planned_of, pools_of}

@@ -15,7 +15,7 @@ use Rattle.route_plan.specs.Planned.{planned_at, share_of}
 use Rattle.script_engine.proofs.Remaining.{few_numbers}
 use Rattle.script_engine.proofs.Steps.{begins}
 use Rattle.plat_core.specs.Core.{IsCore, IsMemoryAt, IsRunOf, are_finished, begun_run, history_of, logs_of, no_runs}
-use Rattle.initiator_run.specs.Served.{IsServable}
+use Rattle.route_plan.specs.Valid.{IsValid}
 use Rattle.plat_core.specs.Fresh.{AreFresh, IsFresh}
 use Rattle.initiator_run.specs.Left.{asked_in, total_left}
 use Rattle.run_outcome.specs.Merge.{by_position, entries_in}
@@ -23,7 +23,8 @@ use Rattle.initiator_run.specs.Run.{Run, fresh_run}
 use Rattle.initiator_run.proofs.EndLemmas.{HasCome-begun}
 use Rattle.run_outcome.proofs.ListLemmas.{at_push}
 use Rattle.run_outcome.proofs.PlanLemmas.{no_fourphase}
-use Rattle.initiator_run.proofs.BeginLemmas.{syncs_bound, asked_planned, HasScript, script_at}
+use Rattle.traffic_script.specs.Proper.{AreProper}
+use Rattle.initiator_run.proofs.BeginLemmas.{asked_planned, proper_at, syncs_bound}
 
 share_bound : (p : Plan) (i : Initiator) (m : ℕ) → asked_in p i m i.script ≤ share_of p i (memory_object m)
 unfolding share_of
@@ -55,22 +56,22 @@ pub no_history : (p : Plan) (regions : List LoggedMemory) (n : ℕ) → AreFresh
 no_history p regions n fresh = ap by_position (empty_logs regions (λ k m is. (fresh.each k m is).empty))
 
 -- a core before its first step
-pub core_begun : (p : Plan) (runs : List Run) (regions : List LoggedMemory) → IsServable p → runs ≡ no_runs p → AreFresh p regions (length p.platform.memories) → length (initiators_of p) ≡ length p.platform.initiators → IsCore p runs regions 0
-core_begun p runs regions servable same fresh count =
+pub core_begun : (p : Plan) (runs : List Run) (regions : List LoggedMemory) → IsValid p → runs ≡ no_runs p → AreFresh p regions (length p.platform.memories) → length (initiators_of p) ≡ length p.platform.initiators → IsCore p runs regions 0
+core_begun p runs regions valid same fresh count =
     let none : history_of regions ≡ [] = no_history p regions (length p.platform.memories) fresh in
     subst (λ (r : List Run). IsCore p r regions 0) (sym same) (record {
-      servable = servable;
-      sound = subst (IsSound p) (sym none) (sound_empty p (no_fourphase p servable.blocking));
+      valid = valid;
+      sound = subst (IsSound p) (sym none) (sound_empty p (no_fourphase p valid));
       count = sym (ap length none);
       run_count = length-map (initiators_of p) (begun_run p) ∙ count;
       region_count = fresh.count;
-      each_run = λ k i r mine run. subst (λ (h : List Entry). IsRunOf p h i r) (sym none) (subst (IsRunOf p [] i) (begun_at p (initiators_of p) k i r mine run) (run_begun i (script_at p servable k i mine)));
+      each_run = λ k i r mine run. subst (λ (h : List Entry). IsRunOf p h i r) (sym none) (subst (IsRunOf p [] i) (begun_at p (initiators_of p) k i r mine run) (run_begun i (proper_at p valid k i mine)));
       each_region = λ k m is. subst (λ (h : List Entry). IsMemoryAt p (no_runs p) h k m) (sym none) (memory_begun k m (fresh.each k m is));
     })
   where
-    run_begun : (i : Initiator) → HasScript p i → IsRunOf p [] i (begun_run p i)
+    run_begun : (i : Initiator) → AreProper i.script → IsRunOf p [] i (begun_run p i)
     run_begun i has = record {
-      come = HasCome-begun begins p.platform i (2 * length i.script) (omega (arith, syncs_bound p.platform i 0 0 i.script, has.few)) (few_numbers i.script) has.served;
+      come = HasCome-begun begins p.platform i (2 * length i.script) (omega (arith, syncs_bound p.platform i 0 0 i.script, has.few)) (few_numbers i.script) has.each;
       finished = λ f. cc;
     }
 

@@ -40,13 +40,13 @@ use Rattle.initiator_run.proofs.LeftLemmas.{left_after, leads_there, total_left-
 use Rattle.run_outcome.proofs.ListLemmas.{HasElement, at_map, at_set, has_element, length-set', map-set, set-same, within, is_within}
 use Rattle.run_outcome.proofs.MergeLemmas.{merged-push, length-by_position}
 use Rattle.initiator_run.proofs.RunLemmas.{accessed_step}
-use Rattle.run_outcome.proofs.PlanLemmas.{initiator_number, no_fourphase, blocking_from}
+use Rattle.run_outcome.proofs.PlanLemmas.{blocking_at, initiator_number, no_fourphase}
 use Rattle.initiator_run.proofs.RouteLemmas.{walk_memory}
 use Rattle.route_plan.proofs.ShareLemmas.{count_initiators}
 
 -- there is an initiator of each number below the number of the runs
 pub initiator_at : (p : Plan) (runs : List Run) (regions : List LoggedMemory) (made k : ℕ) → IsCore p runs regions made → k < length runs → HasElement (initiators_of p) k
-initiator_at p runs regions made k core below = has_element (initiators_of p) k (omega (arith, count_initiators 0 p.platform.initiators p.scripts core.servable.scripts, core.run_count))
+initiator_at p runs regions made k core below = has_element (initiators_of p) k (omega (arith, count_initiators 0 p.platform.initiators p.scripts core.valid.scripts, core.run_count))
 
 -- the run of a core is under way
 pub run_under_way : (p : Plan) (runs : List Run) (regions : List LoggedMemory) (made k : ℕ) (r : Run) → IsCore p runs regions made → slice_get runs k ≡ Some r → IsUnderWay p r
@@ -82,7 +82,7 @@ has_turn p runs regions made k r core at =
       mine = ap (slice_get (initiators_of p)) (own.come.counted.number ∙ number) ∙ i.at;
       own = own;
       run = at;
-      blocking = blocking_from 0 k p.platform.initiators p.scripts i.element core.servable.blocking i.at;
+      blocking = blocking_at p core.valid k i.element i.at;
     }
 
 -- a run that stands at an access with a route has not finished
@@ -120,7 +120,7 @@ pub core_ended : (p : Plan) (runs : List Run) (regions after : List LoggedMemory
 core_ended p runs regions after made k old new core at moved =
     let turn = has_turn p runs regions made k old core at in
     subst (λ (x : List LoggedMemory). IsCore p (set runs k new) x made) (sym moved.same) (record {
-      servable = core.servable;
+      valid = core.valid;
       sound = core.sound;
       count = core.count;
       run_count = length-set' runs k new ∙ core.run_count;
@@ -134,7 +134,7 @@ pub core_waited : (p : Plan) (runs : List Run) (regions after : List LoggedMemor
 core_waited p runs regions after members made k old new core at going moved =
     let turn = has_turn p runs regions made k old core at in
     subst (λ (x : List LoggedMemory). IsCore p (set runs k new) x made) (sym moved.same) (record {
-      servable = core.servable;
+      valid = core.valid;
       sound = core.sound;
       count = core.count;
       run_count = length-set' runs k new ∙ core.run_count;
@@ -169,7 +169,7 @@ core_moved p runs regions after made k old new core at moved =
     let turn = has_turn p runs regions made k old core at in
     let same : history_of after ≡ history_of regions = history_moved p old new regions after moved in
     record {
-      servable = core.servable;
+      valid = core.valid;
       sound = subst (IsSound p) (sym same) core.sound;
       count = core.count ∙ sym (ap length same);
       run_count = length-set' runs k new ∙ core.run_count;
@@ -234,7 +234,7 @@ few_made p runs regions made core =
       core.count,
       length-by_position (entries_in (logs_of regions)),
       core.region_count,
-      core.servable.memories,
+      core.valid.shape.bounded.memory_count,
       few_entries regions (λ k m is. few_at k m (core.each_region k m is)),
     )
   where
@@ -332,8 +332,8 @@ core_made p runs regions after made k old new core at is =
       finished = λ f. absurd (not_finished p i h old is.middle is.route turn.mine turn.own is.keeps is.reached (sym is.finished ∙ (sym (ap (λ (r : Run). r.finished) is.run ∙ with_sync_finished (op_of is.middle.engine) (record is.middle { engine = engine_after is.middle.engine is.got; keeper = arrived (op_of is.middle.engine) is.route.latency is.middle.keeper })) ∙ f)));
     } in
     record {
-      servable = core.servable;
-      sound = subst (IsSound p) (sym same) (sound_grows p h e (no_fourphase p core.servable.blocking) core.sound tt (KeepsRequests-turn p i h is.middle is.region is.route made core.sound.requests mine turn.blocking come is.reached.access leads (at_memory p runs h is.route is.region memory) core.count));
+      valid = core.valid;
+      sound = subst (IsSound p) (sym same) (sound_grows p h e (no_fourphase p core.valid) core.sound tt (KeepsRequests-turn p i h is.middle is.region is.route made core.sound.requests mine turn.blocking come is.reached.access leads (at_memory p runs h is.route is.region memory) core.count));
       count = sym (ap length same ∙ (length-append h (e ∷ []) ∙ ap (λ (n : ℕ). n + 1) (sym core.count)));
       run_count = length-set' runs k new ∙ core.run_count;
       region_count = ap length is.memory.now ∙ (length-set' regions is.route.memory is.next ∙ core.region_count);
@@ -392,7 +392,7 @@ moved_on p old new members before regions after made turn same is how = subst (�
 
 -- an actor that is no initiator
 pub node_at : (p : Plan) (runs : List Run) (regions : List LoggedMemory) (made k : ℕ) → IsCore p runs regions made → length runs ≤ k → slice_get (initiators_of p) k ≡ None
-node_at p runs regions made k core past = slice_get_past (initiators_of p) k (omega (arith, core.run_count, count_initiators 0 p.platform.initiators p.scripts core.servable.scripts))
+node_at p runs regions made k core past = slice_get_past (initiators_of p) k (omega (arith, core.run_count, count_initiators 0 p.platform.initiators p.scripts core.valid.scripts))
 
 pub node_steps : (v w : CoreView) (k : ℕ) (step : CoreStep) → v ≡ w → slice_get (initiators_of v.plan) k ≡ None → IsNodeStep w w step → IsStep w k w step
 node_steps v w k step same none is =

@@ -28,7 +28,7 @@ use Rattle.plat_core.specs.Outcome.{HasFollowed, IsOutcome, IsScheduled, IsTurnO
 use Rattle.initiator_run.specs.Run.{Run, end_at}
 use Rattle.initiator_run.proofs.AnswerLemmas.{and_left, and_right}
 use Rattle.initiator_run.proofs.EntryLemmas.{some_row, bytes_are}
-use Rattle.run_outcome.proofs.PlanLemmas.{blocking_apart, blocking_from, no_fourphase}
+use Rattle.run_outcome.proofs.PlanLemmas.{blocking_apart, blocking_at, no_fourphase}
 use Rattle.route_plan.proofs.ShareLemmas.{count_initiators}
 use Rattle.initiator_run.proofs.EndLemmas.{HasCome-ended}
 use Rattle.run_outcome.proofs.ListLemmas.{has_element, take_all, take_next, within}
@@ -61,7 +61,7 @@ end_of_run : (p : Plan) (runs : List Run) (regions : List LoggedMemory) (made k 
 end_of_run p runs regions made k i r core mine run finished =
     let own = core.each_run k i r mine run in
     let reached = HasCome-ended ends p.platform i (history_of regions) r own.come (own.finished finished) in
-    (ends_by_latencies p i (history_of regions) (end_at r) (blocking_apart i.row.style (blocking_from 0 k p.platform.initiators p.scripts i core.servable.blocking mine))).1 (record {
+    (ends_by_latencies p i (history_of regions) (end_at r) (blocking_apart i.row.style (blocking_at p core.valid k i mine))).1 (record {
       transactions = reached.transactions;
       syncs = reached.syncs;
       time = reached.end;
@@ -69,9 +69,9 @@ end_of_run p runs regions made k i r core mine run finished =
     })
 
 good_core : (p : Plan) (runs : List Run) (regions : List LoggedMemory) (made : ℕ) → IsCore p runs regions made → all_true (are_finished runs) ≡ true → IsGood p (history_of regions)
-good_core p runs regions made core all = sound_ends p (history_of regions) (no_fourphase p core.servable.blocking) core.sound (record {
+good_core p runs regions made core all = sound_ends p (history_of regions) (no_fourphase p core.valid) core.sound (record {
   answers = all_of (λ (i : Initiator). IsTrue (list_all (is_settled p.platform i (history_of regions)) (requests_of p.platform i (history_of regions)))) (initiators_of p) (λ k i mine.
-      let found = has_element runs k (omega (arith, within (initiators_of p) k i mine, count_initiators 0 p.platform.initiators p.scripts core.servable.scripts, core.run_count)) in
+      let found = has_element runs k (omega (arith, within (initiators_of p) k i mine, count_initiators 0 p.platform.initiators p.scripts core.valid.scripts, core.run_count)) in
       let own = core.each_run k i found.element mine found.at in
       (HasCome-ended ends p.platform i (history_of regions) found.element own.come (own.finished (flag_at runs k found.element all found.at))).ended);
 })
@@ -83,7 +83,7 @@ outcome_seen p runs regions members made o core are history stores ended complet
   sound = core.sound;
   rounds = are.kept;
   complete = complete;
-  scripts = core.servable.scripts;
+  scripts = core.valid.scripts;
   flags = length-map runs (λ (r : Run). r.finished) ∙ core.run_count;
   good = good_core p runs regions made core;
   memories = ap length stores ∙ (length-map regions (λ (m : LoggedMemory). log_bytes m.traits m.log.entries) ∙ core.region_count);

@@ -17,7 +17,7 @@ use Rattle.plat_core.specs.declared.steps.CoreStep.{CoreStep}
 use Rattle.plat_core.specs.declared.steps.CoreStep.TheVariants.{Made, Waits, Finished}
 use Rattle.initiator_run.specs.Run.{Run}
 use Rattle.initiator_run.specs.Turns.{HasMadeAccess, HasMovedToEnd, HasMovedToWait}
-use Rattle.initiator_run.proofs.BeginLemmas.{script_at, syncs_bound}
+use Rattle.initiator_run.proofs.BeginLemmas.{proper_at, syncs_bound}
 use Rattle.plat_core.proofs.BoardLemmas.{HasMember, has_member}
 use Rattle.initiator_run.proofs.BoardLemmas.{absent, at_round, set_own}
 use Rattle.plat_core.proofs.CoreLemmas.{few_history, finished_same, has_turn, history_made, initiator_at}
@@ -124,7 +124,7 @@ few_steps p runs regions members made core are =
       sum_bound members 100001 (λ k below. rank_few k (omega (arith, are.count))),
       are.count,
       core.run_count,
-      core.servable.initiators,
+      core.valid.shape.bounded.initiator_count,
     )
   where
     rank_small : (members : List Member) (k most : ℕ) (r : Run) → IsInRound members k r → r.syncs ≤ most → rank (member_of members k) ≤ most + 1
@@ -142,7 +142,7 @@ few_steps p runs regions members made core are =
         let i = initiator_at p runs regions made k core below in
         let found = has_element runs k below in
         let own = core.each_run k i.element found.element i.at found.at in
-        let script = script_at p core.servable k i.element i.at in
+        let script = proper_at p core.valid k i.element i.at in
         rank_small members k 100000 found.element (are.each k found.element found.at)
         (omega (arith, own.come.counted.syncs, syncs_bound p.platform i.element 0 0 i.element.script, script.few))
 

@@ -8,7 +8,6 @@ ghost use Rattle.plat_core.specs.Outcome.{IsOutcome};
 ghost use Rattle.run_outcome.specs.Places.{entries_of_logs};
 ghost use Rattle.initiator_run.specs.Run.{end_at};
 ghost use Rattle.plat_core.specs.Core.{GoesOn, HasRisen, HasStopped, IsStep, IsStuck, actors_of, all_true, are_finished, begun_core, logs_of, no_runs, progress};
-ghost use Rattle.initiator_run.specs.Served.{IsServable};
 
 use generic_payload::Payload;
 use initiator_run::{InitiatorRun, Turn, take_turn};
@@ -209,8 +208,7 @@ impl<'a> Core<'a> {
 
 // The run of each initiator, before its first step.
 fn begin_runs(alloc: Global, plan: &Plan) -> Result<Vec<InitiatorRun>, Memory>
-    ensures runs { IfOk result (λ runs. runs.items ≡ no_runs plan.now) }
-    ensures servable { IfOk result (λ _. IsServable plan.now) }
+    ensures { IfOk result (λ runs. runs.items ≡ no_runs plan.now) }
 {
     let quantum = plan.platform().quantum;
     let mut runs = Vec::new(alloc);
@@ -223,7 +221,6 @@ fn begin_runs(alloc: Global, plan: &Plan) -> Result<Vec<InitiatorRun>, Memory>
 
 // The memories, with empty logs that have room for the entries and the bytes that are planned.
 fn begin_regions(alloc: Global, plan: &Plan) -> Result<Vec<Region>, Memory>
-    requires { IsServable plan.now }
     ensures { IfOk result (λ regions. AreFresh plan.now regions.items (length plan.now.platform.memories)) }
 {
     let mut first_gate = 0u32;

@@ -30,11 +30,12 @@ use Rattle.script_engine.proofs.Remaining.{few_numbers}
 use Rattle.script_engine.proofs.Steps.{begins}
 use Rattle.run_queue.specs.Queue.{AreNumbered}
 use Rattle.initiator_run.specs.Come.{HasCome}
-use Rattle.initiator_run.specs.Served.{IsServed, IsServable}
+use Rattle.route_plan.specs.Valid.{IsValid}
+use Rattle.traffic_script.specs.Proper.{IsProper}
 use Rattle.initiator_run.specs.Left.{asked_in, logged_in}
 use Rattle.initiator_run.specs.Run.{Run, fresh_run}
-use Rattle.initiator_run.proofs.BeginLemmas.{asked_planned, script_at, syncs_bound}
-use Rattle.run_outcome.proofs.PlanLemmas.{blocking_from, initiator_number}
+use Rattle.initiator_run.proofs.BeginLemmas.{asked_planned, proper_at, syncs_bound}
+use Rattle.run_outcome.proofs.PlanLemmas.{blocking_at, initiator_number}
 use Rattle.route_plan.proofs.ShareLemmas.{count_initiators}
 use Rattle.initiator_run.proofs.EndLemmas.{HasCome-begun}
 use Rattle.run_outcome.proofs.ListLemmas.{has_element}
@@ -42,31 +43,31 @@ use Rattle.plat_build.specs.declared.kept.Start.{Start}
 use Rattle.plat_build.specs.Kept.{HasShares, IsStart, Waiting}
 use Rattle.plat_run.specs.Job.{HasTickets, IsInitiator, IsJob}
 
--- a script that is served invalidates nothing
-never_invalidates : (p : Plan) (i : Initiator) (m : ℕ) (ops : List Operation) → AllByRecursion IsServed ops → list_any (invalidates p i m) (flat_map asks_of ops) ≡ false
-never_invalidates p i m [] served = refl
-never_invalidates p i m (Invalidate a n ∷ ops) served = absurd served.0
-never_invalidates p i m (op ∷ ops) served = never_invalidates p i m ops served.1
+-- a proper script invalidates nothing
+never_invalidates : (p : Plan) (i : Initiator) (m : ℕ) (ops : List Operation) → AllByRecursion IsProper ops → list_any (invalidates p i m) (flat_map asks_of ops) ≡ false
+never_invalidates p i m [] proper = refl
+never_invalidates p i m (Invalidate a n ∷ ops) proper = absurd proper.0
+never_invalidates p i m (op ∷ ops) proper = never_invalidates p i m ops proper.1
 
 -- a blocking initiator opens and closes no gates
-no_gates : (p : Plan) (i : Initiator) (m : ℕ) (row : Option MemoryRow) → i.row.style ≡ Blocking → AllByRecursion IsServed i.script → gates_by p i m row ≡ 0
-no_gates p i m None blocking served = refl
-no_gates p i m (Some row) blocking served = by_cases row.traits.dmi
+no_gates : (p : Plan) (i : Initiator) (m : ℕ) (row : Option MemoryRow) → i.row.style ≡ Blocking → AllByRecursion IsProper i.script → gates_by p i m row ≡ 0
+no_gates p i m None blocking proper = refl
+no_gates p i m (Some row) blocking proper = by_cases row.traits.dmi
   where
     direct : once (is_direct i.row.style && has_path p.platform i.row (memory_target m)) ≡ 0
     direct = ap (λ (style : Style). once (is_direct style && has_path p.platform i.row (memory_target m))) blocking
 
     closes : once (list_any (invalidates p i m) (asks_in i)) ≡ 0
-    closes = ap once (never_invalidates p i m i.script served)
+    closes = ap once (never_invalidates p i m i.script proper)
 
     by_cases : (b : Bool) → cond b (row.traits.gates * (once (is_direct i.row.style && has_path p.platform i.row (memory_target m)) + once (list_any (invalidates p i m) (asks_in i)))) 0 ≡ 0
     by_cases true = let a = direct in let b = closes in rw (a, b) (omega arith)
     by_cases false = refl
 
 -- it may add as many entries as its script asks for
-asks_shared : (p : Plan) (i : Initiator) (m : ℕ) → i.row.style ≡ Blocking → AllByRecursion IsServed i.script → asked_in p i m i.script ≡ share_of p i (Memory m)
+asks_shared : (p : Plan) (i : Initiator) (m : ℕ) → i.row.style ≡ Blocking → AllByRecursion IsProper i.script → asked_in p i m i.script ≡ share_of p i (Memory m)
 unfolding share_of
-asks_shared p i m blocking served = omega (arith, asked_planned p i m i.script, no_gates p i m (slice_get p.platform.memories m) blocking served)
+asks_shared p i m blocking proper = omega (arith, asked_planned p i m i.script, no_gates p i m (slice_get p.platform.memories m) blocking proper)
 
 -- and log as many bytes
 logged_planned : (p : Plan) (i : Initiator) (m : ℕ) (ops : List Operation) → logged_in p i m ops ≡ sum_by (logged_at p i m) (flat_map asks_of ops)
@@ -84,25 +85,25 @@ bytes_shared : (p : Plan) (i : Initiator) (m : ℕ) → logged_in p i m i.script
 unfolding logged_share
 bytes_shared p i m = logged_planned p i m i.script
 
-module _ (p : Plan) (servable : IsServable p) (n : ℕ) (i : Initiator) (at : slice_get (initiators_of p) n ≡ Some i) (w : Purse) where
+module _ (p : Plan) (valid : IsValid p) (n : ℕ) (i : Initiator) (at : slice_get (initiators_of p) n ≡ Some i) (w : Purse) where
   tickets_begun : (tokens : TableId) → HasShares tokens p n w → (m : ℕ) → m < length p.platform.memories → HasTickets p i (fresh_run n i.script p.platform.quantum (2 * length i.script)) w [] m
   tickets_begun tokens shares m below =
-      let blocking = blocking_from 0 n p.platform.initiators p.scripts i servable.blocking at in
-      let script = script_at p servable n i at in
+      let blocking = blocking_at p valid n i at in
+      let script = proper_at p valid n i at in
       let share : share_at p n (Memory m) ≡ share_of p i (Memory m) = ap (share_by p (Memory m)) at in
       let logged : logged_share_at p n m ≡ logged_share p i m = ap (logged_share_by p m) at in
       let left = shares.left m below in
       let bytes = shares.bytes m below in
-      let asks = asks_shared p i m blocking script.served in
+      let asks = asks_shared p i m blocking script.each in
       let logs = bytes_shared p i m in
       record { left = omega arith; bytes = omega arith; all = omega arith }
 
   pub initiator_begun : (tokens : TableId) (v : View Content Plan) → HasShares tokens p n w → IsInitiator p (fresh_run n i.script p.platform.quantum (2 * length i.script)) v w
   initiator_begun tokens v shares =
-      let script = script_at p servable n i at in
+      let script = proper_at p valid n i at in
       let number = initiator_number p n i at in
       record {
-        servable = servable;
+        valid = valid;
         initiator = i;
         mine = [];
         is = at;
@@ -112,7 +113,7 @@ module _ (p : Plan) (servable : IsServable p) (n : ℕ) (i : Initiator) (at : sl
           below = λ e has. absurd (has_none e has);
           own = λ e has. absurd (has_none e has);
           come = subst (λ (k : ℕ). HasCome p.platform i [] (fresh_run k i.script p.platform.quantum (2 * length i.script))) number
-              (HasCome-begun begins p.platform i (2 * length i.script) (omega (arith, syncs_bound p.platform i 0 0 i.script, script.few)) (few_numbers i.script) script.served);
+              (HasCome-begun begins p.platform i (2 * length i.script) (omega (arith, syncs_bound p.platform i 0 0 i.script, script.few)) (few_numbers i.script) script.each);
           keeps = record { scripts = record { replies = tt; ways = tt; order = tt; places = tt }; times = tt };
           decoupled = tt;
         };
@@ -133,10 +134,10 @@ same_script : (a b : List Operation) → Some a ≡ Some b → a ≡ b
 same_script a b q = cc
 
 -- a job before its first turn
-pub job_begun : (p : Plan) (table tokens : TableId) (n : ℕ) (s : Start) (run : Run) (quantum room : ℕ) (script : List Operation) → IsServable p → n < length p.platform.initiators → IsStart table tokens p n s → slice_get p.scripts n ≡ Some script → quantum ≡ p.platform.quantum → room ≡ 2 * length script
+pub job_begun : (p : Plan) (table tokens : TableId) (n : ℕ) (s : Start) (run : Run) (quantum room : ℕ) (script : List Operation) → IsValid p → n < length p.platform.initiators → IsStart table tokens p n s → slice_get p.scripts n ≡ Some script → quantum ≡ p.platform.quantum → room ≡ 2 * length script
     → run ≡ record (fresh_run 0 [] quantum room) { engine = s.engine } → IsJob table tokens p run s.payload s.note s.wallet
-job_begun p table tokens n s run quantum room script servable below start at quantum_is room_is run_is =
-    let found = has_element (initiators_of p) n (omega (arith, count_initiators 0 p.platform.initiators p.scripts servable.scripts)) in
+job_begun p table tokens n s run quantum room script valid below start at quantum_is room_is run_is =
+    let found = has_element (initiators_of p) n (omega (arith, count_initiators 0 p.platform.initiators p.scripts valid.scripts)) in
     let i = found.element in
     let mine : i.script ≡ script = same_script i.script script (sym (script_from 0 n p.platform.initiators p.scripts i found.at) ∙ at) in
     let engine : s.engine ≡ begun_engine n i.script = subst (λ (o : Option (List Operation)). IsSomeAnd o (λ (x : List Operation). s.engine ≡ begun_engine n x)) at start.engine ∙ ap (begun_engine n) (sym mine) in
@@ -149,7 +150,7 @@ job_begun p table tokens n s run quantum room script servable below start at qua
       note_of = start.note.is_note;
       wallet_of = start.wallet.of;
       roomy = ap (λ (x : PayloadView). x.room) start.payload;
-      is = subst (λ (r : Run). IsInitiator p r s.note.knows s.wallet) (sym first) (initiator_begun p servable n i found.at s.wallet tokens s.note.knows start.wallet);
+      is = subst (λ (r : Run). IsInitiator p r s.note.knows s.wallet) (sym first) (initiator_begun p valid n i found.at s.wallet tokens s.note.knows start.wallet);
     }
 
 -- those after the one that is handed out still wait

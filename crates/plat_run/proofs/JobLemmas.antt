@@ -30,7 +30,7 @@ use Rattle.initiator_run.specs.Access.{IsRouteOf, bytes_back, entry_made, next_c
 use Rattle.initiator_run.specs.Left.{asks_left, bytes_at, bytes_left, leads}
 use Rattle.initiator_run.specs.Moves.{HasReached}
 use Rattle.initiator_run.specs.Run.{Run, IsAccessOp, accessed, address_of, arrived, engine_after}
-use Rattle.run_outcome.proofs.PlanLemmas.{blocking_from, initiator_number}
+use Rattle.run_outcome.proofs.PlanLemmas.{blocking_at, initiator_number}
 use Rattle.initiator_run.proofs.EntryLemmas.{entries_at-push, HasCome-turn, goes_on_with}
 use Rattle.initiator_run.proofs.CountLemmas.{with_sync_finished}
 use Rattle.initiator_run.proofs.LeftLemmas.{bytes_after, cost_at, leads_elsewhere, leads_there, left_after}
@@ -80,7 +80,7 @@ module _ (p : Plan) (r : Run) (route : Route) (note back : View Content Plan) (o
   own_number = ap (slice_get (initiators_of p)) (initiator_number p r.engine.initiator job.initiator job.is) ∙ job.is
 
   blocking : job.initiator.row.style ≡ Blocking
-  blocking = blocking_from 0 r.engine.initiator p.platform.initiators p.scripts job.initiator job.servable.blocking job.is
+  blocking = blocking_at p job.valid r.engine.initiator job.initiator job.is
 
   object_is : (the_entry).object ≡ Memory route.memory
   object_is = ap Memory sent.called.number
@@ -200,7 +200,7 @@ module _ (p : Plan) (r : Run) (route : Route) (note back : View Content Plan) (o
   -- the run, the note and the wallet after the access
   pub access_made : IsInitiator p next_run back new
   access_made = record {
-    servable = job.servable;
+    valid = job.valid;
     initiator = job.initiator;
     mine = job.mine ++ the_entry ∷ [];
     is = ap (slice_get (initiators_of p)) (accessed_initiator (op_of r.engine) route.latency payload.bytes r) ∙ job.is;

@@ -44,7 +44,7 @@ number_below p r v w job = initiator_within p r.engine.initiator job.initiator j
 -- what moves without an entry keep, a job keeps
 pub moved : (p : Plan) (old new : Run) (v : View Content Plan) (w : Purse) → IsInitiator p old v w → Keeps p old new → (new.finished ≡ true → op_of new.engine ≡ next.Done) → IsInitiator p new v w
 moved p old new v w job keeps finished = record {
-  servable = job.servable;
+  valid = job.valid;
   initiator = job.initiator;
   mine = job.mine;
   is = ap (slice_get (initiators_of p)) keeps.initiator ∙ job.is;
@@ -96,6 +96,11 @@ job_moved table tokens p q old new before after note w move same job keeps is (i
     let keeps_here : Keeps p old new = subst (λ (x : Plan). Keeps x old new) same keeps in
     let end : IsMove q old new Ended = subst (λ (m : Move). IsMove q old new m) ended is in
     job_with table tokens p old new before after note w job room (moved_to_end p old new note.knows w job.is keeps_here end.0)
+
+-- at an access with a route it stands where it stood
+pub job_reached : (table tokens : TableId) (p : Plan) (old new : Run) (before after : PayloadView) (note : Held Content Plan) (w : Purse) → IsJob table tokens p old before note w → new ≡ old → after.room ≡ before.room → IsJob table tokens p new after note w
+job_reached table tokens p old new before after note w job same room =
+    job_with table tokens p old new before after note w job room (subst (λ (r : Run). IsInitiator p r note.knows w) (sym same) job.is)
 
 -- once its sync has been let through
 pub job_let_through : (table tokens : TableId) (p : Plan) (old new : Run) (payload : PayloadView) (note : Held Content Plan) (w : Purse) (n : ℕ) → IsJob table tokens p old payload note w → new ≡ record old { round = n } → IsJob table tokens p new payload note w

@@ -1,7 +1,6 @@
 // The jobs of a net, before their first turns.
 ghost use Rattle.std.specs.Prelude.{◌≡◌, ◌<◌, true, length, replicate, IfOk};
 ghost use Rattle.plat_build.specs.Kept.{IsStart};
-ghost use Rattle.initiator_run.specs.Served.{IsServable};
 ghost use Rattle.run_queue.specs.Queue.{AreNumbered};
 ghost use Rattle.traffic_script.specs.Proper.{AreProper};
 ghost use Rattle.plat_run.specs.Actors.{number_of};
@@ -22,7 +21,6 @@ fn begin_initiator<N: Naming<Plan, TlmLaw>>(
     number: u32,
     start: Start,
 ) -> Result<Actor<N>, Memory>
-    requires servable { IsServable net.now }
     requires number { number < length net.now.platform.initiators }
     requires start { IsStart N.table N.tokens N.frame.world number start }
     ensures { IfOk result (λ job. number_of job ≡ number) }
@@ -46,8 +44,7 @@ pub(crate) fn begin_jobs<N: Naming<Plan, TlmLaw>>(
     net: &Net<N>,
     kept: &mut Kept<N>,
 ) -> Result<Vec<Actor<N>>, Memory>
-    requires servable { IsServable net.now }
-    requires kept { kept.old.starts ≡ replicate (length net.now.platform.initiators) true }
+    requires { kept.old.starts ≡ replicate (length net.now.platform.initiators) true }
     ensures numbered { IfOk result (λ jobs. AreNumbered number_of jobs.items) }
     ensures count { IfOk result (λ jobs. length jobs.items ≡ length net.now.platform.initiators) }
 {

@@ -3,7 +3,7 @@ ghost use Rattle.std.specs.Prelude.{◌≡◌, ◌+◌, true, length, All, IfOk}
 ghost use Rattle.run_queue.specs.Queue.{AreNumbered};
 ghost use Rattle.plat_build.specs.Kept.{all_waiting, AreFreshFrom};
 ghost use Rattle.plat_build.specs.Objects.{frame_of};
-ghost use Rattle.initiator_run.specs.Served.{IsServable};
+ghost use Rattle.route_plan.specs.Valid.{IsValid};
 ghost use Rattle.run_outcome.specs.Outcome.{IsWhole};
 ghost use Rattle.plat_run.specs.Actors.{is_done, number_of};
 ghost use Rattle.plat_run.specs.Entries.{entries_read};
@@ -13,7 +13,6 @@ use crate::actor::Actor;
 use crate::begin::begin_jobs;
 use crate::ending::{DoneWith, HandedIn, hand_in, take_apart};
 use crate::workers::{work_all, work_alone};
-use initiator_run::look_through;
 use one_history::{Closed, Sealed};
 use outside::Pace;
 use plat_build::{Built, Net, NetParts, Opened, PlatHistory, PlatNote, PlatSeat, TlmLaw, build};
@@ -57,9 +56,8 @@ pub fn run<N: Naming<Plan, TlmLaw> + Send + Sync, P: Pace + Sync, R: Threads + W
         mut kept,
         seats,
     } = built;
-    look_through(net.plan());
     let jobs = begin_jobs(alloc, &net, &mut kept)?;
-    let count = jobs.len() as u32;
+    let count = net.plan().platform().initiators.as_slice().len() as u32;
     let board = Board::new(alloc, count)?;
     let jobs = finish_jobs(rt, alloc, &mut net, &board, pace, jobs, count, workers)?;
     let HandedIn { ends, notes } = hand_in(alloc, jobs)?;
@@ -149,7 +147,7 @@ fn finish<N: Naming<Plan, TlmLaw>>(
 ) -> Result<(Outcome, PlatSealed), Memory>
     requires history { (history.table ≡ N.table) × (history.frame ≡ N.frame) }
     requires frame { N.frame ≡ frame_of N.frame.world }
-    requires servable { IsServable N.frame.world }
+    requires valid { IsValid N.frame.world }
     requires finished { AreFinished N.table N.frame.world (length N.frame.world.platform.initiators) ends.items notes.items }
     requires done { AreDoneWith N.table N.frame (length N.frame.world.platform.memories) done.logs.items done.stores.items done.seats.items }
     requires fresh { AreFreshFrom N.table N.frame (length N.frame.world.platform.memories) more.items }

@@ -21,23 +21,26 @@ use Rattle.tlm_model.specs.declared.platform.RouterRow.{RouterRow}
 use Rattle.tlm_model.specs.declared.platform.WindowRow.{WindowRow}
 use Rattle.tlm_model.specs.declared.platform.Target.{Target}
 use Rattle.tlm_model.specs.declared.platform.Target.TheVariants.{Router, Memory}
-use Rattle.platform_file.specs.declared.fault.PlatformFault.{PlatformFault}
-use Rattle.platform_file.specs.declared.place.Place.{Place}
-use Rattle.platform_file.specs.declared.place.Place.TheVariants as place
+use Rattle.platform_model.specs.declared.fault.PlatformFault.{PlatformFault}
+use Rattle.platform_model.specs.declared.place.Place.{Place}
+use Rattle.platform_model.specs.declared.place.Place.TheVariants as place
 use Rattle.platform_file.specs.declared.initiators.InitiatorKeys.{InitiatorKeys}
 use Rattle.platform_file.specs.declared.routers.WindowKeys.{WindowKeys}
 use Rattle.platform_file.specs.declared.routers.RouterKeys.{RouterKeys}
 use Rattle.platform_file.specs.declared.top.PlatformKeys.{PlatformKeys}
-use Rattle.platform_file.specs.Reading.{PlatformRefusal, Gives, rows_from}
+use Rattle.platform_model.specs.Reading.{PlatformRefusal, Gives, rows_from}
 use Rattle.platform_file.specs.Keys.{known_keys, required_key, optional_key}
-use Rattle.platform_file.specs.Kinds.{number, truth, is_name, name, text, sized_text, word, tables}
+use Rattle.platform_model.specs.Name.{is_name}
+use Rattle.platform_file.specs.Kinds.{number, truth, name, text, sized_text, word, tables}
 use Rattle.platform_file.specs.Words.{styles, responses, router_modes, memory_modes}
 use Rattle.platform_file.specs.Names.{Names, Bearer, find_name, named_after, with_name, with_names, initiator_bears, router_bears, memory_bears, names_of, found_target, target_of}
 use Rattle.platform_file.specs.Tables.{initiator_key_names, router_key_names, memory_key_names, top_key_names, initiator_keys, window_keys, router_keys, memory_traits, memory_row, platform_keys}
-use Rattle.platform_file.specs.Platform.{bound_initiator, bound_window, bound_router, refused_windows, checked_windows, checked_sums, windows_of, platform_of_table}
-use Rattle.platform_file.specs.Bounded.{is_there, is_router_mode, names_in, IsBoundedInitiator, IsBoundedRouter, IsBoundedMemory, IsBounded}
+use Rattle.platform_model.specs.Windows.{windows_of}
+use Rattle.platform_file.specs.Platform.{bound_initiator, bound_window, bound_router, refused_windows, checked_windows, checked_sums, platform_of_table}
+use Rattle.platform_model.specs.Bounded.{is_there, is_router_mode, names_in, IsBoundedInitiator, IsBoundedRouter, IsBoundedMemory, IsBounded}
 use Rattle.platform_file.proofs.OwnNames.{key_names, own_key_names, rows_named}
-use Rattle.platform_file.proofs.ReadLemmas.{no_ok, ok_same, bind_ok, if_ok, unless_ok, required_name, required_number, optional_number, optional_word, required_tables, optional_tables, rows_all, rows_count, rows_passed}
+use Rattle.platform_model.proofs.ReadLemmas.{no_ok, ok_same, bind_ok, if_ok, unless_ok, rows_all, rows_count, rows_passed}
+use Rattle.platform_file.proofs.KeyLemmas.{required_name, required_number, optional_number, optional_word, required_tables, optional_tables}
 
 record TraitsAreBounded (t : MemoryTraits) : Type 0 where
   some_bytes : 1 ≤ t.size

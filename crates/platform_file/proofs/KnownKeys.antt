@@ -10,11 +10,11 @@ use Rattle.std.specs.Str.{bytes_eq}
 use Rattle.std.specs.Map as map
 use Rattle.toml.specs.View.{members_view}
 use Rattle.toml.specs.declared.value.Value.{Value}
-use Rattle.platform_file.specs.declared.fault.PlatformFault.{PlatformFault}
-use Rattle.platform_file.specs.declared.fault.PlatformFault.TheVariants as fault
-use Rattle.platform_file.specs.declared.fault.PlatformCode.TheVariants.{UnknownKey}
-use Rattle.platform_file.specs.declared.place.Place.{Place}
-use Rattle.platform_file.specs.Reading.{PlatformRefusal, refusal, Tells, Fails}
+use Rattle.platform_model.specs.declared.fault.PlatformFault.{PlatformFault}
+use Rattle.platform_model.specs.declared.fault.PlatformFault.TheVariants as fault
+use Rattle.platform_model.specs.declared.fault.PlatformCode.TheVariants.{UnknownKey}
+use Rattle.platform_model.specs.declared.place.Place.{Place}
+use Rattle.platform_model.specs.Reading.{PlatformRefusal, refusal, Tells, Fails}
 use Rattle.platform_file.specs.Keys.{keys_of, lesser_of, least_of, is_unknown, refused_key}
 
 pub keys_of-view : (es : List (String Global × Value)) → map string_bytes (map.keys_of es) ≡ keys_of (members_view es)

@@ -1,9 +1,8 @@
 pub mod Loops
 pub mod KnownKeys
-pub mod RowLoops
 pub mod NameLemmas
 pub mod Documents
-pub mod ReadLemmas
+pub mod KeyLemmas
 pub mod WorkedDocuments
 pub mod OwnNames
 pub mod BoundLemmas

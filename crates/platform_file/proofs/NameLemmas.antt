@@ -6,12 +6,12 @@ use Rattle.std.specs.Str.{bytes_eq}
 use Rattle.std.specs.String.{string_eq}
 use Rattle.indexmap.specs.IndexMap.{insert_entry}
 use Rattle.indexmap.proofs.MapLemmas.{insert_entry-absent, absent_from_lookup}
-use Rattle.platform_file.specs.declared.fault.PlatformFault.{PlatformFault}
-use Rattle.platform_file.specs.declared.fault.PlatformFault.TheVariants as fault
-use Rattle.platform_file.specs.declared.fault.PlatformCode.TheVariants.{NameTwice}
-use Rattle.platform_file.specs.declared.place.Place.{Place}
+use Rattle.platform_model.specs.declared.fault.PlatformFault.{PlatformFault}
+use Rattle.platform_model.specs.declared.fault.PlatformFault.TheVariants as fault
+use Rattle.platform_model.specs.declared.fault.PlatformCode.TheVariants.{NameTwice}
+use Rattle.platform_model.specs.declared.place.Place.{Place}
 use Rattle.tlm_model.specs.declared.platform.Target.{Target}
-use Rattle.platform_file.specs.Reading.{PlatformRefusal, refusal, Fails}
+use Rattle.platform_model.specs.Reading.{PlatformRefusal, refusal, Fails}
 use Rattle.tlm_types.specs.Reading.{◌>>=◌}
 use Rattle.platform_file.specs.Names.{Names, Bearer, find_name, with_name, with_names, named_after}
 use Rattle.platform_file.specs.NamesView.{entries_view}

@@ -12,9 +12,9 @@ use Rattle.tlm_model.specs.declared.platform.Target.{Target}
 use Rattle.platform_file.specs.declared.initiators.InitiatorKeys.{InitiatorKeys}
 use Rattle.platform_file.specs.declared.routers.RouterKeys.{RouterKeys}
 use Rattle.platform_file.specs.declared.top.PlatformKeys.{PlatformKeys}
-use Rattle.platform_file.specs.Reading.{PlatformRefusal, rows_from}
+use Rattle.platform_model.specs.Reading.{PlatformRefusal, rows_from}
 use Rattle.platform_file.specs.Names.{Names, Bearer, find_name, named_after, with_name, with_names, initiator_bears, router_bears, memory_bears, names_of}
-use Rattle.platform_file.proofs.ReadLemmas.{no_ok, ok_same, bind_ok}
+use Rattle.platform_model.proofs.ReadLemmas.{no_ok, ok_same, bind_ok}
 
 names_seen : Names → List (List ℕ)
 names_seen names = map (λ (n : List ℕ × Option Target). n.0) names

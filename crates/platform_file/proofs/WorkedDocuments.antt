@@ -5,7 +5,7 @@ use Rattle.std.specs.Str.{chars, is_utf8}
 use Rattle.toml.proofs.OnLiterals.{toml_on_literals}
 use Rattle.platform_file.specs.Names.{names_of, with_names}
 use Rattle.platform_file.specs.Platform.{bound_initiator, bound_router, bound_window, document_of, platform_of, platform_of_table}
-use Rattle.platform_file.specs.Reading.{rows_from}
+use Rattle.platform_model.specs.Reading.{rows_from}
 use Rattle.platform_file.specs.Tables.{initiator_keys, memory_row, memory_traits, platform_keys, router_keys, window_keys}
 use Rattle.platform_file.specs.Worked.{example, example_platform, least_unknown_key, second_bearer, shared_name, unknown_keys}
 

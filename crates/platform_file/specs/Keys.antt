@@ -5,14 +5,14 @@ use Rattle.std.specs.Str.{bytes_eq}
 use Rattle.std.specs.Ordering.{nat_cmp, match_ordering}
 use Rattle.std.specs.Cmp.Lexicographic.{slice_cmp}
 use Rattle.toml.specs.Data.{Data, Members, no_members, member, get_member}
-use Rattle.platform_file.specs.declared.fault.PlatformCode.{PlatformCode}
-use Rattle.platform_file.specs.declared.fault.PlatformCode.TheVariants.{UnknownKey, MissingKey}
-use Rattle.platform_file.specs.declared.place.Place.{Place}
-use Rattle.platform_file.specs.declared.fault.PlatformFault.{PlatformFault}
-use Rattle.platform_file.specs.declared.fault.PlatformFault.TheVariants as fault
+use Rattle.platform_model.specs.declared.fault.PlatformCode.{PlatformCode}
+use Rattle.platform_model.specs.declared.fault.PlatformCode.TheVariants.{UnknownKey, MissingKey}
+use Rattle.platform_model.specs.declared.place.Place.{Place}
+use Rattle.platform_model.specs.declared.fault.PlatformFault.{PlatformFault}
+use Rattle.platform_model.specs.declared.fault.PlatformFault.TheVariants as fault
 use Rattle.platform_file.specs.declared.kinds.KindFault.{KindFault}
 use Rattle.platform_file.specs.declared.kinds.KindFault.TheVariants as kind
-use Rattle.platform_file.specs.Reading.{PlatformRefusal, refusal, placed_at, Tells}
+use Rattle.platform_model.specs.Reading.{PlatformRefusal, refusal, Tells}
 
 -- the keys of a table
 abbrev pub keys_of : Members → List (List ℕ)
@@ -41,6 +41,11 @@ refused_key at (Some k) = Err (refusal UnknownKey at k)
 -- that a table has no key but these: the refusal names the least unknown one
 abbrev pub known_keys : List (List ℕ) → Place → Members → Result (Unit {0}) PlatformRefusal
 known_keys keys at t = refused_key at (least_of (filter (is_unknown keys) (keys_of t)))
+
+-- a code at a table and a key
+abbrev pub placed_at : {A : Type 0} → Place → List ℕ → Result A PlatformCode → Result A PlatformRefusal
+placed_at at key (Ok x) = Ok x
+placed_at at key (Err code) = Err (refusal code at key)
 
 -- a value that has to be there
 abbrev pub required_value : {A : Type 0} → (Data → Result A PlatformCode) → Place → List ℕ → Option Data → Result A PlatformRefusal

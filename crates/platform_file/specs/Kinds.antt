@@ -1,18 +1,18 @@
 -- The kinds of values that keys have.
-use Rattle.std.specs.Prelude.{◌≡◌, ℕ, pos, negsuc, Bool, false, ◌&&◌, ◌||◌, ◌==◌, List, [], ◌∷◌, length, Result, Ok, Err, if◌then◌else◌, nat_le}
+use Rattle.std.specs.Prelude.{◌≡◌, ℕ, pos, negsuc, Bool, ◌&&◌, List, [], ◌∷◌, length, Result, Ok, Err, if◌then◌else◌, nat_le}
 use Rattle.std.specs.Prelude.{Vec, String, map}
 use Rattle.std.specs.BTreeMap.{BTreeMap}
 use Rattle.std.specs.declared.alloc.Global.{Global}
 use denote.Ref.{Bor}
 use Rattle.toml.specs.View.{table_view}
 use Rattle.toml.specs.declared.value.Value.{Value}
-use Rattle.std.specs.List.{list_all}
 use Rattle.std.specs.Str.{bytes_eq}
 use Rattle.toml.specs.Data.{Data, string, integer, boolean, array, table, Items, no_items, item, Members}
+use Rattle.platform_model.specs.Name.{is_name}
 use Rattle.platform_file.specs.declared.kinds.KindFault.{KindFault}
 use Rattle.platform_file.specs.declared.kinds.KindFault.TheVariants as fault
-use Rattle.platform_file.specs.declared.fault.PlatformCode.{PlatformCode}
-use Rattle.platform_file.specs.declared.fault.PlatformCode.TheVariants.{WrongType, BadName, UnknownWord, OutOfRange}
+use Rattle.platform_model.specs.declared.fault.PlatformCode.{PlatformCode}
+use Rattle.platform_model.specs.declared.fault.PlatformCode.TheVariants.{WrongType, BadName, UnknownWord, OutOfRange}
 
 -- an integer between two bounds
 abbrev pub number : ℕ → ℕ → Data → Result ℕ PlatformCode
@@ -34,19 +34,6 @@ text _ = Err WrongType
 abbrev pub sized_text : ℕ → ℕ → Data → Result (List ℕ) PlatformCode
 sized_text least most (string s) = if nat_le least (length s) && nat_le (length s) most then Ok s else Err OutOfRange
 sized_text least most _ = Err WrongType
-
--- a lower-case letter
-abbrev pub is_lower : ℕ → Bool
-is_lower c = nat_le 97 c && nat_le c 122
-
--- a lower-case letter, a digit or `_`
-abbrev pub is_name_byte : ℕ → Bool
-is_name_byte c = (is_lower c || (nat_le 48 c && nat_le c 57)) || c == 95
-
--- a lower-case letter followed by at most 15 lower-case letters, digits or `_`
-abbrev pub is_name : List ℕ → Bool
-is_name [] = false
-is_name (c ∷ cs) = (is_lower c && nat_le (length cs) 15) && list_all is_name_byte cs
 
 -- a name
 abbrev pub name : Data → Result (List ℕ) PlatformCode

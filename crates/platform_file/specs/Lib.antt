@@ -1,6 +1,3 @@
-pub mod Code
-pub mod Place
-pub mod Reading
 pub mod Kinds
 pub mod Words
 pub mod Keys
@@ -8,6 +5,5 @@ pub mod Tables
 pub mod Names
 pub mod NamesView
 pub mod Platform
-pub mod Bounded
 pub mod Document
 pub mod Worked

@@ -1,16 +1,16 @@
 -- The names of a platform, and what they lead to.
 use Rattle.std.specs.Prelude.{ℕ, ◌+◌, List, [], ◌∷◌, ◌++◌, Option, Some, None, Result, Ok, Err, if◌then◌else◌, codes}
 use Rattle.std.specs.Str.{bytes_eq}
-use Rattle.platform_file.specs.declared.fault.PlatformCode.TheVariants.{NameTwice, UnknownTarget}
-use Rattle.platform_file.specs.declared.place.Place.{Place}
-use Rattle.platform_file.specs.declared.place.Place.TheVariants as place
+use Rattle.platform_model.specs.declared.fault.PlatformCode.TheVariants.{NameTwice, UnknownTarget}
+use Rattle.platform_model.specs.declared.place.Place.{Place}
+use Rattle.platform_model.specs.declared.place.Place.TheVariants as place
 use Rattle.tlm_model.specs.declared.platform.Target.{Target}
 use Rattle.tlm_model.specs.declared.platform.Target.TheVariants as target
 use Rattle.tlm_model.specs.declared.platform.MemoryRow.{MemoryRow}
 use Rattle.platform_file.specs.declared.initiators.InitiatorKeys.{InitiatorKeys}
 use Rattle.platform_file.specs.declared.routers.RouterKeys.{RouterKeys}
 use Rattle.platform_file.specs.declared.top.PlatformKeys.{PlatformKeys}
-use Rattle.platform_file.specs.Reading.{PlatformRefusal, refusal}
+use Rattle.platform_model.specs.Reading.{PlatformRefusal, refusal}
 use Rattle.tlm_types.specs.Reading.{◌>>=◌}
 
 -- names in order, each with what it leads to: nothing for an initiator

@@ -1,14 +1,13 @@
 -- The platform of some bytes, or its first fault.
-use Rattle.std.specs.Prelude.{ℕ, List, map, sum_by, Option, Some, None, Result, Ok, Err, if◌then◌else◌, nat_lt, codes}
+use Rattle.std.specs.Prelude.{ℕ, List, sum_by, Option, Some, None, Result, Ok, Err, if◌then◌else◌, nat_lt, codes}
 use Rattle.std.specs.Str.{is_utf8}
-use Rattle.addr_router.specs.declared.window.Window.{Window}
 use Rattle.addr_router.specs.declared.window.WindowFault.{WindowFault}
 use Rattle.addr_router.specs.declared.window.WindowFault.TheVariants as window
 use Rattle.addr_router.specs.Windows.{window_fault}
 use Rattle.toml.specs.Data.{Members}
 use Rattle.toml.specs.Parse.{parse_document}
-use Rattle.platform_file.specs.declared.fault.PlatformCode.TheVariants.{Syntax, EmptyWindow, PastEnd, Overlap, TooMuchMemory, TooManyGates}
-use Rattle.platform_file.specs.declared.place.Place.TheVariants as place
+use Rattle.platform_model.specs.declared.fault.PlatformCode.TheVariants.{Syntax, EmptyWindow, PastEnd, Overlap, TooMuchMemory, TooManyGates}
+use Rattle.platform_model.specs.declared.place.Place.TheVariants as place
 use Rattle.tlm_model.specs.declared.platform.InitiatorRow.{InitiatorRow}
 use Rattle.tlm_model.specs.declared.platform.WindowRow.{WindowRow}
 use Rattle.tlm_model.specs.declared.platform.RouterRow.{RouterRow}
@@ -17,8 +16,9 @@ use Rattle.tlm_model.specs.declared.platform.Platform.{Platform}
 use Rattle.platform_file.specs.declared.initiators.InitiatorKeys.{InitiatorKeys}
 use Rattle.platform_file.specs.declared.routers.WindowKeys.{WindowKeys}
 use Rattle.platform_file.specs.declared.routers.RouterKeys.{RouterKeys}
-use Rattle.platform_file.specs.Place.{indexed}
-use Rattle.platform_file.specs.Reading.{PlatformRefusal, refusal, rows_from}
+use Rattle.platform_model.specs.Place.{indexed}
+use Rattle.platform_model.specs.Reading.{PlatformRefusal, refusal, rows_from}
+use Rattle.platform_model.specs.Windows.{windows_of}
 use Rattle.tlm_types.specs.Reading.{◌>>=◌}
 use Rattle.platform_file.specs.Names.{Names, names_of, target_of}
 use Rattle.platform_file.specs.Tables.{platform_keys}
@@ -40,14 +40,6 @@ unfoldable pub bound_router : Names → ℕ → RouterKeys → Result RouterRow 
 bound_router names i r = do
   windows ← rows_from (bound_window names i) 0 r.windows
   Ok (record { name = r.name; latency = r.latency; accept = r.accept; lanes = r.lanes; windows = windows })
-
--- the window of a row, with this port
-abbrev pub window_at : ℕ → WindowRow → Window
-window_at port w = record { first = w.first; last = w.last; port = port; base = w.base }
-
--- the windows of a router for their faults, for which ports don't matter
-abbrev pub windows_of : RouterRow → List Window
-windows_of r = map (window_at 0) r.windows
 
 -- that the windows of a router have no fault: want of memory is none
 abbrev pub refused_windows : ℕ → Option WindowFault → Result (Unit {0}) PlatformRefusal

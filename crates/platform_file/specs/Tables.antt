@@ -4,15 +4,15 @@ use Rattle.toml.specs.Data.{Members}
 use Rattle.tlm_types.specs.declared.words.MemoryTraits.{MemoryTraits}
 use Rattle.tlm_types.specs.declared.words.ReqMode.TheVariants as req
 use Rattle.tlm_types.specs.declared.words.RespMode.TheVariants as resp
-use Rattle.platform_file.specs.declared.fault.PlatformCode.TheVariants.{NoAccess}
-use Rattle.platform_file.specs.declared.place.Place.{Place}
-use Rattle.platform_file.specs.declared.place.Place.TheVariants as place
+use Rattle.platform_model.specs.declared.fault.PlatformCode.TheVariants.{NoAccess}
+use Rattle.platform_model.specs.declared.place.Place.{Place}
+use Rattle.platform_model.specs.declared.place.Place.TheVariants as place
 use Rattle.tlm_model.specs.declared.platform.MemoryRow.{MemoryRow}
 use Rattle.platform_file.specs.declared.initiators.InitiatorKeys.{InitiatorKeys}
 use Rattle.platform_file.specs.declared.routers.WindowKeys.{WindowKeys}
 use Rattle.platform_file.specs.declared.routers.RouterKeys.{RouterKeys}
 use Rattle.platform_file.specs.declared.top.PlatformKeys.{PlatformKeys}
-use Rattle.platform_file.specs.Reading.{PlatformRefusal, refusal, rows_from}
+use Rattle.platform_model.specs.Reading.{PlatformRefusal, refusal, rows_from}
 use Rattle.tlm_types.specs.Reading.{◌>>=◌}
 use Rattle.platform_file.specs.Kinds.{number, truth, name, text, sized_text, word, tables}
 use Rattle.platform_file.specs.Words.{styles, responses, router_modes, memory_modes}

@@ -5,8 +5,8 @@ use Rattle.tlm_types.specs.declared.words.RespMode.TheVariants as resp
 use Rattle.tlm_model.specs.declared.platform.Platform.{Platform}
 use Rattle.tlm_model.specs.declared.platform.Style.TheVariants as style
 use Rattle.tlm_model.specs.declared.platform.Target.TheVariants as target
-use Rattle.platform_file.specs.declared.fault.PlatformCode.TheVariants.{UnknownKey, NameTwice}
-use Rattle.platform_file.specs.Reading.{PlatformRefusal}
+use Rattle.platform_model.specs.declared.fault.PlatformCode.TheVariants.{UnknownKey, NameTwice}
+use Rattle.platform_model.specs.Reading.{PlatformRefusal}
 
 -- an initiator, a router with two windows, and two memories
 unfoldable pub example : List ℕ

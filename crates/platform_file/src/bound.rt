@@ -2,12 +2,10 @@
 ghost use Rattle.platform_file.specs.NamesView.{names_view};
 ghost use Rattle.platform_file.specs.Platform.{bound_initiator, bound_window, bound_router};
 
-use crate::fault::PlatformFault;
 use crate::initiators::InitiatorKeys;
 use crate::names::{NameMap, target};
-use crate::place::Place;
-use crate::reading::{RowKind, rows};
 use crate::routers::{RouterKeys, WindowKeys};
+use platform_model::{Place, PlatformFault, RowKind, rows};
 use std::alloc::Global;
 use tlm_model::{InitiatorRow, RouterRow, WindowRow};
 use tlm_types::Text;

@@ -1,12 +1,11 @@
 // Tables of initiators.
 ghost use Rattle.platform_file.specs.Tables.{initiator_keys};
 
-use crate::fault::PlatformFault;
 use crate::keys::Keys;
 use crate::kinds::{AnyText, Name, PartCount, SizedText};
-use crate::place::Place;
 use crate::reading::TableKind;
 use crate::words::{Responses, Styles, Word};
+use platform_model::{Place, PlatformFault};
 use std::alloc::Global;
 use tlm_model::Style;
 use tlm_types::{RespMode, Text};

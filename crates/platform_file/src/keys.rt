@@ -6,12 +6,11 @@ ghost use Rattle.toml.specs.Data.{get_member};
 ghost use Rattle.toml.specs.View.{view, table_view};
 ghost use Rattle.platform_file.specs.Kinds.{tables, tables_seen};
 ghost use Rattle.platform_file.specs.Keys.{known_keys, required_key, optional_key, TellsKindFault};
-ghost use Rattle.platform_file.specs.Reading.{Gives, GivesBy};
+ghost use Rattle.platform_model.specs.Reading.{Gives, GivesBy};
 
-use crate::fault::{PlatformCode, PlatformFault};
 use crate::kinds::{Kind, KindFault};
-use crate::place::Place;
 use crate::tables;
+use platform_model::{Place, PlatformCode, PlatformFault};
 use std::alloc::Global;
 use toml::{Table, Value};
 

@@ -3,11 +3,12 @@ ghost use Rattle.std.specs.Prelude.{◌≡◌, ◌≤◌, Result, IfOk};
 ghost use Rattle.std.specs.List.{list_all};
 ghost use Rattle.toml.specs.Data.{Data};
 ghost use Rattle.toml.specs.View.{view};
-ghost use Rattle.platform_file.specs.declared.fault.PlatformCode.{PlatformCode};
+ghost use Rattle.platform_model.specs.declared.fault.PlatformCode.{PlatformCode};
 ghost use Rattle.platform_file.specs.declared.kinds.KindFault.TheVariants.{Memory};
-ghost use Rattle.platform_file.specs.Kinds.{number, truth, text, sized_text, name, is_name, is_name_byte, is_lower, KindGives};
+ghost use Rattle.platform_model.specs.Name.{is_name, is_name_byte, is_lower};
+ghost use Rattle.platform_file.specs.Kinds.{number, truth, text, sized_text, name, KindGives};
 
-use crate::fault::PlatformCode;
+use platform_model::PlatformCode;
 use std::alloc::{AllocFailed, Global};
 use thiserror::Error;
 use tlm_types::Text;

@@ -1,10 +1,9 @@
 //! The platform file: a TOML document that describes a platform, or its first fault.
 //!
 //! - `read_platform` reads the bytes of a file. It answers a `Platform` of `tlm_model`, or a
-//!   `PlatformFault`: a `PlatformCode` with the table and the key where it stands.
-//! - `Place` names a table of the document, and makes refusals that stand there.
+//!   `PlatformFault` of `platform_model`: a `PlatformCode` with the table and the key where it stands.
 //! - Inside, `Kind` is a kind of values, `Keys` a table with its required and optional keys, and
-//!   `rows` the one loop over tables and over rows.
+//!   `table_rows` reads one table after the other.
 //!
 //! Promises: what is read, or refused, is what `platform_of` of `specs/Platform.antt` gives of the
 //! bytes: every key, default and range, and the first fault in the order of the format. The only
@@ -12,13 +11,11 @@
 #![tactic(auto)]
 
 mod bound;
-mod fault;
 mod initiators;
 mod keys;
 mod kinds;
 mod memories;
 mod names;
-mod place;
 mod read;
 mod reading;
 mod routers;
@@ -29,9 +26,6 @@ mod windows;
 mod words;
 pub mod worked;
 
-pub use fault::{PlatformCode, PlatformFault};
-pub use place::Place;
+pub use platform_model::{Place, PlatformCode, PlatformFault};
 pub use read::read_platform;
-pub use reading::{RowKind, rows};
 pub use tlm_model::{InitiatorRow, MemoryRow, Platform, RouterRow, Rows, Style, Target, WindowRow};
-pub use windows::window;

@@ -1,15 +1,14 @@
 // Tables of memories.
 ghost use Rattle.toml.specs.View.{table_view};
-ghost use Rattle.platform_file.specs.Reading.{Gives};
+ghost use Rattle.platform_model.specs.Reading.{Gives};
 ghost use Rattle.platform_file.specs.Tables.{memory_traits, memory_row};
 
-use crate::fault::{PlatformCode, PlatformFault};
 use crate::keys::Keys;
 use crate::kinds::{Name, Number, PartCount, Truth};
-use crate::place::Place;
 use crate::reading::TableKind;
 use crate::routers::{LANES, LATENCY};
 use crate::words::{MemoryModes, Word};
+use platform_model::{Place, PlatformCode, PlatformFault};
 use std::alloc::Global;
 use tlm_model::MemoryRow;
 use tlm_types::{MemoryTraits, ReqMode};

@@ -1,15 +1,14 @@
 // The names of a platform, and what they lead to.
 ghost use Rattle.std.specs.Prelude.{◌≡◌, ◌≤◌, ◌<◌, ◌^◌, ℕ, List, length, Option, Result, [], option_copied, codes};
 ghost use Rattle.platform_file.specs.Names.{Bearer, with_name, with_names, initiator_bears, router_bears, memory_bears, names_of, target_of, find_name};
-ghost use Rattle.platform_file.specs.Reading.{Gives, GivesBy};
+ghost use Rattle.platform_model.specs.Reading.{Gives, GivesBy};
 ghost use Rattle.platform_file.specs.NamesView.{names_view};
 
-use crate::fault::{PlatformCode, PlatformFault};
 use crate::initiators::InitiatorKeys;
-use crate::place::Place;
 use crate::routers::RouterKeys;
 use crate::top::PlatformKeys;
 use indexmap::IndexMap;
+use platform_model::{Place, PlatformCode, PlatformFault};
 use std::alloc::Global;
 use tlm_model::{MemoryRow, Target};
 

@@ -1,19 +1,17 @@
 // The platform of some bytes.
 ghost use Rattle.std.specs.Prelude.{IfOk};
 ghost use Rattle.toml.specs.View.{table_view};
-ghost use Rattle.platform_file.specs.Bounded.{IsBounded};
-ghost use Rattle.platform_file.specs.Reading.{Gives};
+ghost use Rattle.platform_model.specs.Bounded.{IsBounded};
+ghost use Rattle.platform_model.specs.Reading.{Gives};
 ghost use Rattle.platform_file.specs.Platform.{platform_of, platform_of_table, document_of};
 ghost use Rattle.platform_file.specs.Document.{GivesDocument};
 
 use crate::bound::{BoundInitiators, BoundRouters};
-use crate::fault::{PlatformCode, PlatformFault};
 use crate::names::names;
-use crate::place::Place;
-use crate::reading::rows;
 use crate::sums::check_sums;
 use crate::top::platform_keys;
 use crate::windows::RouterWindows;
+use platform_model::{Place, PlatformCode, PlatformFault, rows};
 use std::alloc::{AllocError, Global};
 use tlm_model::Platform;
 use toml::Table;

@@ -1,12 +1,11 @@
 // Tables of routers and of their windows.
 ghost use Rattle.platform_file.specs.Tables.{window_keys, router_keys};
 
-use crate::fault::PlatformFault;
 use crate::keys::Keys;
 use crate::kinds::{AnyText, Name, Number, PartCount};
-use crate::place::Place;
 use crate::reading::{TableKind, table_rows};
 use crate::words::{RouterModes, Word};
+use platform_model::{Place, PlatformFault};
 use std::alloc::Global;
 use tlm_model::Rows;
 use tlm_types::{Ps, ReqMode, Text};

@@ -1,10 +1,9 @@
 // The sums over all memories.
 ghost use Rattle.std.specs.Prelude.{◌≡◌, sum, nat_le};
-ghost use Rattle.platform_file.specs.Reading.{Gives};
+ghost use Rattle.platform_model.specs.Reading.{Gives};
 ghost use Rattle.platform_file.specs.Platform.{checked_sums};
 
-use crate::fault::{PlatformCode, PlatformFault};
-use crate::place::Place;
+use platform_model::{Place, PlatformCode, PlatformFault};
 use std::alloc::Global;
 use tlm_model::MemoryRow;
 

@@ -3,8 +3,8 @@ ghost use Rattle.std.specs.Prelude.{◌≤◌, IfOk, vec_len};
 ghost use Rattle.toml.specs.View.{view, items_view};
 ghost use Rattle.platform_file.specs.Kinds.{tables, all_tables, tables_seen, KindGivesBy};
 
-use crate::fault::PlatformCode;
 use crate::kinds::KindFault;
+use platform_model::PlatformCode;
 use std::alloc::Global;
 use toml::{Table, Value};
 

@@ -1,17 +1,16 @@
 // The top table of a platform file, and the tables in it.
 ghost use Rattle.std.specs.Prelude.{◌≤◌, length, IfOk};
 ghost use Rattle.toml.specs.View.{table_view};
-ghost use Rattle.platform_file.specs.Reading.{Gives};
+ghost use Rattle.platform_model.specs.Reading.{Gives};
 ghost use Rattle.platform_file.specs.Tables.{platform_keys};
 
-use crate::fault::PlatformFault;
 use crate::initiators::{InitiatorKeys, Initiators};
 use crate::keys::Keys;
 use crate::kinds::Number;
 use crate::memories::Memories;
-use crate::place::Place;
 use crate::reading::table_rows;
 use crate::routers::{RouterKeys, Routers};
+use platform_model::{Place, PlatformFault};
 use std::alloc::Global;
 use tlm_model::{MemoryRow, Rows};
 use tlm_types::Ps;

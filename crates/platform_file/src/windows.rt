@@ -1,26 +1,13 @@
 // The faults of windows.
 ghost use Rattle.std.specs.Prelude.{◌≡◌, Some, IfOk, map};
-ghost use Rattle.platform_file.specs.Platform.{checked_windows, refused_windows, window_at};
-ghost use Rattle.platform_file.specs.Reading.{Fails};
+ghost use Rattle.platform_file.specs.Platform.{checked_windows, refused_windows};
+ghost use Rattle.platform_model.specs.Reading.{Fails};
+ghost use Rattle.platform_model.specs.Windows.{window_at};
 
-use crate::fault::{PlatformCode, PlatformFault};
-use crate::place::Place;
-use crate::reading::RowKind;
 use addr_router::{Window, WindowFault, Windows};
+use platform_model::{Place, PlatformCode, PlatformFault, RowKind, window};
 use std::alloc::{AllocError, Global};
 use tlm_model::{RouterRow, WindowRow};
-
-/// The window of a row, with this port.
-pub fn window(row: &WindowRow, port: u32) -> Window
-    ensures { result ≡ window_at port row.now }
-{
-    Window {
-        first: row.first,
-        last: row.last,
-        port,
-        base: row.base,
-    }
-}
 
 /// The windows of rows for their faults, for which ports don't matter.
 fn windows(alloc: Global, rows: &[WindowRow]) -> Result<Vec<Window>, AllocError>

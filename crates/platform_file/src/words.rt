@@ -4,8 +4,8 @@ ghost use Rattle.toml.specs.Data.{Data};
 ghost use Rattle.platform_file.specs.Kinds.{word, word_in};
 ghost use Rattle.platform_file.specs.Words.{styles, responses, router_modes, memory_modes};
 
-use crate::fault::PlatformCode;
 use crate::kinds::{Kind, KindFault};
+use platform_model::PlatformCode;
 use std::alloc::Global;
 use tlm_model::Style;
 use tlm_types::{ReqMode, RespMode};

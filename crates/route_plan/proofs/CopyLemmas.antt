@@ -1,8 +1,8 @@
 -- Rows that are copied.
 use Rattle.std.proofs.Common.{◌≡◌, ℕ, ◌+◌, List, [], ◌∷◌, Result, Ok, Err, refl, sym, ◌∙◌}
-use Rattle.platform_file.specs.declared.fault.PlatformFault.{PlatformFault}
-use Rattle.platform_file.specs.declared.fault.PlatformFault.TheVariants as fault
-use Rattle.platform_file.specs.Reading.{PlatformRefusal, Fails, rows_from}
+use Rattle.platform_model.specs.declared.fault.PlatformFault.{PlatformFault}
+use Rattle.platform_model.specs.declared.fault.PlatformFault.TheVariants as fault
+use Rattle.platform_model.specs.Reading.{PlatformRefusal, Fails, rows_from}
 
 -- rows that are read as they are
 pub rows_from-itself : {A : Type 0} (i : ℕ) (xs : List A) → rows_from (λ _ (x : A). Ok x) i xs ≡ Ok xs

@@ -11,8 +11,8 @@ use Rattle.std.proofs.lemmas.List.FromFn.{length-enumerate_from}
 use Rattle.std.proofs.lemmas.List.Elements.{All-take, All-weaker}
 use Rattle.addr_router.specs.declared.window.Window.{Window}
 use Rattle.addr_router.specs.Windows.{IsProper, IsValid, AreApart, decoded, is_within, seen_at}
-use Rattle.platform_file.specs.Platform.{window_at, windows_of}
-use Rattle.platform_file.specs.Bounded.{IsBounded, IsBoundedRouter}
+use Rattle.platform_model.specs.Windows.{window_at, windows_of}
+use Rattle.platform_model.specs.Bounded.{IsBounded, IsBoundedRouter}
 use Rattle.tlm_model.specs.declared.platform.Platform.{Platform}
 use Rattle.tlm_model.specs.declared.platform.RouterRow.{RouterRow}
 use Rattle.tlm_model.specs.declared.platform.WindowRow.{WindowRow}

@@ -7,9 +7,9 @@ use Rattle.std.proofs.lemmas.List.Sums.{get_or-le-sum_by, sum_by-cons, sum_by-le
 use Rattle.std.proofs.lemmas.Map.Keys.{IsDistinct-cons}
 use Rattle.std.proofs.lemmas.Map.Steps.{length-le_from_distinct_below}
 use Rattle.std.proofs.lemmas.Option.{get_or_from_slice_get, slice_get-get_or, slice_get_within}
-use Rattle.platform_file.specs.Bounded.{IsBoundedRouter, is_there}
-use Rattle.platform_file.specs.Reading.{PlatformRefusal, rows_from}
-use Rattle.platform_file.proofs.ReadLemmas.{bind_ok, if_ok, unless_ok}
+use Rattle.platform_model.specs.Bounded.{IsBoundedRouter, is_there}
+use Rattle.platform_model.specs.Reading.{PlatformRefusal, rows_from}
+use Rattle.platform_model.proofs.ReadLemmas.{bind_ok, if_ok, unless_ok}
 use Rattle.tlm_model.specs.declared.platform.InitiatorRow.{InitiatorRow}
 use Rattle.tlm_model.specs.declared.platform.Platform.{Platform}
 use Rattle.tlm_model.specs.declared.platform.RouterRow.{RouterRow}

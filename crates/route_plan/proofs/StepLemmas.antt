@@ -16,9 +16,9 @@ use Rattle.tlm_model.specs.declared.platform.WindowRow.{WindowRow}
 use Rattle.tlm_model.specs.declared.platform.Target.{Target}
 use Rattle.tlm_model.specs.declared.platform.Target.TheVariants.{Router, Memory}
 use Rattle.tlm_model.specs.Route.{Found, Walk, into_memory, into_window, into_router, later, nowhere, over_hop, walk, window_hop, window_of}
-use Rattle.platform_file.specs.Bounded.{IsBounded, IsBoundedRouter}
-use Rattle.platform_file.specs.Reading.{rows_from}
-use Rattle.platform_file.proofs.ReadLemmas.{bind_ok, unless_ok, rows_passed}
+use Rattle.platform_model.specs.Bounded.{IsBounded, IsBoundedRouter}
+use Rattle.platform_model.specs.Reading.{rows_from}
+use Rattle.platform_model.proofs.ReadLemmas.{bind_ok, unless_ok, rows_passed}
 use Rattle.route_plan.specs.declared.step.Step.{Step}
 use Rattle.route_plan.specs.Paths.{targets_of, is_deeper}
 use Rattle.route_plan.specs.Shape.{IsShape, checked_shape, checked_windowed, checked_router_named, checked_memory_named, checked_acyclic, checked_depth}

@@ -7,13 +7,13 @@ use Rattle.std.proofs.lemmas.List.Elements.{All-head, All-tail}
 use Rattle.std.proofs.lemmas.List.Folds.{fold-map}
 use Rattle.std.proofs.lemmas.List.FromFn.{get_or-map-range_with_len, get_or-range_with_len, length-map-range_with_len, length-range_with_len}
 use Rattle.std.proofs.lemmas.List.Sums.{get_or-le-sum_by, sum_by-cons}
-use Rattle.platform_file.specs.declared.fault.PlatformCode.TheVariants.{TooManyEntries, TooMuchData}
-use Rattle.platform_file.specs.declared.fault.PlatformFault.{PlatformFault}
-use Rattle.platform_file.specs.declared.fault.PlatformFault.TheVariants as fault
-use Rattle.platform_file.specs.declared.place.Place.TheVariants as place
-use Rattle.platform_file.specs.Reading.{Fails, PlatformRefusal, refusal, rows_from}
+use Rattle.platform_model.specs.declared.fault.PlatformCode.TheVariants.{TooManyEntries, TooMuchData}
+use Rattle.platform_model.specs.declared.fault.PlatformFault.{PlatformFault}
+use Rattle.platform_model.specs.declared.fault.PlatformFault.TheVariants as fault
+use Rattle.platform_model.specs.declared.place.Place.TheVariants as place
+use Rattle.platform_model.specs.Reading.{Fails, PlatformRefusal, refusal, rows_from}
 use Rattle.tlm_types.specs.Reading.{◌>>=◌}
-use Rattle.platform_file.proofs.ReadLemmas.{bind_ok, if_ok, rows_passed, unless_ok}
+use Rattle.platform_model.proofs.ReadLemmas.{bind_ok, if_ok, rows_passed, unless_ok}
 use Rattle.tlm_types.specs.declared.words.ObjectNo.{ObjectNo}
 use Rattle.tlm_types.specs.declared.words.ObjectNo.TheVariants.{Memory, Hop, Pool}
 use Rattle.tlm_model.specs.declared.operation.Operation.{Operation}

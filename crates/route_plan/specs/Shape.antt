@@ -1,10 +1,10 @@
 -- The shape of a platform, or its first fault.
 use Rattle.std.specs.Prelude.{ℕ, ◌≡◌, Bool, true, false, ◌||◌, ◌==◌, length, Result, Ok, Err, if◌then◌else◌, nat_lt, codes}
 use Rattle.std.specs.List.{list_any, range_with_len}
-use Rattle.platform_file.specs.declared.fault.PlatformCode.TheVariants.{Unbound, Cycle, TooDeep, TwoPaths, NotBuilt}
-use Rattle.platform_file.specs.declared.place.Place.TheVariants as place
-use Rattle.platform_file.specs.Bounded.{IsBounded}
-use Rattle.platform_file.specs.Reading.{PlatformRefusal, refusal, rows_from}
+use Rattle.platform_model.specs.declared.fault.PlatformCode.TheVariants.{Unbound, Cycle, TooDeep, TwoPaths, NotBuilt}
+use Rattle.platform_model.specs.declared.place.Place.TheVariants as place
+use Rattle.platform_model.specs.Bounded.{IsBounded}
+use Rattle.platform_model.specs.Reading.{PlatformRefusal, refusal, rows_from}
 use Rattle.tlm_types.specs.Reading.{◌>>=◌}
 use Rattle.tlm_model.specs.declared.platform.InitiatorRow.{InitiatorRow}
 use Rattle.tlm_model.specs.declared.platform.MemoryRow.{MemoryRow}

@@ -1,9 +1,9 @@
 -- What each initiator of a plan may add to each memory, as it is counted and as it is kept.
 use Rattle.std.specs.Prelude.{ℕ, ◌+◌, ◌*◌, List, map, length, sum_by, Option, Some, None, slice_get, Result, Ok, Err, if◌then◌else◌, nat_lt, codes}
 use Rattle.std.specs.List.{range_with_len}
-use Rattle.platform_file.specs.declared.fault.PlatformCode.TheVariants.{TooManyEntries, TooMuchData}
-use Rattle.platform_file.specs.declared.place.Place.TheVariants as place
-use Rattle.platform_file.specs.Reading.{PlatformRefusal, refusal}
+use Rattle.platform_model.specs.declared.fault.PlatformCode.TheVariants.{TooManyEntries, TooMuchData}
+use Rattle.platform_model.specs.declared.place.Place.TheVariants as place
+use Rattle.platform_model.specs.Reading.{PlatformRefusal, refusal}
 use Rattle.tlm_types.specs.declared.words.ObjectNo.TheVariants.{Memory}
 use Rattle.tlm_model.specs.declared.operation.Operation.{Operation}
 use Rattle.tlm_model.specs.declared.platform.MemoryRow.{MemoryRow}

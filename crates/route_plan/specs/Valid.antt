@@ -1,9 +1,9 @@
 -- Which plans are valid.
 use Rattle.std.specs.Prelude.{ℕ, ◌≡◌, ◌+◌, ◌<◌, length, sum_by, Result, Ok, Err, if◌then◌else◌, nat_lt, codes}
 use Rattle.std.specs.List.{range_with_len, AllByRecursion}
-use Rattle.platform_file.specs.declared.fault.PlatformCode.TheVariants.{TooManyEntries, TooMuchData}
-use Rattle.platform_file.specs.declared.place.Place.TheVariants as place
-use Rattle.platform_file.specs.Reading.{PlatformRefusal, refusal}
+use Rattle.platform_model.specs.declared.fault.PlatformCode.TheVariants.{TooManyEntries, TooMuchData}
+use Rattle.platform_model.specs.declared.place.Place.TheVariants as place
+use Rattle.platform_model.specs.Reading.{PlatformRefusal, refusal}
 use Rattle.tlm_types.specs.Reading.{◌>>=◌}
 use Rattle.tlm_types.specs.declared.words.ObjectNo.{ObjectNo}
 use Rattle.tlm_types.specs.declared.words.ObjectNo.TheVariants.{Memory, Hop, Pool}
@@ -52,7 +52,8 @@ unfoldable pub planned : Plan → Result Plan PlatformRefusal
 planned p = checked_plan p >>= λ _. Ok p
 
 -- A valid plan: a platform of a good shape, a script for each of its initiators, and counts within the limits. Each
--- script is as a text gives one: numbers in their ranges, lengths of 1 to 4,096, and no `invalidate`.
+-- script is as a text gives one: numbers in their ranges, lengths of 1 to 4,096, and no `invalidate`. So a valid plan
+-- is one that is served: its shape says that its initiators are blocking.
 pub record IsValid (p : Plan) : Type 0 where
   pub shape : IsShape p.platform
   pub scripts : length p.scripts ≡ length p.platform.initiators

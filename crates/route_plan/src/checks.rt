@@ -1,14 +1,14 @@
 // The tests of a platform's shape.
 ghost use Rattle.std.specs.Prelude.{◌≡◌, IfOk};
-ghost use Rattle.platform_file.specs.Bounded.{IsBounded};
-ghost use Rattle.platform_file.specs.Reading.{Gives, GivesBy};
+ghost use Rattle.platform_model.specs.Bounded.{IsBounded};
+ghost use Rattle.platform_model.specs.Reading.{Gives, GivesBy};
 ghost use Rattle.route_plan.specs.Shape.{checked_windowed, checked_router_named, checked_memory_named, checked_acyclic, checked_depth, checked_single, checked_style, checked_shape};
 
 use crate::copies::copy_platform;
 use crate::paths::{has_two_paths, is_deeper, is_named, is_on_cycle};
 use crate::shapes::Shape;
 use crate::walks::Component;
-use platform_file::{Place, PlatformCode, PlatformFault, RowKind, rows};
+use platform_model::{Place, PlatformCode, PlatformFault, RowKind, rows};
 use std::alloc::Global;
 use tlm_model::{InitiatorRow, MemoryRow, Platform, RouterRow, Style};
 

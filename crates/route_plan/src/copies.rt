@@ -1,12 +1,14 @@
 // Copies of platforms and scripts.
-ghost use Rattle.std.specs.Prelude.{Ok};
-ghost use Rattle.platform_file.specs.Reading.{Gives};
+ghost use Rattle.std.specs.Prelude.{◌≡◌, Ok, IfOk};
+ghost use Rattle.std.specs.List.{AllByRecursion};
+ghost use Rattle.traffic_script.specs.Proper.{AreProper};
+ghost use Rattle.platform_model.specs.Reading.{Gives};
 
 use crate::shares::Share;
-use platform_file::{PlatformFault, RowKind, rows};
+use platform_model::{PlatformFault, RowKind, rows};
 use std::alloc::Global;
 use tlm_model::{InitiatorRow, MemoryRow, Platform, RouterRow, Rows, WindowRow};
-use tlm_types::Text;
+use tlm_types::{Memory, Text};
 use traffic_script::Script;
 
 /// The copies of rows, each of which is the row.
@@ -96,17 +98,6 @@ impl RowKind<MemoryRow> for Copies {
     }
 }
 
-impl RowKind<Script> for Copies {
-    type Row = Script;
-
-    ghost reads = { λ _ _ row. Ok row };
-
-    fn read(&self, alloc: Global, _index: usize, item: &Script) -> Result<Script, PlatformFault> {
-        let script = item.copy(alloc)?;
-        Ok(script)
-    }
-}
-
 impl RowKind<Share> for Copies {
     type Row = Share;
 
@@ -142,11 +133,17 @@ pub fn copy_shares(
     rows(alloc, &Copies, shares)
 }
 
-/// Copies of scripts. Its only error is want of memory.
-pub fn copy_scripts(alloc: Global, scripts: &[Script]) -> Result<Rows<Script>, PlatformFault>
-    ensures { Gives result (Ok scripts.now) }
+/// Copies of scripts, each of which is as a text gives one. Its only error is want of memory.
+pub fn copy_scripts(alloc: Global, scripts: &[Script]) -> Result<Rows<Script>, Memory>
+    ensures same { IfOk result (λ copies. copies ≡ scripts.now) }
+    ensures proper { IfOk result (AllByRecursion AreProper) }
 {
-    rows(alloc, &Copies, scripts)
+    let mut copies = Vec::new(alloc);
+    for script in scripts {
+        let copy = script.copy(alloc)?;
+        copies.push(copy)?;
+    }
+    Ok(Rows::from_vec(copies))
 }
 
 /// A copy of a platform. Its only error is want of memory.

@@ -1,7 +1,7 @@
 // The two ends of each hop.
 ghost use Rattle.std.specs.Prelude.{◌≡◌, ◌<◌, ◌^◌, ◌++◌, length, map, IfOk, OnOk};
 ghost use Rattle.std.specs.List.{enumerate_from};
-ghost use Rattle.platform_file.specs.Bounded.{IsBounded};
+ghost use Rattle.platform_model.specs.Bounded.{IsBounded};
 ghost use Rattle.route_plan.specs.Routes.{binding_ends, window_ends, ends_of};
 
 use std::alloc::{AllocError, Global};

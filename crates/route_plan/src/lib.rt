@@ -40,7 +40,7 @@ pub use checks::shape;
 pub use ends::{HopEnds, Up};
 pub use planning::plan;
 pub use plans::Plan;
-pub use platform_file::PlatformFault as PlanFault;
+pub use platform_model::PlatformFault as PlanFault;
 pub use shapes::Shape;
 pub use step::Route;
 pub use tlm_model::Target as Down;

@@ -2,13 +2,13 @@
 ghost use Rattle.std.specs.Prelude.{◌≡◌, ◌+◌, ◌<◌, ◌≤◌, ◌^◌, Some, length, map, slice_get, take, sum_by, IfOk};
 ghost use Rattle.std.specs.List.{enumerate_from};
 ghost use Rattle.addr_router.specs.Windows.{IsValid};
-ghost use Rattle.platform_file.specs.Bounded.{IsBounded};
-ghost use Rattle.platform_file.specs.Platform.{windows_of, window_at};
+ghost use Rattle.platform_model.specs.Bounded.{IsBounded};
+ghost use Rattle.platform_model.specs.Windows.{windows_of, window_at};
 ghost use Rattle.tlm_model.specs.Route.{window_hop};
 ghost use Rattle.route_plan.specs.Routes.{numbered_windows, first_hops};
 
 use addr_router::{Window, Windows};
-use platform_file::window;
+use platform_model::window;
 use std::alloc::{AllocError, Global};
 use tlm_model::{Platform, RouterRow, WindowRow};
 

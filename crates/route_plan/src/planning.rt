@@ -1,15 +1,15 @@
 // The making of plans.
-ghost use Rattle.std.specs.Prelude.{◌≡◌, length};
-ghost use Rattle.platform_file.specs.Reading.{Gives};
+ghost use Rattle.std.specs.Prelude.{◌≡◌, length, IfOk};
+ghost use Rattle.platform_model.specs.Reading.{Gives};
 ghost use Rattle.route_plan.specs.Shares.{checked_shares};
-ghost use Rattle.route_plan.specs.Valid.{planned};
+ghost use Rattle.route_plan.specs.Valid.{planned, IsValid};
 
 use crate::copies::copy_scripts;
 use crate::plans::Plan;
 use crate::routes::Routes;
 use crate::shapes::Shape;
 use crate::shares::{Share, entries_in_all, logged_in_all, shares};
-use platform_file::{Place, PlatformCode, PlatformFault};
+use platform_model::{Place, PlatformCode, PlatformFault};
 use std::alloc::Global;
 use tlm_model::Rows;
 use traffic_script::Script;
@@ -37,9 +37,11 @@ fn check_shares(alloc: Global, shares: &[Rows<Share>]) -> Result<(), PlatformFau
 /// The plan of a shape with the script of each initiator in order, which are copied. It is refused
 /// where its scripts may add more than 1,000,000 entries to the objects (`TooManyEntries`), or else
 /// log more than 67,108,864 bytes (`TooMuchData`). The only other error is want of memory.
+/// Each plan that is made is valid, and so one that is served.
 pub fn plan(alloc: Global, shape: Shape, scripts: &[Script]) -> Result<Plan, PlatformFault>
     requires { length scripts.now ≡ length shape.initiators }
-    ensures { Gives result (planned (record { platform = shape; scripts = scripts.now })) }
+    ensures read { Gives result (planned (record { platform = shape; scripts = scripts.now })) }
+    ensures valid { IfOk result IsValid }
 {
     let scripts = copy_scripts(alloc, scripts)?;
     let routes = Routes::of_shape(alloc, shape)?;

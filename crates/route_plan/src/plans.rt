@@ -1,14 +1,13 @@
 // Plans.
 ghost use Rattle.std.specs.Prelude.{◌≡◌, ◌<◌, ◌≤◌, ◌↔◌, List, Some, Ok, IsSome, length, map, slice_get, sum_by, IfOk};
 ghost use Rattle.std.specs.List.{range_with_len};
-ghost use Rattle.platform_file.specs.Reading.{Gives};
+ghost use Rattle.platform_model.specs.Reading.{Gives};
 ghost use Rattle.route_plan.specs.Counted.{logged_share_at, share_at};
 ghost use Rattle.route_plan.specs.Planned.{logged_bytes, planned_at};
 ghost use Rattle.route_plan.specs.Plans.{walk_at};
 ghost use Rattle.route_plan.specs.Routes.{ends_of, numbered_windows, route_by};
-ghost use Rattle.route_plan.specs.Shape.{IsShape};
 ghost use Rattle.route_plan.specs.Shares.{shares_of, with_scripts};
-ghost use Rattle.route_plan.specs.Valid.{checked_plan, hop_count, IsObject};
+ghost use Rattle.route_plan.specs.Valid.{hop_count, IsObject, IsValid};
 
 use crate::copies::{copy_scripts, copy_shares};
 use crate::ends::HopEnds;
@@ -16,7 +15,7 @@ use crate::routes::Routes;
 use crate::shares::{Share, entries_in, logged_in};
 use crate::step::Route;
 use addr_router::Windows;
-use platform_file::PlatformFault;
+use platform_model::PlatformFault;
 use std::alloc::Global;
 use std::marker::Model;
 use tlm_model::{Platform, Rows};
@@ -48,10 +47,8 @@ impl Model for Plan {
 impl Plan {
     /// The plan of a platform with the script of each initiator and what was counted of them.
     pub(crate) fn of_parts(routes: Routes, scripts: Rows<Script>, shares: Rows<Rows<Share>>) -> Plan
-        requires shape { IsShape routes }
-        requires scripts { length scripts ≡ length routes.initiators }
+        requires valid { IsValid (with_scripts routes scripts) }
         requires shares { shares ≡ shares_of (with_scripts routes scripts) }
-        requires limits { checked_plan (with_scripts routes scripts) ≡ Ok tt }
         ensures { result ≡ with_scripts routes scripts }
     {
         Plan {
@@ -61,11 +58,11 @@ impl Plan {
         }
     }
 
-    /// The platform.
+    /// The platform. The plan is valid: its platform is of a good shape, there is a script for each
+    /// initiator, as a text gives one, and what is counted of them is within the limits.
     pub fn platform(&self) -> &Platform
         ensures same { result.now ≡ self.now.platform }
-        ensures shape { IsShape self.now.platform }
-        ensures limits { checked_plan self.now ≡ Ok tt }
+        ensures valid { IsValid self.now }
     {
         self.routes.platform()
     }

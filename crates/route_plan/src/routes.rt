@@ -1,6 +1,6 @@
 // The routes of a platform.
 ghost use Rattle.std.specs.Prelude.{◌≡◌, ◌<◌, ◌≤◌, Some, Ok, length, map, slice_get, IfOk};
-ghost use Rattle.platform_file.specs.Reading.{Gives};
+ghost use Rattle.platform_model.specs.Reading.{Gives};
 ghost use Rattle.tlm_model.specs.Route.{into_memory};
 ghost use Rattle.route_plan.specs.Routes.{ends_of, first_step, next_step, numbered_windows, route_by, bound_walk};
 ghost use Rattle.route_plan.specs.Shape.{IsShape};
@@ -11,7 +11,7 @@ use crate::numbering::{all_windows, first_hops};
 use crate::shapes::Shape;
 use crate::step::{Route, Step};
 use addr_router::Windows;
-use platform_file::PlatformFault;
+use platform_model::PlatformFault;
 use std::alloc::{AllocError, Global};
 use std::marker::Model;
 use tlm_model::{Platform, Target};

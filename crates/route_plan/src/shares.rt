@@ -103,7 +103,7 @@ fn script_shares(
     Ok(Rows::from_vec(shares))
 }
 
-/// The same of each initiator.
+/// What each initiator may add to each memory, by the scripts in their order.
 fn all_shares(
     alloc: Global,
     routes: &Routes,

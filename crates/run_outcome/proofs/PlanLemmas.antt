@@ -9,9 +9,10 @@ use Rattle.tlm_model.specs.declared.platform.Style.TheVariants.{Blocking, Direct
 use Rattle.tlm_model.specs.Plan.{Plan, Initiator, initiators_from, initiators_of}
 use Rattle.flow_plan.specs.Plans.{HasNoFourPhase}
 use Rattle.flow_plan.proofs.Ways.{initiator_from}
-use Rattle.platform_file.specs.Reading.{rows_from}
-use Rattle.platform_file.proofs.ReadLemmas.{bind_ok}
+use Rattle.platform_model.specs.Reading.{rows_from}
+use Rattle.platform_model.proofs.ReadLemmas.{bind_ok}
 use Rattle.route_plan.specs.Shape.{checked_acyclic, checked_depth, checked_memory_named, checked_router_named, checked_shape, checked_single, checked_style, checked_windowed}
+use Rattle.route_plan.specs.Valid.{IsValid}
 use Rattle.run_outcome.proofs.ListLemmas.{within}
 
 -- initiators are numbered in order
@@ -34,7 +35,7 @@ blocking_rows n (row ∷ rows) done h =
     bind_ok _ _ _ h (λ one first h1. bind_ok _ _ _ h1 (λ more rest h2. (is_blocking n row row.style one refl first, blocking_rows (n + 1) rows more rest)))
 
 -- the initiators of a platform of a good shape are blocking
-pub are_blocking : (p : Platform) → checked_shape p ≡ Ok tt → AllByRecursion (λ (row : InitiatorRow). row.style ≡ Blocking) p.initiators
+are_blocking : (p : Platform) → checked_shape p ≡ Ok tt → AllByRecursion (λ (row : InitiatorRow). row.style ≡ Blocking) p.initiators
 unfolding checked_shape
 are_blocking p h =
     bind_ok (rows_from checked_windowed 0 p.routers) _ _ h (λ _ _ h1.
@@ -47,13 +48,17 @@ are_blocking p h =
     blocking_rows 0 p.initiators done passed)))))))
 
 -- an initiator of blocking rows is blocking
-pub blocking_from : (k n : ℕ) (rows : List InitiatorRow) (scripts : List (List Operation)) (i : Initiator) → AllByRecursion (λ (row : InitiatorRow). row.style ≡ Blocking) rows → slice_get (initiators_from k rows scripts) n ≡ Some i → i.row.style ≡ Blocking
+blocking_from : (k n : ℕ) (rows : List InitiatorRow) (scripts : List (List Operation)) (i : Initiator) → AllByRecursion (λ (row : InitiatorRow). row.style ≡ Blocking) rows → slice_get (initiators_from k rows scripts) n ≡ Some i → i.row.style ≡ Blocking
 blocking_from k n [] scripts i all is = cc
 blocking_from k n (row ∷ rows) [] i all is = cc
 blocking_from k zero (row ∷ rows) (script ∷ scripts) i all is =
     let same : record { number = k; row = row; script = script } ≡ i = cc in
     subst (λ (x : Initiator). x.row.style ≡ Blocking) same all.0
 blocking_from k (suc n) (row ∷ rows) (script ∷ scripts) i all is = blocking_from (k + 1) n rows scripts i all.1 is
+
+-- an initiator of a valid plan is blocking
+pub blocking_at : (p : Plan) → IsValid p → (n : ℕ) (i : Initiator) → slice_get (initiators_of p) n ≡ Some i → i.row.style ≡ Blocking
+blocking_at p valid n i is = blocking_from 0 n p.platform.initiators p.scripts i (are_blocking p.platform valid.shape.checked) is
 
 pub blocking_apart : (style : Style) → style ≡ Blocking → style ≢ FourPhase
 blocking_apart style is four = let wrong : Blocking ≡ FourPhase = sym is ∙ four in cc
@@ -63,6 +68,6 @@ none_from n [] scripts all = tt
 none_from n (row ∷ rows) [] all = tt
 none_from n (row ∷ rows) (script ∷ scripts) all = (blocking_apart row.style all.0, none_from (n + 1) rows scripts all.1)
 
--- the initiators of a plan with blocking rows have no four phases
-pub no_fourphase : (p : Plan) → AllByRecursion (λ (row : InitiatorRow). row.style ≡ Blocking) p.platform.initiators → HasNoFourPhase p
-no_fourphase p blocking = none_from 0 p.platform.initiators p.scripts blocking
+-- the initiators of a valid plan have no four phases
+pub no_fourphase : (p : Plan) → IsValid p → HasNoFourPhase p
+no_fourphase p valid = none_from 0 p.platform.initiators p.scripts (are_blocking p.platform valid.shape.checked)

@@ -1,10 +1,10 @@
 -- The built-in platform has a good shape.
 use Rattle.std.proofs.Common.{◌≡◌, ◌≢◌, ℕ, zero, suc, ◌<◌, List, [], ◌∷◌, get_or, Ok, Err, refl, sym, ap, ◌∙◌, arith, codes}
 use Rattle.std.specs.List.{AllPairs}
-use Rattle.platform_file.specs.Reading.{Fails, rows_from}
-use Rattle.platform_file.specs.declared.fault.PlatformFault.{PlatformFault}
-use Rattle.platform_file.specs.declared.fault.PlatformFault.TheVariants.{Refused, Memory}
-use Rattle.platform_file.specs.Bounded.{IsBounded, IsBoundedInitiator, IsBoundedMemory}
+use Rattle.platform_model.specs.Reading.{Fails, rows_from}
+use Rattle.platform_model.specs.declared.fault.PlatformFault.{PlatformFault}
+use Rattle.platform_model.specs.declared.fault.PlatformFault.TheVariants.{Refused, Memory}
+use Rattle.platform_model.specs.Bounded.{IsBounded, IsBoundedInitiator, IsBoundedMemory}
 use Rattle.route_plan.specs.Shape.{checked_shape}
 use Rattle.tlm_top.specs.BuiltIn.{cpu_row, ram_row, built_in_platform}
 use Rattle.tlm_top.specs.Exits.{exit_of}

@@ -1,15 +1,11 @@
 -- The plan of a platform and its scripts.
 use Rattle.std.proofs.Common.{◌≡◌, ℕ, suc, ◌+◌, ◌≤◌, ◌^◌, arith, List, [], ◌∷◌, length, Result, Ok, Err, refl, ap, sym, subst, ◌∙◌}
-use Rattle.std.specs.List.{AllByRecursion}
 use Rattle.outside.specs.Causes.{Rose}
-use Rattle.platform_file.specs.Reading.{PlatformRefusal, Fails}
+use Rattle.platform_model.specs.Reading.{PlatformRefusal, Fails}
 use Rattle.tlm_types.specs.Reading.{◌>>=◌}
-use Rattle.platform_file.specs.declared.fault.PlatformFault.{PlatformFault}
-use Rattle.platform_file.specs.declared.fault.PlatformFault.TheVariants.{Refused, Memory}
-use Rattle.traffic_script.specs.Proper.{AreProper}
-use Rattle.traffic_script.proofs.ScriptLemmas.{script_proper}
-use Rattle.route_plan.specs.Shape.{IsShape}
-use Rattle.route_plan.specs.Valid.{checked_plan, planned, IsValid}
+use Rattle.platform_model.specs.declared.fault.PlatformFault.{PlatformFault}
+use Rattle.platform_model.specs.declared.fault.PlatformFault.TheVariants.{Refused, Memory}
+use Rattle.route_plan.specs.Valid.{checked_plan, planned}
 use Rattle.command_words.specs.Words.{CommandLine, run, script}
 use Rattle.tlm_model.specs.declared.operation.Operation.{Operation}
 use Rattle.tlm_model.specs.declared.platform.InitiatorRow.{InitiatorRow}
@@ -29,25 +25,14 @@ AreScripts-length h [] (s ∷ scripts) are = absurd are
 AreScripts-length h (row ∷ rows) [] are = absurd are
 AreScripts-length h (row ∷ rows) (s ∷ scripts) are = ap suc (AreScripts-length h rows scripts are.1)
 
-AreScripts-proper : (h : Holding) (rows : List InitiatorRow) (scripts : List (List Operation)) → AreScripts h rows scripts → AllByRecursion AreProper scripts
-AreScripts-proper h [] [] are = tt
-AreScripts-proper h [] (s ∷ scripts) are = absurd are
-AreScripts-proper h (row ∷ rows) [] are = absurd are
-AreScripts-proper h (row ∷ rows) (s ∷ scripts) are = (script_proper are.0.text s are.0.read, AreScripts-proper h rows scripts are.1)
-
-within : (p q : Plan) (checked : Result (Unit {0}) PlatformRefusal) → (checked >>= λ _. Ok p) ≡ Ok q → (checked ≡ Ok tt) × (q ≡ p)
-within p q (Ok tt) is = (refl, let same : p ≡ q = cc in sym same)
+within : (p q : Plan) (checked : Result (Unit {0}) PlatformRefusal) → (checked >>= λ _. Ok p) ≡ Ok q → q ≡ p
+within p q (Ok tt) is = let same : p ≡ q = cc in sym same
 within p q (Err e) is = cc
 
 -- a plan that was made
-pub planned_is : (h : Holding) (command : CommandLine) (p q : Plan) → IsShape p.platform → IsPlatform h command p.platform → AreScripts h p.platform.initiators p.scripts → planned p ≡ Ok q → IsPlan h command q × IsValid q
+pub planned_is : (h : Holding) (command : CommandLine) (p q : Plan) → IsPlatform h command p.platform → AreScripts h p.platform.initiators p.scripts → planned p ≡ Ok q → IsPlan h command q
 unfolding planned
-planned_is h command p q shape platform scripts is =
-    let w = within p q (checked_plan p) is in
-    subst (λ (x : Plan). IsPlan h command x × IsValid x) (sym w.1) (
-      record { platform = platform; scripts = scripts },
-      record { shape = shape; scripts = AreScripts-length h p.platform.initiators p.scripts scripts; proper = AreScripts-proper h p.platform.initiators p.scripts scripts; limits = w.0 },
-    )
+planned_is h command p q platform scripts is = subst (IsPlan h command) (sym (within p q (checked_plan p) is)) (record { platform = platform; scripts = scripts })
 
 refused : (p : Plan) (checked : Result (Unit {0}) PlatformRefusal) (r : PlatformRefusal) → (checked >>= λ _. Ok p) ≡ Err r → checked ≡ Err r
 refused p (Ok tt) r is = cc

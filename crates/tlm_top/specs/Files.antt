@@ -7,7 +7,7 @@ use Rattle.tlm_model.specs.declared.platform.Platform.{Platform}
 use Rattle.tlm_model.specs.declared.trace.Trace.{Trace}
 use Rattle.tlm_model.specs.Plan.{Plan}
 use Rattle.platform_file.specs.Platform.{platform_of}
-use Rattle.platform_file.specs.Reading.{PlatformRefusal}
+use Rattle.platform_model.specs.Reading.{PlatformRefusal}
 use Rattle.tlm_types.specs.Reading.{◌>>=◌}
 use Rattle.traffic_script.specs.Lines.{script_of}
 use Rattle.traffic_script.specs.Reading.{ScriptRefusal}

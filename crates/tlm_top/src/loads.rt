@@ -2,7 +2,7 @@
 ghost use Rattle.std.specs.Prelude.{◌≡◌, ◌≤◌, ℕ, List, IfOk, IfErr};
 ghost use Rattle.tlm_top.specs.Files.{shaped_platform, IsText, IsFilePlatform, IsScript, AreScripts};
 ghost use Rattle.tlm_top.specs.Loads.{IsLoadAnswer, IsLoadFault, IsFileFault, IsScriptAnswer, IsScriptFault, IsFirstFault};
-ghost use Rattle.platform_file.specs.Reading.{Gives};
+ghost use Rattle.platform_model.specs.Reading.{Gives};
 ghost use Rattle.std.specs.Prelude.{length};
 
 use crate::exit::Exit;

@@ -23,7 +23,7 @@ use Rattle.good_history.specs.Laws.{AllDecoupled}
 use Rattle.good_history.proofs.Decoupled.{sound_is_decoupled}
 use Rattle.traffic_script.specs.Proper.{AreProper, IsProper}
 use Rattle.route_plan.specs.Valid.{IsValid}
-use Rattle.run_outcome.proofs.PlanLemmas.{are_blocking, blocking_from, no_fourphase}
+use Rattle.run_outcome.proofs.PlanLemmas.{blocking_at, no_fourphase}
 use Rattle.trace_print.proofs.OfRequests.{all-at, at-request, request-of, script-of}
 use Rattle.trace_print.proofs.Requested.{used-each}
 
@@ -93,7 +93,7 @@ module _ (p : Plan) (valid : IsValid p) where
       let found = request-of p before e (λ i r. IsEntryOf (route_of p.platform i r.address) r.asked e.object e.what) reply in
       let i = found.initiator in
       let r = found.request in
-      let blocking = blocking_from 0 e.txn.initiator p.platform.initiators p.scripts i (are_blocking p.platform valid.shape.checked) found.of_it in
+      let blocking = blocking_at p valid e.txn.initiator i found.of_it in
       let proper = script-of AreProper 0 e.txn.initiator p.platform.initiators p.scripts i valid.proper found.of_it in
       let access = all-at AsksAccess (requests_of p.platform i before) (asks-accesses p.platform i before 0 0 0 i.script proper.each) e.txn.seq r found.asked_for in
       let is = at-request p before e (λ i r. IsEntryOf (route_of p.platform i r.address) r.asked e.object e.what) reply found in
@@ -109,4 +109,4 @@ module _ (p : Plan) (valid : IsValid p) where
   are-accesses h sound =
       let kept = sound.requests in
       let runs = kept.scripts in
-      accessed-from [] h runs.replies runs.ways (sound_is_decoupled p h (no_fourphase p (are_blocking p.platform valid.shape.checked)) sound)
+      accessed-from [] h runs.replies runs.ways (sound_is_decoupled p h (no_fourphase p valid) sound)

@@ -40,12 +40,12 @@ use Rattle.tlm_model.specs.Store.{got_by, got_of, is_enabled, place_of, put_from
 use Rattle.tlm_model.specs.Times.{HasTime, decoupled_time}
 use Rattle.tlm_model.proofs.HistoryLemmas.{AllByRecursion-push}
 use Rattle.generic_payload.proofs.Moves.{length-taken_from}
-use Rattle.platform_file.specs.Bounded.{IsBounded, IsBoundedRouter}
-use Rattle.platform_file.specs.Platform.{window_at}
+use Rattle.platform_model.specs.Bounded.{IsBounded, IsBoundedRouter}
+use Rattle.platform_model.specs.Windows.{window_at}
 use Rattle.traffic_script.specs.Proper.{AreBytes, AreProper}
 use Rattle.route_plan.specs.Valid.{IsValid}
 use Rattle.route_plan.proofs.SinglePaths.{not_none, some_same}
-use Rattle.run_outcome.proofs.PlanLemmas.{are_blocking, blocking_from, initiator_within}
+use Rattle.run_outcome.proofs.PlanLemmas.{blocking_at, initiator_within}
 use Rattle.trace_print.specs.Naming.{AreUsual, HasNumbers, HasUsualBytes, IsObject, IsTellable}
 use Rattle.trace_print.proofs.Accesses.{IsOfAccesses, Replies, Ways, are-accesses}
 use Rattle.trace_print.proofs.FewEntries.{few-entries}
@@ -274,7 +274,7 @@ told-entry p valid before got s stored e position accessed reply way time legal 
     let i = found.initiator in
     let r = found.request in
     let shape = valid.shape in
-    let blocking = blocking_from 0 e.txn.initiator p.platform.initiators p.scripts i (are_blocking p.platform shape.checked) found.of_it in
+    let blocking = blocking_at p valid e.txn.initiator i found.of_it in
     let proper = script-of AreProper 0 e.txn.initiator p.platform.initiators p.scripts i valid.proper found.of_it in
     let all = requests-told p.platform i before got 0 0 0 (omega arith) i.script proper.each in
     let told = all-at IsToldRequest (requests_of p.platform i before) all e.txn.seq r found.asked_for in

@@ -6,8 +6,8 @@ use Rattle.std.proofs.lemmas.Bool.{and_parts, cases_lt, eqb-true, leb-true, ltb-
 use Rattle.std.proofs.lemmas.List.{get_or-append-add, get_or_append_left, length-map}
 use Rattle.std.proofs.lemmas.List.Sums.{sum_by-cons}
 use Rattle.std.proofs.lemmas.Option.{get_or_from_slice_get, slice_get_within, unwrap_or-slice_get}
-use Rattle.platform_file.specs.Bounded.{IsBounded, IsBoundedInitiator, IsBoundedMemory, IsBoundedRouter, is_there, names_in}
-use Rattle.platform_file.specs.Kinds.{is_lower, is_name, is_name_byte}
+use Rattle.platform_model.specs.Bounded.{IsBounded, IsBoundedInitiator, IsBoundedMemory, IsBoundedRouter, is_there, names_in}
+use Rattle.platform_model.specs.Name.{is_lower, is_name, is_name_byte}
 use Rattle.tlm_types.specs.declared.words.ObjectNo.TheVariants.{Hop}
 use Rattle.tlm_model.specs.declared.platform.InitiatorRow.{InitiatorRow}
 use Rattle.tlm_model.specs.declared.platform.MemoryRow.{MemoryRow}

@@ -16,14 +16,15 @@ pub fn reports_name_histories()
     ensures { NamesHistories }
 {}
 
-/// The same of a valid plan, whose names are those of a platform file: plain, and each of one component.
-/// No two of its hops have the same two ends, since no two paths lead to one component.
+/// The report of a run with all its entries names its history, where the plan is valid: its names are
+/// those of a platform file, plain and each of one component, and no two of its hops have the same two
+/// ends, since no two paths lead to one component.
 pub fn reports_of_valid_plans_name_histories()
     ensures { NamesValidHistories }
 {}
 
-/// The same of good histories of a valid plan: each entry of one is an access, with numbers and bytes
-/// as a run has them.
+/// The report of a run with all its entries names its history among the good ones of a valid plan: each
+/// entry of one is an access, with numbers and bytes as a run has them.
 pub fn reports_name_good_histories()
     ensures { NamesGoodHistories }
 {}

@@ -10,6 +10,5 @@ pub mod PiecesLemmas
 pub mod PlaceLemmas
 pub mod ProperLemmas
 pub mod ReadLemmas
-pub mod ScriptLemmas
 pub mod WordLemmas
 pub mod WithLines

@@ -80,7 +80,7 @@ impl From<Memory> for ScriptFault {
     }
 }
 
-/// The same before the line is known.
+/// Why a line of a script is refused, before its number is known, or memory was refused.
 #[derive(Debug, Drop)]
 pub enum LineFault {
     Refused(ScriptCode),

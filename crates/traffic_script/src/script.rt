@@ -52,7 +52,7 @@ impl Script {
         self.pieces.as_slice()
     }
 
-    /// The same, where the script isn't used any more.
+    /// The pieces that make up the script, which isn't used any more. Copies of it may share them.
     pub(crate) fn into_pieces(self) -> Arc<Vec<Piece>, Global>
         ensures written { written_out (arc_value result).items ≡ self }
         ensures proper { AreProper self }
@@ -77,7 +77,8 @@ impl Script {
     /// A script of the same operations, which both share, so that none of them is copied. Its only error
     /// is want of memory, where no more owners can be counted.
     pub fn copy(&self, _alloc: Global) -> Result<Script, Memory>
-        ensures { IfOk result (λ script. script ≡ self.now) }
+        ensures same { IfOk result (λ script. script ≡ self.now) }
+        ensures proper { AreProper self.now }
     {
         let pieces = Arc::try_clone(&self.pieces)?;
         Ok(Script {

@@ -19,7 +19,7 @@ overflow_cast-len g c =
     let tokens = ap (λ (x : OpenedView). x.tokens) c.opened.view_is ∙ c.requires.tickets in
     let may = may_build g.N.Naming.table g.N.Naming.tokens g.N.Naming.frame c.args.plan.now o.history.table o.tickets o.history.frame o.seats.items o.note o.books.items c.opened.invariant table frame tokens c.requires.plan in
     let count = o.seats.ok.0 in
-    omega (arith, may.places, c.len.ensures, count, few_objects c.args.plan.now.platform c.platform.ensures.shape.bounded)
+    omega (arith, may.places, c.len.ensures, count, few_objects c.args.plan.now.platform c.platform.ensures.valid.shape.bounded)
 
 pub empty_wallets-requires : goal.empty_wallets-requires
 empty_wallets-requires g c =
@@ -79,7 +79,7 @@ make_memories-requires-clause-wallets g c =
 
 pub make_notes-requires-clause-some : goal.make_notes-requires-clause-some
 make_notes-requires-clause-some g c =
-    omega (arith, c.notes_of-count.ensures.notes, c.platform.ensures.shape.bounded.some_memory)
+    omega (arith, c.notes_of-count.ensures.notes, c.platform.ensures.valid.shape.bounded.some_memory)
 
 pub make_notes-requires-clause-table : goal.make_notes-requires-clause-table
 make_notes-requires-clause-table g c =

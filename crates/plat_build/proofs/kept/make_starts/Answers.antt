@@ -16,7 +16,7 @@ overflow_cast-initiator g c =
     let number : length c.loop-wallet.yielded ≡ c.len-initiator.result = (let a = i.count in let b = c.len-initiator.ensures in let d = c.loop-wallet.starts.ok.0 in omega arith) in
     let at = next_is c.args.wallets.items c.loop-wallet.yielded c.next.new.self.rest.items c.loop-wallet.wallet-iterator.rest.items c.in-Some.wallet i.whole c.in-Some.ensures.steps.0 in
     let below : length c.loop-wallet.yielded < length c.args.wallets.items = at_short c.args.wallets.items (length c.loop-wallet.yielded) c.in-Some.wallet at in
-    omega (arith, number, below, c.requires.wallets.count, c.platform.ensures.shape.bounded.initiator_count)
+    omega (arith, number, below, c.requires.wallets.count, c.platform.ensures.valid.shape.bounded.initiator_count)
 
 pub make_start-requires-clause-note : goal.make_start-requires-clause-note
 make_start-requires-clause-note g c =

@@ -5,7 +5,7 @@ use lib.ListN.{get_elem?}
 use Rattle.view_lists.proofs.Places.{each_end}
 use Rattle.shared_object.specs.Standing.{Numbers}
 use Rattle.tlm_model.specs.declared.platform.Platform.{Platform}
-use Rattle.platform_file.specs.Bounded.{IsBoundedMemory}
+use Rattle.platform_model.specs.Bounded.{IsBoundedMemory}
 use Rattle.plat_build.specs.Net.{memory_numbers}
 use Rattle.plat_build.proofs.Lookups.{row_at}
 use Rattle.plat_build.proofs.KeptLemmas.{book_first, books_rest, fewer_rest, seat_first, seats_rest}
@@ -38,8 +38,8 @@ loop-number-preserved g c =
     let at : slice_get p.memories k ≡ Some row = row_at c.as_slice-row-items.result.now p.memories k row rows c.loop-number-test.true c.row-item.is in
     let some_seats : 0 < length c.loop-number.seats.items = omega (arith, i.seat_count, c.requires.enough.0, below) in
     let some_books : 0 < length c.loop-number.books.items = omega (arith, i.book_count, c.requires.enough.1, below) in
-    let bound : IsBoundedMemory row = subst IsBoundedMemory (get_or_from_slice_get p.memories k row row at) (c.platform.ensures.shape.bounded.memories k row below) in
-    let added : c.saturating_add-first_gate.result ≡ c.loop-number.first_gate + row.traits.gates = omega (arith, c.saturating_add-first_gate.ensures, i.few_gates, bound.gates, below, c.platform.ensures.shape.bounded.memory_count) in
+    let bound : IsBoundedMemory row = subst IsBoundedMemory (get_or_from_slice_get p.memories k row row at) (c.platform.ensures.valid.shape.bounded.memories k row below) in
+    let added : c.saturating_add-first_gate.result ≡ c.loop-number.first_gate + row.traits.gates = omega (arith, c.saturating_add-first_gate.ensures, i.few_gates, bound.gates, below, c.platform.ensures.valid.shape.bounded.memory_count) in
     let items = c.in_ok-push.ensures.items in
     let new = c.in_ok-memory.memory in
     record {

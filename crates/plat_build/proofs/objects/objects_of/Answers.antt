@@ -19,4 +19,4 @@ pub returns-clause-few : goal.returns-clause-few
 returns-clause-few c =
     let p = c.args.plan.now.platform in
     let all = objects_pushed p c.new-objects.result.items c.push_memories.new.objects.items c.push_hops.new.objects.items c.push_pools.new.objects.items c.new-objects.ensures.items c.in_ok-push_memories.ensures c.in_ok-push_hops.ensures c.in_ok-push_pools.ensures in
-    subst (λ (l : List ObjectNo). length l ≤ 336) (sym all) (few_objects p c.platform.ensures.shape.bounded)
+    subst (λ (l : List ObjectNo). length l ≤ 336) (sym all) (few_objects p c.platform.ensures.valid.shape.bounded)

@@ -6,7 +6,7 @@ use Rattle.plat_build.proofs.objects.push_hops.Goals as goal
 
 pub overflow_add-hop : goal.overflow_add-hop
 overflow_add-hop c =
-    let few = few_hops c.args.plan.now.platform c.platform.ensures.shape.bounded in
+    let few = few_hops c.args.plan.now.platform c.platform.ensures.valid.shape.bounded in
     let below : c.hops.hop < hop_count c.args.plan.now.platform = c.hop_ends.ensures.there.0 (search (rules, c.is_some.ensures, c.hops-test.true)) in
     omega (arith, few, below)
 

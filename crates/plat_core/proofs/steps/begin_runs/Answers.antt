@@ -1,24 +1,14 @@
 use Rattle.std.proofs.Common.{◌≡◌, ◌<◌, ◌*◌, ◌∙◌, List, ℕ, Some, ap, sym, subst, arith, length}
-use Rattle.std.specs.List.{AllByRecursion}
 use Rattle.std.proofs.lemmas.List.{length-map}
 use Rattle.tlm_model.specs.declared.operation.Operation.{Operation}
 use Rattle.tlm_model.specs.declared.platform.Platform.{Platform}
 use Rattle.tlm_model.specs.Plan.{initiators_of}
-use Rattle.traffic_script.specs.Proper.{AreProper}
 use Rattle.plat_core.specs.Core.{begun_run, no_runs}
 use Rattle.initiator_run.specs.Run.{Run, fresh_run}
 use Rattle.plat_core.proofs.BeginLemmas.{no_run_at}
 use Rattle.route_plan.proofs.ShareLemmas.{count_initiators}
 use Rattle.run_outcome.proofs.ListLemmas.{take_all, take_push}
-use Rattle.initiator_run.proofs.ServableLemmas.{more_proper, servable}
 use Rattle.plat_core.proofs.steps.begin_runs.Goals as goal
-
-pub loop-number-init : goal.loop-number-init
-loop-number-init c = record {
-  runs = c.new-runs.ensures.items;
-  proper = tt;
-  scripts = λ below. absurd (omega (arith, below));
-}
 
 pub loop-number-preserved : goal.loop-number-preserved
 loop-number-preserved c =
@@ -28,24 +18,12 @@ loop-number-preserved c =
     let run_is : c.in_ok-new.field-0 ≡ fresh_run k c.script.result.now p.platform.quantum (2 * length c.script.result.now) =
     c.in_ok-new.ensures.run
     ∙ (ap (λ (q : ℕ). fresh_run k c.in_ok-script.script q (2 * length c.in_ok-script.script)) (ap (λ (x : Platform). x.quantum) c.platform.ensures.same)
-    ∙ ap (λ (s : List Operation). fresh_run k s p.platform.quantum (2 * length s)) c.in_ok-script.ensures) in
-    record {
-      runs = take_push (no_runs p) c.loop-number.runs.items c.push.new.self.items k c.in_ok-new.field-0 c.loop-number.invariant.runs c.in_ok-push.ensures.items
-          (no_run_at p k c.script.result.now c.script.ensures.script (subst (λ (n : ℕ). k < n) rows c.loop-number-test.true) ∙ ap (λ (r : Run). Some r) (sym run_is));
-      proper = more_proper p.scripts k c.script.result.now c.loop-number.invariant.proper c.script.ensures.script (subst AreProper c.in_ok-script.ensures c.in_ok-new.ensures.proper);
-      scripts = λ _. c.script.ensures.each;
-    }
+    ∙ ap (λ (s : List Operation). fresh_run k s p.platform.quantum (2 * length s)) c.in_ok-script.ensures.same) in
+    take_push (no_runs p) c.loop-number.runs.items c.push.new.self.items k c.in_ok-new.field-0 c.loop-number.invariant c.in_ok-push.ensures.items
+    (no_run_at p k c.script.result.now c.script.ensures.script (subst (λ (n : ℕ). k < n) rows c.loop-number-test.true) ∙ ap (λ (r : Run). Some r) (sym run_is))
 
-pub returns-clause-runs : goal.returns-clause-runs
-returns-clause-runs c =
+pub returns : goal.returns
+returns c =
     let p = c.args.plan.now in
     let rows : length c.as_slice-number-end.result.now ≡ length p.platform.initiators = ap length (c.as_slice-number-end.ensures ∙ ap (λ (x : Platform). x.initiators) c.platform-2.ensures.same) in
-    let scripts : length p.scripts ≡ length p.platform.initiators = c.loop-number.invariant.scripts (omega (arith, rows, c.loop-number-test.false, c.platform-2.ensures.shape.bounded.some_initiator)) in
-    c.loop-number.invariant.runs ∙ take_all c.loop-number.number (no_runs p) (omega (arith, length-map (initiators_of p) (begun_run p), count_initiators 0 p.platform.initiators p.scripts scripts, rows, c.loop-number-test.false))
-
-pub returns-clause-servable : goal.returns-clause-servable
-returns-clause-servable c =
-    let p = c.args.plan.now in
-    let rows : length c.as_slice-number-end.result.now ≡ length p.platform.initiators = ap length (c.as_slice-number-end.ensures ∙ ap (λ (x : Platform). x.initiators) c.platform-2.ensures.same) in
-    let scripts : length p.scripts ≡ length p.platform.initiators = c.loop-number.invariant.scripts (omega (arith, rows, c.loop-number-test.false, c.platform-2.ensures.shape.bounded.some_initiator)) in
-    servable p c.platform-2.ensures.shape scripts (subst (AllByRecursion AreProper) (take_all c.loop-number.number p.scripts (omega (arith, scripts, rows, c.loop-number-test.false))) c.loop-number.invariant.proper)
+    c.loop-number.invariant ∙ take_all c.loop-number.number (no_runs p) (omega (arith, length-map (initiators_of p) (begun_run p), count_initiators 0 p.platform.initiators p.scripts c.platform-2.ensures.valid.scripts, rows, c.loop-number-test.false))

@@ -1,12 +1,6 @@
-use Rattle.std.proofs.Common.{◌≡◌, ◌<◌, length, take}
-use Rattle.std.specs.List.{AllByRecursion}
-use Rattle.traffic_script.specs.Proper.{AreProper}
+use Rattle.std.proofs.Common.{◌≡◌, take}
 use Rattle.plat_core.specs.Core.{no_runs}
 use Rattle.plat_core.proofs.steps.begin_runs.Given as goal
 
 abbrev pub invariant-loop-number : goal.invariant-loop-number
-invariant-loop-number l = record {
-  runs : l.runs.items ≡ take l.number (no_runs l.plan);
-  proper : AllByRecursion AreProper (take l.number l.plan.scripts);
-  scripts : 0 < l.number → length l.plan.scripts ≡ length l.plan.platform.initiators;
-}
+invariant-loop-number l = l.runs.items ≡ take l.number (no_runs l.plan)

@@ -1,4 +1,4 @@
-use Rattle.platform_file.specs.Platform.{window_at}
+use Rattle.platform_model.specs.Windows.{window_at}
 use Rattle.route_plan.proofs.NumberLemmas.{numbered_more_at}
 use Rattle.route_plan.proofs.numbering.numbered.Goals as goal
 

@@ -1,6 +1,6 @@
 use Rattle.std.proofs.Common.{◌≡◌, map, take}
 use Rattle.std.specs.List.{enumerate_from}
-use Rattle.platform_file.specs.Platform.{window_at}
+use Rattle.platform_model.specs.Windows.{window_at}
 use Rattle.route_plan.proofs.numbering.numbered.Given as goal
 
 abbrev pub invariant-loop-index : goal.invariant-loop-index

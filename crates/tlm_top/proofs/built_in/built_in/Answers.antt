@@ -1,7 +1,7 @@
 use Rattle.std.proofs.Common.{◌∙◌, subst, sym}
 use Rattle.std.proofs.lemmas.Result.{err_from_is_err_and}
 use Rattle.tlm_model.specs.declared.platform.Platform.{Platform}
-use Rattle.platform_file.specs.Bounded.{IsBounded}
+use Rattle.platform_model.specs.Bounded.{IsBounded}
 use Rattle.tlm_top.proofs.LoneShape.{built_in_is_bounded, never_refused}
 use Rattle.tlm_top.proofs.built_in.built_in.Goals as goal
 

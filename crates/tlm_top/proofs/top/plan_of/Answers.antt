@@ -40,15 +40,7 @@ returns-clause-plan g c =
     let h0 : Holding = g.L.Library.holds c.args.lib.now in
     let h : Holding = g.L.Library.holds c.shape_of.new.lib in
     let scripts = AreScripts-moved h0 h c.as_slice.result.now c.in_ok-shape.shape.initiators c.in_ok-scripts.scripts.items c.as_slice-2.result.now c.in_ok-shape.ensures.same rows c.as_slice-2.ensures.value c.in_ok-scripts.ensures.scripts in
-    (planned_is h0 (line_of c.args.command) (record { platform = c.in_ok-shape.shape; scripts = c.as_slice-2.result.now }) c.in_ok-plan.field-0 c.platform.ensures.shape c.in_ok-shape.ensures.platform scripts c.in_ok-plan.ensures).0
-
-pub returns-clause-valid : goal.returns-clause-valid
-returns-clause-valid g c =
-    let rows = c.as_slice.ensures ∙ ap (λ (q : Platform). q.initiators) c.platform.ensures.same in
-    let h0 : Holding = g.L.Library.holds c.args.lib.now in
-    let h : Holding = g.L.Library.holds c.shape_of.new.lib in
-    let scripts = AreScripts-moved h0 h c.as_slice.result.now c.in_ok-shape.shape.initiators c.in_ok-scripts.scripts.items c.as_slice-2.result.now c.in_ok-shape.ensures.same rows c.as_slice-2.ensures.value c.in_ok-scripts.ensures.scripts in
-    (planned_is h0 (line_of c.args.command) (record { platform = c.in_ok-shape.shape; scripts = c.as_slice-2.result.now }) c.in_ok-plan.field-0 c.platform.ensures.shape c.in_ok-shape.ensures.platform scripts c.in_ok-plan.ensures).1
+    planned_is h0 (line_of c.args.command) (record { platform = c.in_ok-shape.shape; scripts = c.as_slice-2.result.now }) c.in_ok-plan.field-0 c.in_ok-shape.ensures.platform scripts c.in_ok-plan.ensures.read
 
 pub returns-in_err-plan-clause-refused : goal.returns-in_err-plan-clause-refused
 returns-in_err-plan-clause-refused g c =
@@ -58,4 +50,4 @@ returns-in_err-plan-clause-refused g c =
     let h : Holding = g.L.Library.holds c.shape_of.new.lib in
     let scripts = AreScripts-moved h0 h c.as_slice.result.now c.in_ok-shape.shape.initiators c.in_ok-scripts.scripts.items c.as_slice-2.result.now c.in_ok-shape.ensures.same rows c.as_slice-2.ensures.value c.in_ok-scripts.ensures.scripts in
     rw (p.1, p.2)
-    (plan_refused h0 (g.L.Library.faults c.args.lib.now) (g.L.Library.faults c.load_scripts.new.lib) (line_of c.args.command) (record { platform = c.in_ok-shape.shape; scripts = c.as_slice-2.result.now }) c.in_err-plan.field-0.0 c.in_ok-shape.ensures.platform scripts c.in_err-plan.ensures)
+    (plan_refused h0 (g.L.Library.faults c.args.lib.now) (g.L.Library.faults c.load_scripts.new.lib) (line_of c.args.command) (record { platform = c.in_ok-shape.shape; scripts = c.as_slice-2.result.now }) c.in_err-plan.field-0.0 c.in_ok-shape.ensures.platform scripts c.in_err-plan.ensures.read)

@@ -13,7 +13,7 @@ new-made-requires-clause-lists c =
     let planned : c.as_slice-3.result.now ≡ planned_of p = c.as_slice-3.ensures.value ∙ planned_is p c.as_slice.result.now c.in_ok-planned.planned.items (c.as_slice.ensures.value ∙ e) c.in_ok-planned.ensures in
     let gates : c.as_slice-4.result.now ≡ gates_of p.platform =
     c.as_slice-4.ensures.value ∙ gates_are p.platform c.as_slice-2.result.now c.in_ok-gates.gates.items (c.as_slice-2.ensures.value ∙ e) (c.in_ok-gates.ensures ∙ ap (λ (x : Platform). map (gates_at x) c.as_slice-2.result.now) c.platform.ensures.same) in
-    let may = may_open p c.in_ok-objects.objects.items c.as_slice-3.result.now c.as_slice-4.result.now c.platform.ensures.shape.bounded c.platform.ensures.limits planned gates in
+    let may = may_open p c.in_ok-objects.objects.items c.as_slice-3.result.now c.as_slice-4.result.now c.platform.ensures.valid.shape.bounded c.platform.ensures.valid.limits planned gates in
     (may.long, may.some_objects)
 
 pub new-made-requires-clause-few : goal.new-made-requires-clause-few
@@ -23,7 +23,7 @@ new-made-requires-clause-few c =
     let planned : c.as_slice-3.result.now ≡ planned_of p = c.as_slice-3.ensures.value ∙ planned_is p c.as_slice.result.now c.in_ok-planned.planned.items (c.as_slice.ensures.value ∙ e) c.in_ok-planned.ensures in
     let gates : c.as_slice-4.result.now ≡ gates_of p.platform =
     c.as_slice-4.ensures.value ∙ gates_are p.platform c.as_slice-2.result.now c.in_ok-gates.gates.items (c.as_slice-2.ensures.value ∙ e) (c.in_ok-gates.ensures ∙ ap (λ (x : Platform). map (gates_at x) c.as_slice-2.result.now) c.platform.ensures.same) in
-    let may = may_open p c.in_ok-objects.objects.items c.as_slice-3.result.now c.as_slice-4.result.now c.platform.ensures.shape.bounded c.platform.ensures.limits planned gates in
+    let may = may_open p c.in_ok-objects.objects.items c.as_slice-3.result.now c.as_slice-4.result.now c.platform.ensures.valid.shape.bounded c.platform.ensures.valid.limits planned gates in
     may.few
 
 pub new-made-requires-clause-gates : goal.new-made-requires-clause-gates
@@ -33,7 +33,7 @@ new-made-requires-clause-gates c =
     let planned : c.as_slice-3.result.now ≡ planned_of p = c.as_slice-3.ensures.value ∙ planned_is p c.as_slice.result.now c.in_ok-planned.planned.items (c.as_slice.ensures.value ∙ e) c.in_ok-planned.ensures in
     let gates : c.as_slice-4.result.now ≡ gates_of p.platform =
     c.as_slice-4.ensures.value ∙ gates_are p.platform c.as_slice-2.result.now c.in_ok-gates.gates.items (c.as_slice-2.ensures.value ∙ e) (c.in_ok-gates.ensures ∙ ap (λ (x : Platform). map (gates_at x) c.as_slice-2.result.now) c.platform.ensures.same) in
-    let may = may_open p c.in_ok-objects.objects.items c.as_slice-3.result.now c.as_slice-4.result.now c.platform.ensures.shape.bounded c.platform.ensures.limits planned gates in
+    let may = may_open p c.in_ok-objects.objects.items c.as_slice-3.result.now c.as_slice-4.result.now c.platform.ensures.valid.shape.bounded c.platform.ensures.valid.limits planned gates in
     may.few_gates
 
 pub returns : goal.returns

@@ -1,6 +1,6 @@
 use Rattle.std.proofs.Common.{◌≡◌, sym, ap, ◌∙◌, arith}
 use Rattle.route_plan.specs.Planned.{planned_at}
-use Rattle.route_plan.proofs.KeptLemmas.{entries_read, kept_by_parts, memory_of, memory_within, none_elsewhere, planned_by_parts}
+use Rattle.route_plan.proofs.KeptLemmas.{entries_read, kept_by_parts, memory_of, memory_within, none_elsewhere, valid_by_parts}
 use Rattle.route_plan.proofs.TotalLemmas.{few_entries, shares_add_up}
 use Rattle.route_plan.proofs.plans.Plan.entries.Goals as goal
 
@@ -13,7 +13,7 @@ pub returns-in-Memory : goal.returns-in-Memory
 returns-in-Memory c =
     let p = c.args.self.now in
     let o = c.args.object in
-    let made = planned_by_parts c.self.inside p c.self.view_is c.self.invariant in
+    let made = valid_by_parts c.self.inside p c.self.view_is c.self.invariant in
     let kept = kept_by_parts c.self.inside p c.self.view_is c.self.invariant in
     let read : c.entries_in.result ≡ planned_at p o =
     entries_read p c.self.inside.shares c.as_slice.result.now c.in-Memory.memory c.entries_in.result c.index-as_slice-memory.result c.as_slice-in-Memory.result.now made kept c.as_slice.ensures
@@ -24,6 +24,6 @@ returns-in-Memory c =
 pub returns-in-Hop : goal.returns-in-Hop
 returns-in-Hop c =
     let p = c.args.self.now in
-    let made = planned_by_parts c.self.inside p c.self.view_is c.self.invariant in
+    let made = valid_by_parts c.self.inside p c.self.view_is c.self.invariant in
     let none = sym (none_elsewhere p c.args.object c.in-Hop.is made) in
     record { planned = none; shares = none ∙ sym (shares_add_up p c.args.object made.scripts); few = omega arith }

@@ -10,12 +10,12 @@ pub returns-clause-hop : goal.returns-clause-hop
 returns-clause-hop c =
     let plan : model.Plan = record { platform = c.self.inside.routes; scripts = c.self.inside.scripts } in
     let same : bound_walk c.self.inside.routes c.args.initiator c.args.address ≡ walk_at c.args.self.now c.args.initiator c.args.address =
-    walk_of_row plan c.args.initiator c.args.address c.self.invariant.scripts ∙ ap (λ plan. walk_at plan c.args.initiator c.args.address) c.self.view_is in
+    walk_of_row plan c.args.initiator c.args.address c.self.invariant.valid.scripts ∙ ap (λ plan. walk_at plan c.args.initiator c.args.address) c.self.view_is in
     c.hop.ensures.hop ∙ ap (λ (w : Walk). slice_get w.hops c.args.index) same
 
 pub returns-clause-few : goal.returns-clause-few
 returns-clause-few c =
     let plan : model.Plan = record { platform = c.self.inside.routes; scripts = c.self.inside.scripts } in
     let same : bound_walk c.self.inside.routes c.args.initiator c.args.address ≡ walk_at c.args.self.now c.args.initiator c.args.address =
-    walk_of_row plan c.args.initiator c.args.address c.self.invariant.scripts ∙ ap (λ plan. walk_at plan c.args.initiator c.args.address) c.self.view_is in
+    walk_of_row plan c.args.initiator c.args.address c.self.invariant.valid.scripts ∙ ap (λ plan. walk_at plan c.args.initiator c.args.address) c.self.view_is in
     subst (λ (w : Walk). length w.hops ≤ 9) same c.hop.ensures.few

@@ -1,6 +1,6 @@
 use Rattle.std.proofs.Common.{◌≤◌, sym, ap, subst}
 use Rattle.route_plan.specs.declared.shares.Share.{Share}
-use Rattle.route_plan.proofs.KeptLemmas.{few_shared_bytes, initiator_within, kept_by_parts, memory_within, share_read, planned_by_parts}
+use Rattle.route_plan.proofs.KeptLemmas.{few_shared_bytes, initiator_within, kept_by_parts, memory_within, share_read, valid_by_parts}
 use Rattle.route_plan.proofs.plans.Plan.logged_by.Goals as goal
 
 pub bounds-as_slice-memory : goal.bounds-as_slice-memory
@@ -24,5 +24,5 @@ returns c =
     share_read p c.self.inside.shares c.as_slice.result.now m n c.index-as_slice-memory.result c.as_slice-2.result.now none (kept_by_parts c.self.inside p c.self.view_is c.self.invariant) c.as_slice.ensures c.requires.memory
     c.index-as_slice-memory.is c.as_slice-2.ensures c.requires.initiator in
     let share = ap (λ (s : Share). s.logged) read in
-    let few = few_shared_bytes p n m (planned_by_parts c.self.inside p c.self.view_is c.self.invariant) c.requires.memory c.requires.initiator in
+    let few = few_shared_bytes p n m (valid_by_parts c.self.inside p c.self.view_is c.self.invariant) c.requires.memory c.requires.initiator in
     record { share = share; few = subst (λ k. k ≤ 67108864) (sym share) few }

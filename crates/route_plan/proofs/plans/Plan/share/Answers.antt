@@ -1,7 +1,7 @@
 use Rattle.std.proofs.Common.{◌≤◌, sym, ap, subst, ◌∙◌, arith}
 use Rattle.route_plan.specs.declared.shares.Share.{Share}
 use Rattle.route_plan.specs.Counted.{share_at}
-use Rattle.route_plan.proofs.KeptLemmas.{few_shares, initiator_within, kept_by_parts, memory_of, memory_within, no_share_elsewhere, share_read, planned_by_parts}
+use Rattle.route_plan.proofs.KeptLemmas.{few_shares, initiator_within, kept_by_parts, memory_of, memory_within, no_share_elsewhere, share_read, valid_by_parts}
 use Rattle.route_plan.proofs.plans.Plan.share.Goals as goal
 
 pub bounds-as_slice-memory : goal.bounds-as_slice-memory
@@ -26,10 +26,10 @@ returns-in-Memory c =
     share_read p c.self.inside.shares c.as_slice.result.now c.in-Memory.memory n c.index-as_slice-memory.result c.as_slice-in-Memory.result.now none (kept_by_parts c.self.inside p c.self.view_is c.self.invariant) c.as_slice.ensures
     (memory_of p o c.in-Memory.memory c.in-Memory.is c.requires.object) c.index-as_slice-memory.is c.as_slice-in-Memory.ensures c.requires.initiator in
     let share = ap (λ (s : Share). s.entries) read ∙ ap (share_at p n) (sym c.in-Memory.is) in
-    let few = few_shares p n o (planned_by_parts c.self.inside p c.self.view_is c.self.invariant) c.requires.object c.requires.initiator in
+    let few = few_shares p n o (valid_by_parts c.self.inside p c.self.view_is c.self.invariant) c.requires.object c.requires.initiator in
     record { share = share; few = subst (λ k. k ≤ 1000000) (sym share) few }
 
 pub returns-in-Hop : goal.returns-in-Hop
 returns-in-Hop c =
     let p = c.args.self.now in
-    record { share = sym (no_share_elsewhere p c.args.initiator c.args.object c.in-Hop.is (planned_by_parts c.self.inside p c.self.view_is c.self.invariant) c.requires.initiator); few = omega arith }
+    record { share = sym (no_share_elsewhere p c.args.initiator c.args.object c.in-Hop.is (valid_by_parts c.self.inside p c.self.view_is c.self.invariant) c.requires.initiator); few = omega arith }

@@ -1,8 +1,8 @@
 -- The texts of the tables of a platform file.
 use Rattle.std.specs.Prelude.{ℕ, List, ◌++◌, codes}
 use Rattle.std.specs.Fmt.{decimal}
-use Rattle.platform_file.specs.declared.place.Place.{Place}
-use Rattle.platform_file.specs.declared.place.Place.TheVariants.{Top, Initiator, Router, Window, Memory}
+use Rattle.platform_model.specs.declared.place.Place.{Place}
+use Rattle.platform_model.specs.declared.place.Place.TheVariants.{Top, Initiator, Router, Window, Memory}
 
 -- a word, an index and what follows
 abbrev pub indexed : List ℕ → ℕ → List ℕ → List ℕ

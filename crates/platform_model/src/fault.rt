@@ -1,6 +1,6 @@
 // Why a platform file is refused.
 ghost use Rattle.std.specs.Prelude.{◌≡◌};
-ghost use Rattle.platform_file.specs.declared.fault.PlatformFault.TheVariants.{Memory};
+ghost use Rattle.platform_model.specs.declared.fault.PlatformFault.TheVariants.{Memory};
 
 use std::alloc::{AllocError, AllocFailed};
 use std::fmt;
@@ -60,7 +60,7 @@ pub enum PlatformCode {
 }
 
 impl PlatformCode {
-    ghost use Rattle.platform_file.specs.Code.{platform_code_word};
+    ghost use Rattle.platform_model.specs.Code.{platform_code_word};
 
     /// The code as it is printed.
     pub fn name(self) -> &'static str

@@ -1,7 +1,7 @@
 -- The codes as they are printed.
 use Rattle.std.specs.Prelude.{ℕ, List, codes}
-use Rattle.platform_file.specs.declared.fault.PlatformCode.{PlatformCode}
-use Rattle.platform_file.specs.declared.fault.PlatformCode.TheVariants.{Syntax, UnknownKey, MissingKey, WrongType, BadName, UnknownWord, OutOfRange, NoAccess, NameTwice, UnknownTarget, EmptyWindow, PastEnd, Overlap, TooMuchMemory, TooManyGates, Unbound, Cycle, TooDeep, TwoPaths, NotBuilt, TooManyEntries, TooMuchData}
+use Rattle.platform_model.specs.declared.fault.PlatformCode.{PlatformCode}
+use Rattle.platform_model.specs.declared.fault.PlatformCode.TheVariants.{Syntax, UnknownKey, MissingKey, WrongType, BadName, UnknownWord, OutOfRange, NoAccess, NameTwice, UnknownTarget, EmptyWindow, PastEnd, Overlap, TooMuchMemory, TooManyGates, Unbound, Cycle, TooDeep, TwoPaths, NotBuilt, TooManyEntries, TooMuchData}
 
 -- the word of a code
 abbrev pub platform_code_word : PlatformCode → List ℕ

@@ -1,7 +1,7 @@
 // The tables of a platform file, and the refusals that name them.
 ghost use Rattle.std.specs.Prelude.{◌≡◌, IfOk, string_bytes};
-ghost use Rattle.platform_file.specs.Place.{table_text};
-ghost use Rattle.platform_file.specs.Reading.{Tells, refusal};
+ghost use Rattle.platform_model.specs.Place.{table_text};
+ghost use Rattle.platform_model.specs.Reading.{Tells, refusal};
 
 use crate::fault::{PlatformCode, PlatformFault};
 use std::alloc::{AllocError, Global};

@@ -10,8 +10,8 @@ use Rattle.tlm_model.specs.declared.platform.Target.{Target}
 use Rattle.tlm_model.specs.declared.platform.Target.TheVariants.{Router, Memory}
 use Rattle.tlm_types.specs.declared.words.ReqMode.{ReqMode}
 use Rattle.tlm_types.specs.declared.words.ReqMode.TheVariants.{Accept, EndReq}
-use Rattle.platform_file.specs.Kinds.{is_name}
-use Rattle.platform_file.specs.Platform.{windows_of}
+use Rattle.platform_model.specs.Name.{is_name}
+use Rattle.platform_model.specs.Windows.{windows_of}
 
 -- a target is a router or a memory of the platform
 abbrev pub is_there : Platform → Target → Bool

@@ -1,11 +1,11 @@
 -- Reading with the first fault: what is read, or a refusal.
-use Rattle.std.specs.Prelude.{◌≡◌, ℕ, ◌+◌, List, [], ◌∷◌, Option, Some, None, Result, Ok, Err}
+use Rattle.std.specs.Prelude.{◌≡◌, ℕ, ◌+◌, List, [], ◌∷◌, Option, Some, None, Result, Ok}
 use Rattle.tlm_types.specs.Reading.{◌>>=◌, FailsAs, Returns}
-use Rattle.platform_file.specs.declared.fault.PlatformCode.{PlatformCode}
-use Rattle.platform_file.specs.declared.fault.PlatformFault.{PlatformFault}
-use Rattle.platform_file.specs.declared.fault.PlatformFault.TheVariants as fault
-use Rattle.platform_file.specs.declared.place.Place.{Place}
-use Rattle.platform_file.specs.Place.{table_text}
+use Rattle.platform_model.specs.declared.fault.PlatformCode.{PlatformCode}
+use Rattle.platform_model.specs.declared.fault.PlatformFault.{PlatformFault}
+use Rattle.platform_model.specs.declared.fault.PlatformFault.TheVariants as fault
+use Rattle.platform_model.specs.declared.place.Place.{Place}
+use Rattle.platform_model.specs.Place.{table_text}
 
 -- why a platform is refused
 pub record PlatformRefusal : Type 0 where
@@ -16,11 +16,6 @@ pub record PlatformRefusal : Type 0 where
 -- the refusal with a code at a table and a key
 abbrev pub refusal : PlatformCode → Place → List ℕ → PlatformRefusal
 refusal c at k = record { code = c; table = table_text at; key = k }
-
--- a code at a table and a key
-abbrev pub placed_at : {A : Type 0} → Place → List ℕ → Result A PlatformCode → Result A PlatformRefusal
-placed_at at key (Ok x) = Ok x
-placed_at at key (Err code) = Err (refusal code at key)
 
 -- The fault is this refusal, unless memory ran out.
 abbrev pub Tells : PlatformFault → PlatformRefusal → Type 0

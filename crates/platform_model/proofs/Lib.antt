@@ -1,0 +1,2 @@
+pub mod RowLoops
+pub mod ReadLemmas

@@ -1,7 +1,0 @@
-use Rattle.std.proofs.Common.{subst}
-use Rattle.platform_file.specs.Reading.{Gives}
-use Rattle.route_plan.proofs.CopyLemmas.{rows_from-itself}
-use Rattle.route_plan.proofs.copies.copy_scripts.Goals as goal
-
-pub returns : goal.returns
-returns c = subst (λ read. Gives c.rows.result read) (rows_from-itself 0 c.args.scripts.now) c.rows.ensures.read
