@@ -14,6 +14,8 @@ use Rattle.one_history.specs.Lists.{entries_at, object_of}
 use Rattle.shared_object.specs.Written.{placed, written}
 use Rattle.numbered_log.specs.Logged.{written_by}
 use Rattle.numbered_log.proofs.Ordered.{among_has}
+use Rattle.hop_object.specs.declared.lane.Side.{Side}
+use Rattle.hop_object.specs.declared.lane.Side.TheVariants.{Down}
 use Rattle.hop_object.specs.declared.call.HopCall.TheVariants as Calls
 use Rattle.hop_object.specs.declared.call.HopReply.TheVariants as Replies
 use Rattle.hop_bench.specs.Legs.{Answers, AreOwn, IsKnownLeg, IsLegThere}
@@ -22,7 +24,7 @@ use Rattle.hop_bench.proofs.SeatedHops.{has_legs}
 
 module _ {G : Type 0} (frame : Frame G) (tokens : TableId) (number own : ℕ) (known : List (HistoryEntry Content)) where
   pub own_request : (x : TxnId) (at item : ℕ) → item ≡ x.seq → AreOwn frame tokens number own known (Calls.BeginReq x at item)
-  own_request x at item is = λ h meets y has. subst (λ (p : TxnId × ℕ). p.1 ≡ p.0.seq) (has_one (x, item) y has) is
+  own_request x at item is = λ h meets y has. subst (λ (p : TxnId × (Side × ℕ)). p.1.1 ≡ p.0.seq) (has_one (x, (Down, item)) y has) is
 
   pub own_fetch : AreOwn frame tokens number own known Calls.FetchDown
   own_fetch = λ h meets y has. absurd (has_none y has)
@@ -33,7 +35,7 @@ module _ {G : Type 0} (frame : Frame G) (tokens : TableId) (number own : ℕ) (k
       let fit = there h (has_legs frame tokens number (λ _ _ _. Unit {0}) own h meets.built_for) in
       let state = fit.state_is in
       let brought = brings_own h leg at item meets.state (omega arith) k.entry (meets.knows k.entry k.has) k.place y has in
-      ap (λ (p : TxnId × ℕ). p.1) brought ∙ is ∙ sym (ap (λ (p : TxnId × ℕ). p.0.seq) brought ∙ ap (λ (z : TxnId). z.seq) k.txn)
+      ap (λ (p : TxnId × (Side × ℕ)). p.1.1) brought ∙ is ∙ sym (ap (λ (p : TxnId × (Side × ℕ)). p.0.seq) brought ∙ ap (λ (z : TxnId). z.seq) k.txn)
 
 -- what a fetch tells: the leg's entry is known, and the item is its transaction's
 module _ (number : ℕ) (r : Slip × LaneState × TxnId × ℕ × ℕ) (known : List (HistoryEntry Content)) (a : Answers number Calls.FetchDown (Replies.Down (Some r)) known) where
@@ -50,4 +52,4 @@ module _ (number : ℕ) (r : Slip × LaneState × TxnId × ℕ × ℕ) (known : 
       }
 
   pub own_item : r.4 ≡ r.2.seq
-  own_item = a.vouched (r.2, r.4) (0, refl)
+  own_item = a.vouched (r.2, (Down, r.4)) (0, refl)

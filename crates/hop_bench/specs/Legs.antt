@@ -13,6 +13,7 @@ use Rattle.shared_object.specs.Standing.{AreVouched, Meets, place}
 use Rattle.numbered_log.specs.Logged.{written_by}
 use Rattle.hop_object.specs.declared.call.HopCall.{HopCall}
 use Rattle.hop_object.specs.declared.call.HopReply.{HopReply}
+use Rattle.hop_object.specs.declared.lane.Side.{Side}
 use Rattle.hop_object.specs.View.{HopView}
 use Rattle.hop_object.specs.Hops.{Follows, IsLegOf}
 use Rattle.hop_object.specs.Objects.{brought_by, built_of, given_by, Applied}
@@ -26,9 +27,9 @@ pub record HasLegs {G : Type 0} (frame : Frame G) (tokens : TableId) (number : �
 abbrev pub IsLegThere : {G : Type 0} → Frame G → TableId → ℕ → Slip → LaneState → Type 0
 IsLegThere frame tokens number leg state = (h : HopView ℕ) → HasLegs frame tokens number h → IsLegOf h leg state
 
--- an item is the number of its transaction
-abbrev pub IsOwnItem : TxnId → ℕ → List (HistoryEntry Content) → Type 0
-IsOwnItem x item known = item ≡ x.seq
+-- an item is the number of its transaction, at either side
+abbrev pub IsOwnItem : TxnId → Side × ℕ → List (HistoryEntry Content) → Type 0
+IsOwnItem x item known = item.1 ≡ x.seq
 
 -- the items of a call are their transactions' at each hop that it may meet there
 abbrev pub AreOwn : {G : Type 0} → Frame G → TableId → ℕ → ℕ → List (HistoryEntry Content) → HopCall ℕ → Type 0

@@ -4,6 +4,8 @@ use Rattle.tlm_types.specs.declared.words.TxnId.{TxnId}
 use Rattle.view_lists.specs.Lists.{Has, Within}
 use Rattle.view_lists.proofs.Members.{has_left, has_right, has_either}
 use Rattle.hop_object.specs.declared.lane.Lane.{Lane}
+use Rattle.hop_object.specs.declared.lane.Side.{Side}
+use Rattle.hop_object.specs.Lanes.{side_of}
 use Rattle.hop_object.specs.Objects.{carried_by, of_item}
 
 module _ {A : Type 0} where
@@ -38,29 +40,29 @@ module _ {A : Type 0} where
 module _ {T : Type 0} where
   pub carried-append : (xs ys : List (Lane T)) → carried_by (xs ++ ys) ≡ carried_by xs ++ carried_by ys
   carried-append [] ys = refl
-  carried-append (l ∷ ls) ys = ap (λ (t : List (TxnId × T)). of_item l.txn l.item ++ t) (carried-append ls ys) ∙ sym (append_assoc (of_item l.txn l.item) (carried_by ls) (carried_by ys))
+  carried-append (l ∷ ls) ys = ap (λ (t : List (TxnId × (Side × T))). of_item l.txn (side_of l.state) l.item ++ t) (carried-append ls ys) ∙ sym (append_assoc (of_item l.txn (side_of l.state) l.item) (carried_by ls) (carried_by ys))
 
   -- the lanes before and after a call differ in these
-  pub items_changed : (lanes next before : List (Lane T)) (lane : Lane T) (behind mid : List (Lane T)) (given brought : List (TxnId × T))
+  pub items_changed : (lanes next before : List (Lane T)) (lane : Lane T) (behind mid : List (Lane T)) (given brought : List (TxnId × (Side × T)))
       → lanes ≡ before ++ lane ∷ behind → next ≡ before ++ (mid ++ behind)
-      → Within (carried_by mid ++ given) (of_item lane.txn lane.item ++ brought) → Within (carried_by next ++ given) (carried_by lanes ++ brought)
+      → Within (carried_by mid ++ given) (of_item lane.txn (side_of lane.state) lane.item ++ brought) → Within (carried_by next ++ given) (carried_by lanes ++ brought)
   items_changed lanes next before lane behind mid given brought here after f =
-      let old : carried_by lanes ≡ carried_by before ++ (of_item lane.txn lane.item ++ carried_by behind) = ap carried_by here ∙ carried-append before (lane ∷ behind) in
-      let new : carried_by next ≡ carried_by before ++ (carried_by mid ++ carried_by behind) = ap carried_by after ∙ carried-append before (mid ++ behind) ∙ ap (λ (t : List (TxnId × T)). carried_by before ++ t) (carried-append mid behind) in
-      subst (λ (t : List (TxnId × T)). Within (t ++ given) (carried_by lanes ++ brought)) (sym new)
-      (subst (λ (t : List (TxnId × T)). Within ((carried_by before ++ (carried_by mid ++ carried_by behind)) ++ given) (t ++ brought)) (sym old)
-      (within_middle (carried_by before) (of_item lane.txn lane.item) (carried_by mid) (carried_by behind) given brought f))
+      let old : carried_by lanes ≡ carried_by before ++ (of_item lane.txn (side_of lane.state) lane.item ++ carried_by behind) = ap carried_by here ∙ carried-append before (lane ∷ behind) in
+      let new : carried_by next ≡ carried_by before ++ (carried_by mid ++ carried_by behind) = ap carried_by after ∙ carried-append before (mid ++ behind) ∙ ap (λ (t : List (TxnId × (Side × T))). carried_by before ++ t) (carried-append mid behind) in
+      subst (λ (t : List (TxnId × (Side × T))). Within (t ++ given) (carried_by lanes ++ brought)) (sym new)
+      (subst (λ (t : List (TxnId × (Side × T))). Within ((carried_by before ++ (carried_by mid ++ carried_by behind)) ++ given) (t ++ brought)) (sym old)
+      (within_middle (carried_by before) (of_item lane.txn (side_of lane.state) lane.item) (carried_by mid) (carried_by behind) given brought f))
 
   -- a lane was added, and some was given
-  pub items_added : (lanes next mid : List (Lane T)) (given brought : List (TxnId × T)) → next ≡ lanes ++ mid → Within (carried_by mid ++ given) brought → Within (carried_by next ++ given) (carried_by lanes ++ brought)
+  pub items_added : (lanes next mid : List (Lane T)) (given brought : List (TxnId × (Side × T))) → next ≡ lanes ++ mid → Within (carried_by mid ++ given) brought → Within (carried_by next ++ given) (carried_by lanes ++ brought)
   items_added lanes next mid given brought after f =
       let all = carried_by lanes ++ brought in
       let new : carried_by next ≡ carried_by lanes ++ carried_by mid = ap carried_by after ∙ carried-append lanes mid in
-      subst (λ (t : List (TxnId × T)). Within (t ++ given) all) (sym new)
+      subst (λ (t : List (TxnId × (Side × T))). Within (t ++ given) all) (sym new)
       (within_both (carried_by lanes ++ carried_by mid) given all
       (within_both (carried_by lanes) (carried_by mid) all (within_left (carried_by lanes) brought) (λ x h. has_right (carried_by lanes) brought x (f x (has_left (carried_by mid) given x h))))
       (λ x h. has_right (carried_by lanes) brought x (f x (has_right (carried_by mid) given x h))))
 
   -- nothing of a lane is given or kept
-  pub nothing : (xs : List (TxnId × T)) → Within [] xs
+  pub nothing : (xs : List (TxnId × (Side × T))) → Within [] xs
   nothing xs x h = has_left [] xs x h

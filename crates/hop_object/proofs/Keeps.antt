@@ -1,6 +1,6 @@
 -- Each call keeps what holds of a hop.
 use Rattle.std.proofs.Common.{◌≡◌, ◌⊎◌, ℕ, ◌+◌, ◌<◌, ◌≤◌, Bool, true, false, cond, not, ◌&&◌, nat_lt, List, [], ◌∷◌, ◌++◌, length, Option, Some, None, refl, sym, ap, ◌∙◌, subst, inl, ⊎_elim, arith, length-append}
-use Rattle.std.specs.Prelude.{is_none, ◌==◌}
+use Rattle.std.specs.Prelude.{is_none, is_some, ◌==◌}
 use Rattle.std.specs.List.{All, AllPairs, count_by}
 use Rattle.std.proofs.lemmas.List.Elements.{All-push, All-append, All-head, All-tail, All-nil, All-cons, All-same, All-weaker}
 use Rattle.std.proofs.lemmas.List.{append-nil}
@@ -14,7 +14,7 @@ use Rattle.tlm_types.specs.declared.words.Phase.TheVariants.{BeginReq, EndReq, B
 use Rattle.tlm_types.specs.declared.words.RespMode.{RespMode}
 use Rattle.tlm_types.specs.declared.words.RespMode.TheVariants as Resp
 use Rattle.tlm_types.specs.declared.words.TlmSync.{TlmSync}
-use Rattle.tlm_types.specs.declared.words.TlmSync.TheVariants.{Accepted, Completed}
+use Rattle.tlm_types.specs.declared.words.TlmSync.TheVariants.{Accepted, Updated, Completed}
 use Rattle.base_phases.specs.declared.phases.LaneState.{LaneState}
 use Rattle.base_phases.specs.declared.phases.LaneState.TheVariants.{Free, Requested, Waiting, Responding}
 use Rattle.base_phases.specs.Phases.{next_state}
@@ -26,8 +26,8 @@ use Rattle.flow_model.specs.Marked.{Marks, ReachesMarked, mark_of}
 use Rattle.numbered_log.specs.Logged.{IsBefore}
 use Rattle.hop_object.specs.declared.call.HopTraits.{HopTraits}
 use Rattle.hop_object.specs.declared.lane.Lane.{Lane}
-use Rattle.hop_object.specs.declared.lane.Side.TheVariants.{Up}
-use Rattle.hop_object.specs.States.{state_by}
+use Rattle.hop_object.specs.declared.lane.Side.TheVariants.{Down, Up}
+use Rattle.hop_object.specs.States.{is_down, state_by}
 use Rattle.hop_object.specs.View.{HopView}
 use Rattle.hop_object.specs.Lanes.{leg_name, has_leg, legs_out, any_requested, any_responding, open_by, opens, step_lane, waits, HasPosition}
 use Rattle.hop_object.specs.Hops.{rules_of, board_of, HasSent, Follows, Kept, can_begin, begin_answer, begun_with, hop_entry, new_lane, entered, passed, called, with_lanes, leg_changed, leg_out, IsLegOf}
@@ -56,6 +56,12 @@ from_waiting Resp.Accept = refl
 from_waiting Resp.EndResp = refl
 from_waiting Resp.Complete = refl
 
+-- after BEGIN_RESP an item goes up
+not_down : (a : TlmSync) → is_down (state_by a) ≡ false
+not_down Accepted = refl
+not_down (Updated phase) = refl
+not_down Completed = refl
+
 module _ {T : Type 0} where
   -- a leg that was out, and its lane
   pub record Redeemed (v : HopView T) (leg : Slip) (before : List (Lane T)) (lane : Lane T) (behind : List (Lane T)) : Type 0 where
@@ -73,11 +79,31 @@ module _ {T : Type 0} where
 
   -- what was sent stands in a longer log
   sent_longer : (n : ℕ) (es : List Event) (e : Event) (lanes : List (Lane T)) → All (HasSent n es) lanes → All (HasSent n (es ++ e ∷ [])) lanes
-  sent_longer n es e lanes h = All-weaker (HasSent n es) (HasSent n (es ++ e ∷ [])) (λ l was up. let s = was up in record { event = s.event; known = in_front es (e ∷ []) s.event s.known; is = s.is }) lanes h
+  sent_longer n es e lanes h = All-weaker (HasSent n es) (HasSent n (es ++ e ∷ [])) (λ l was side up. let s = was side up in record { event = s.event; known = in_front es (e ∷ []) s.event s.known; is = s.is }) lanes h
 
-  -- a lane whose item doesn't wait upstream
-  not_up : (n : ℕ) (es : List Event) (l : Lane T) → waits Up l ≡ false → All (HasSent n es) (l ∷ [])
-  not_up n es l idle = All-cons (HasSent n es) l [] (λ up. absurd (clash (waits Up l) up idle)) (All-nil (HasSent n es))
+  -- a lane that carries nothing
+  nothing_waits : (n : ℕ) (es : List Event) (l : Lane T) → l.item ≡ None → HasSent n es l
+  nothing_waits n es l none Down up = absurd (clash (waits Down l) up (ap (λ (i : Option T). is_some i && is_down l.state) none))
+  nothing_waits n es l none Up up = absurd (clash (waits Up l) up (ap (λ (i : Option T). is_some i && not (is_down l.state)) none))
+
+  bare : (n : ℕ) (es : List Event) (l : Lane T) → l.item ≡ None → All (HasSent n es) (l ∷ [])
+  bare n es l none = All-cons (HasSent n es) l [] (nothing_waits n es l none) (All-nil (HasSent n es))
+
+  -- a new lane, whose item came with its BEGIN_REQ
+  came_down : (v : HopView T) (p : ℕ) (x : TxnId) (t : ℕ) (answer : TlmSync) (state : LaneState) (item : Option T) → next_state Free BeginReq answer ≡ Some state → waits Up (new_lane (hop_entry v.number p x t BeginReq answer 0) state item) ≡ false
+      → HasSent v.number (v.log.events ++ hop_entry v.number p x t BeginReq answer 0 ∷ []) (new_lane (hop_entry v.number p x t BeginReq answer 0) state item)
+  came_down v p x t answer state item next idle Down up =
+      let e = hop_entry v.number p x t BeginReq answer 0 in
+      record { event = e; known = behind_all v.log.events (e ∷ []) e (inl refl); is = record { phase = record { answer = answer; call = record { object = refl; txn = refl; what = refl } }; leads = next; place = refl; time = refl } }
+  came_down v p x t answer state item next idle Up up = absurd (clash (waits Up (new_lane (hop_entry v.number p x t BeginReq answer 0) state item)) up idle)
+
+  -- a lane whose item came with its BEGIN_RESP
+  came_up : (v : HopView T) (p : ℕ) (lane : Lane T) (t : ℕ) (answer : TlmSync) (mark : ℕ) (item : T) → is_down (state_by answer) ≡ false
+      → HasSent v.number (v.log.events ++ hop_entry v.number p lane.txn t BeginResp answer mark ∷ []) (step_lane lane (state_by answer) t p (Some item))
+  came_up v p lane t answer mark item over Down up = absurd (clash (is_down (state_by answer)) up over)
+  came_up v p lane t answer mark item over Up up =
+      let e = hop_entry v.number p lane.txn t BeginResp answer mark in
+      record { event = e; known = behind_all v.log.events (e ∷ []) e (inl refl); is = record { phase = record { answer = answer; call = record { object = refl; txn = refl; what = refl } }; leads = refl; place = refl; time = refl } }
 
   -- what holds of each lane, with these in place of one
   all_round : (P : Lane T → Type 0) (lanes before : List (Lane T)) (lane : Lane T) (behind mid : List (Lane T)) → All P lanes → lanes ≡ before ++ lane ∷ behind → All P mid → All P (before ++ (mid ++ behind))
@@ -142,7 +168,7 @@ module _ {T : Type 0} where
   kept_entered v p x t answer state item book k past can is next late below idle out =
       let e = hop_entry v.number p x t BeginReq answer 0 in
       let mid = new_lane e state item in
-      kept_begun v p x t answer state (mid ∷ []) book k past can is next late (omega arith) (only mid below) (not_up v.number (v.log.events ++ e ∷ []) mid idle) (one_open e state item) out
+      kept_begun v p x t answer state (mid ∷ []) book k past can is next late (omega arith) (only mid below) (All-cons (HasSent v.number (v.log.events ++ e ∷ [])) mid [] (came_down v p x t answer state item next idle) (All-nil (HasSent v.number (v.log.events ++ e ∷ [])))) (one_open e state item) out
 
   -- a BEGIN_REQ that ends the transaction
   pub kept_passed : (v : HopView T) (p : ℕ) (x : TxnId) (t : ℕ) → Kept v → All (λ (e : Event). e.position < p) v.log.events → can_begin v ≡ true → Completed ≡ begin_answer v → v.request_end ≤ t
@@ -232,7 +258,7 @@ module _ {T : Type 0} where
       let mid = step_lane lane Waiting t p None in
       let placed : HasPosition mid = placed_lane v before lane behind k r.here in
       subst (λ (s : LaneState). Kept (called v (before ++ mid ∷ behind) (hop_entry v.number p lane.txn t EndReq Accepted 0) s EndReq Accepted b)) is
-      (kept_called v before lane behind (mid ∷ []) p t Waiting EndReq Accepted 0 b k past r.here (open_live lane Requested is refl) (ap (λ (s : LaneState). next_state s EndReq Accepted) is) (one_moved lane Waiting t p None) (omega arith) (only mid placed) (not_up v.number (v.log.events ++ hop_entry v.number p lane.txn t EndReq Accepted 0 ∷ []) mid refl) late tt (legs_changed v.book leg lane Waiting t p r.one r.was r.has) (λ m same. record { steps = m; marked = refl }))
+      (kept_called v before lane behind (mid ∷ []) p t Waiting EndReq Accepted 0 b k past r.here (open_live lane Requested is refl) (ap (λ (s : LaneState). next_state s EndReq Accepted) is) (one_moved lane Waiting t p None) (omega arith) (only mid placed) (bare v.number (v.log.events ++ hop_entry v.number p lane.txn t EndReq Accepted 0 ∷ []) mid refl) late tt (legs_changed v.book leg lane Waiting t p r.one r.was r.has) (λ m same. record { steps = m; marked = refl }))
 
   kept_respond_at : (v : HopView T) (leg : Slip) (before : List (Lane T)) (lane : Lane T) (behind : List (Lane T)) (p t : ℕ) (item : T)
       → Kept v → All (λ (e : Event). e.position < p) v.log.events → Redeemed v leg before lane behind → lane.last ≤ t → v.response_end ≤ t → any_responding v.lanes ≡ false
@@ -245,7 +271,7 @@ module _ {T : Type 0} where
       let placed : HasPosition mid = placed_lane v before lane behind k r.here in
       let e = hop_entry v.number p lane.txn t BeginResp answer (mark_of lane.state) in
       let P : Lane T → Type 0 = HasSent v.number (v.log.events ++ e ∷ []) in
-      let sends : All P (mid ∷ []) = All-cons P mid [] (λ up. record { event = e; known = behind_all v.log.events (e ∷ []) e (inl refl); is = record { phase = record { answer = answer; call = record { object = refl; txn = refl; what = refl } }; place = refl; time = refl } }) (All-nil P) in
+      let sends : All P (mid ∷ []) = All-cons P mid [] (came_up v p lane t answer (mark_of lane.state) item (not_down answer)) (All-nil P) in
       kept_called v before lane behind (mid ∷ []) p t (state_by answer) BeginResp answer (mark_of lane.state) (retired v.book leg) k past r.here (open_live lane s is live) (ap (λ (q : LaneState). next_state q BeginResp answer) is ∙ next v.traits.resp) (one_moved lane (state_by answer) t p (Some item)) (omega arith) (only mid placed) sends late (any-opens is_responding refl v.lanes ∙ free, refl, later) (λ n. omega (arith, legs_ended v.book leg lane r.one r.was r.has n)) (λ m same. record { steps = m; marked = ap mark_of (sym same) })
 
   pub kept_respond : (v : HopView T) (leg : Slip) (before : List (Lane T)) (lane : Lane T) (behind : List (Lane T)) (p t : ℕ) (item : T)
@@ -305,7 +331,7 @@ module _ {T : Type 0} where
   kept_handed v before lane behind item k here carried =
       let mid = step_lane lane lane.state lane.last lane.latest None in
       let placed : HasPosition mid = placed_lane v before lane behind k here in
-      kept_fetched v before lane behind (mid ∷ []) (leg_out v.book lane.position lane.state) k here (open_same lane lane.state None) (omega arith) (only mid placed) (not_up v.number v.log.events mid refl)
+      kept_fetched v before lane behind (mid ∷ []) (leg_out v.book lane.position lane.state) k here (open_same lane lane.state None) (omega arith) (only mid placed) (bare v.number v.log.events mid refl)
       (λ n. let o = out_issued n v.book (leg_name lane) in let z = no_leg n lane item carried in omega arith)
 
   -- the response of an ended transaction was fetched

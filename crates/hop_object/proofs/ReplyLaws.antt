@@ -17,6 +17,7 @@ use Rattle.hop_model.specs.Board.{Open}
 use Rattle.flow_model.specs.Events.{Among, Event}
 use Rattle.numbered_log.specs.Logged.{written_by}
 use Rattle.hop_object.specs.declared.lane.Lane.{Lane}
+use Rattle.hop_object.specs.declared.lane.Side.{Side}
 use Rattle.hop_object.specs.declared.lane.Side.TheVariants.{Down, Up}
 use Rattle.hop_object.specs.declared.call.Begun.{Begun}
 use Rattle.hop_object.specs.declared.call.HopCall.{HopCall}
@@ -29,7 +30,7 @@ use Rattle.hop_object.specs.Lanes.{has_leg, opens, step_lane, waits}
 use Rattle.hop_object.specs.Hops.{begin_answer, begin_entry, can_begin, leg_at, new_lane, HasSent, Follows}
 use Rattle.hop_object.specs.Calls.{begun_as, refused, AnswersRequest, FetchesDown, HandsOut, TakesUp}
 use Rattle.hop_object.specs.Objects.{lane_of, of_lane, txn_of, Applied}
-use Rattle.hop_object.specs.Laws.{BegunNames, BringsOwn, FetchedWasSent, HasResponse, IsLegOfTxn, OwedNames, ReplyNames}
+use Rattle.hop_object.specs.Laws.{BegunNames, BringsOwn, FetchedWasSent, HasItemCall, IsLegOfTxn, OwedNames, ReplyNames, state_with}
 use Rattle.hop_object.proofs.Boards.{opens-append}
 use Rattle.hop_object.proofs.LegLaws.{among_middle, board_known, live_open, names_transaction}
 use Rattle.hop_object.proofs.LegLemmas.{both, small}
@@ -106,26 +107,39 @@ module _ {T : Type 0} where
   reply_names v p (Calls.Ended x) (Replies.Ended answer) w f h = tt
   reply_names v p call reply w f h = absurd h
 
-  -- the response of a lane whose item waits upstream stands in the log
-  lane_sent : (v : HopView T) → Follows v → (before : List (Lane T)) (lane : Lane T) (behind : List (Lane T)) (item : T) → v.lanes ≡ before ++ lane ∷ behind → lane.item ≡ Some item → is_down lane.state ≡ false → HasResponse v lane.txn lane.last
-  lane_sent v f before lane behind item here carried up =
+  -- the call with which an item came to a side stands in the log
+  lane_sent : (v : HopView T) → Follows v → (side : Side) (before : List (Lane T)) (lane : Lane T) (behind : List (Lane T)) → v.lanes ≡ before ++ lane ∷ behind → waits side lane ≡ true → HasItemCall v.number v.log.events side lane.txn lane.state lane.last
+  lane_sent v f side before lane behind here waiting =
       let P : Lane T → Type 0 = HasSent v.number v.log.events in
       let parts : All P (before ++ lane ∷ behind) = All-same P (before ++ lane ∷ behind) v.lanes (sym here) f.sent in
-      let waiting : waits Up lane ≡ true = ap (λ (o : Option T). is_some o && not (is_down lane.state)) carried ∙ ap not up in
-      let s = All-head P lane behind (All-right P before (lane ∷ behind) parts) waiting in
-      record { event = s.event; known = s.known; is = s.is.phase; time = s.is.time }
+      let s = All-head P lane behind (All-right P before (lane ∷ behind) parts) side waiting in
+      record { answer = s.is.phase.answer; call = record { event = s.event; known = s.known; is = s.is.phase.call; time = s.is.time }; leads = s.is.leads }
 
-  up_sent : (v : HopView T) (i : ℕ) (w : HopView T) (leg : Option Slip) (x : TxnId) (time : ℕ) (item : T) → Follows v → TakesUp v i w leg x time item → HasResponse w x time
+  come_as : (v : HopView T) (side : Side) (x y : TxnId) (s t : LaneState) (i j : ℕ) → y ≡ x → t ≡ s → j ≡ i → HasItemCall v.number v.log.events side x s i → HasItemCall v.number v.log.events side y t j
+  come_as v side x y s t i j p q r h = subst (λ (z : TxnId). HasItemCall v.number v.log.events side z t j) (sym p) (subst (λ (z : LaneState). HasItemCall v.number v.log.events side x z j) (sym q) (subst (HasItemCall v.number v.log.events side x s) (sym r) h))
+
+  waits_up : (lane : Lane T) (item : T) → lane.item ≡ Some item → is_down lane.state ≡ false → waits Up lane ≡ true
+  waits_up lane item carried up = ap (λ (o : Option T). is_some o && not (is_down lane.state)) carried ∙ ap not up
+
+  up_sent : (v : HopView T) (i : ℕ) (w : HopView T) (leg : Option Slip) (x : TxnId) (time : ℕ) (item : T) → Follows v → TakesUp v i w leg x time item → HasItemCall w.number w.log.events Up x (state_with leg) time
   up_sent v i w None x time item f h =
-      let there = lane_sent v f (take i v.lanes) h.lane (drop (suc i) v.lanes) item h.here h.carried (ap is_down h.ended) in
-      subst (λ (u : HopView T). HasResponse u x time) (sym h.after) (subst (λ (y : TxnId). HasResponse v y time) (sym h.txn_is) (subst (HasResponse v h.lane.txn) (sym h.time_is) there))
+      let there = lane_sent v f Up (take i v.lanes) h.lane (drop (suc i) v.lanes) h.here (waits_up h.lane item h.carried (ap is_down h.ended)) in
+      subst (λ (u : HopView T). HasItemCall u.number u.log.events Up x Free time) (sym h.after) (come_as v Up h.lane.txn x h.lane.state Free h.lane.last time h.txn_is (sym h.ended) h.time_is there)
   up_sent v i w (Some leg) x time item f h =
-      let there = lane_sent v f (take i v.lanes) h.lane (drop (suc i) v.lanes) item h.here h.carried (ap is_down (sym h.state_is)) in
-      subst (λ (u : HopView T). HasResponse u x time) (sym h.after) (subst (λ (y : TxnId). HasResponse v y time) (sym h.txn_is) (subst (HasResponse v h.lane.txn) (sym h.time_is) there))
+      let there = lane_sent v f Up (take i v.lanes) h.lane (drop (suc i) v.lanes) h.here (waits_up h.lane item h.carried (ap is_down (sym h.state_is))) in
+      subst (λ (u : HopView T). HasItemCall u.number u.log.events Up x Responding time) (sym h.after) (come_as v Up h.lane.txn x h.lane.state Responding h.lane.last time h.txn_is h.state_is h.time_is there)
+
+  down_sent : (v w : HopView T) (r : Slip × LaneState × TxnId × ℕ × T) → Follows v → FetchesDown v w (Some r) → HasItemCall w.number w.log.events Down r.2 r.1 r.3
+  down_sent v w r f h =
+      let l = h.2.lane in
+      let waiting : waits Down l ≡ true = at_place (λ (y : Lane T). waits Down y ≡ true) v.lanes v.lanes l h.0 h.1.waiting refl (read_middle v.lanes h.0 l h.1.place h.2.here) in
+      let there = lane_sent v f Down (take h.0 v.lanes) l (drop (suc h.0) v.lanes) h.2.here waiting in
+      subst (λ (u : HopView T). HasItemCall u.number u.log.events Down r.2 r.1 r.3) (sym h.2.after) (come_as v Down l.txn r.2 l.state r.1 l.last r.3 h.2.txn_is h.2.state_is h.2.time_is there)
 
   pub fetched_sent : (v : HopView T) (p : ℕ) (call : HopCall T) (reply : HopReply T) (w : HopView T) → Follows v → Applied v p call reply w → FetchedWasSent w reply
   fetched_sent v p (Calls.BeginReq x at item) (Replies.Begun answer) w f h = tt
-  fetched_sent v p Calls.FetchDown (Replies.Down fetched) w f h = tt
+  fetched_sent v p Calls.FetchDown (Replies.Down None) w f h = tt
+  fetched_sent v p Calls.FetchDown (Replies.Down (Some r)) w f h = down_sent v w r f h
   fetched_sent v p (Calls.EndReq leg at) (Replies.EndedReq next time) w f h = tt
   fetched_sent v p (Calls.BeginResp leg at item) (Replies.Responded answer) w f h = tt
   fetched_sent v p Calls.FetchUp (Replies.Up None) w f h = tt
@@ -138,11 +152,11 @@ module _ {T : Type 0} where
   pub brings_own : (h : HopView T) (leg : Slip) (at : ℕ) (item : T) → Follows h → 0 < leg.name % 4 → BringsOwn h leg at item
   brings_own h leg at item f live e has place x brought = by (lane_of h leg) refl
     where
-      by : (o : Option (Lane T)) → lane_of h leg ≡ o → x ≡ (e.content.txn, item)
+      by : (o : Option (Lane T)) → lane_of h leg ≡ o → x ≡ (e.content.txn, (Up, item))
       by None q = absurd (has_none x (subst (λ (p : Option (Lane T)). Has (of_lane p item) x) q brought))
       by (Some l) q =
           let m = has_map written_by h.log.events e has in
           let n = names_transaction h leg f (found_any (has_leg leg.name) h.lanes l q) live in
-          let is : x ≡ (l.txn, item) = sym (has_one (l.txn, item) x (subst (λ (p : Option (Lane T)). Has (of_lane p item) x) q brought)) in
+          let is : x ≡ (l.txn, (Up, item)) = sym (has_one (l.txn, (Up, item)) x (subst (λ (p : Option (Lane T)). Has (of_lane p item) x) q brought)) in
           let txn : l.txn ≡ e.content.txn = sym (ap txn_of q) ∙ n.one m.0 m.1 (ap (λ (y : Written). y.position) m.2 ∙ place) ∙ ap (λ (y : Written). y.content.txn) m.2 in
-          is ∙ ap (λ (t : TxnId). (t, item)) txn
+          is ∙ ap (λ (t : TxnId). (t, (Up, item))) txn

@@ -1,5 +1,5 @@
 -- A hop with its lanes, its log and its book: what holds of it, and what a call makes of it.
-use Rattle.std.specs.Prelude.{◌≡◌, ℕ, ◌<◌, ◌≤◌, ◌&&◌, ◌%◌, not, nat_lt, max, Bool, true, false, List, [], ◌∷◌, ◌++◌, length, Option, All, AllPairs}
+use Rattle.std.specs.Prelude.{◌≡◌, ℕ, ◌<◌, ◌≤◌, ◌&&◌, ◌%◌, not, nat_lt, max, Bool, true, false, List, [], ◌∷◌, ◌++◌, length, Option, Some, All, AllPairs}
 use Rattle.tlm_types.specs.declared.words.TxnId.{TxnId}
 use Rattle.tlm_types.specs.declared.words.ObjectNo.TheVariants.{Hop}
 use Rattle.tlm_types.specs.declared.words.Phase.{Phase}
@@ -8,6 +8,8 @@ use Rattle.tlm_types.specs.declared.words.TlmSync.{TlmSync}
 use Rattle.tlm_types.specs.declared.entry.What.TheVariants.{Call}
 use Rattle.tlm_types.specs.declared.entry.Content.{Content}
 use Rattle.base_phases.specs.declared.phases.LaneState.{LaneState}
+use Rattle.base_phases.specs.declared.phases.LaneState.TheVariants.{Free}
+use Rattle.base_phases.specs.Phases.{next_state}
 use Rattle.token_book.specs.Account.{Account, Slip, out_of, issued, retired, slip}
 use Rattle.shared_object.specs.Written.{logged, wrote}
 use Rattle.hop_model.specs.Answers.{request_answer, is_requested}
@@ -16,8 +18,9 @@ use Rattle.flow_model.specs.Events.{Among, Event, Finds, IsPhase, entries}
 use Rattle.flow_model.specs.Marked.{ReachesMarked, unmarked}
 use Rattle.numbered_log.specs.Logged.{event_of, with_event, IsBefore}
 use Rattle.hop_object.specs.declared.lane.Lane.{Lane}
-use Rattle.hop_object.specs.declared.lane.Side.TheVariants.{Up}
-use Rattle.hop_object.specs.States.{number_of_state}
+use Rattle.hop_object.specs.declared.lane.Side.{Side}
+use Rattle.hop_object.specs.declared.lane.Side.TheVariants.{Down, Up}
+use Rattle.hop_object.specs.States.{number_of_state, state_by}
 use Rattle.hop_object.specs.View.{HopView}
 use Rattle.hop_object.specs.Lanes.{any_requested, any_responding, legs_out, name_at, opens, waits, HasPosition}
 
@@ -36,6 +39,16 @@ leg_at book position state = slip book (name_at position state) 1
 abbrev pub leg_out : Account → ℕ → LaneState → Account
 leg_out book position state = issued book (name_at position state) 1
 
+-- the phase that brings an item to a side
+abbrev pub phase_to : Side → Phase
+phase_to Down = BeginReq
+phase_to Up = BeginResp
+
+-- its answer leads to this state of the lane
+abbrev pub LeadsToState : Side → TlmSync → LaneState → Type 0
+LeadsToState Down answer state = next_state Free BeginReq answer ≡ Some state
+LeadsToState Up answer state = state_by answer ≡ state
+
 module _ {T : Type 0} where
   abbrev pub rules_of : HopView T → Rules
   rules_of v = record { limit = v.traits.lanes; req = v.traits.req; resp = v.traits.resp }
@@ -44,18 +57,19 @@ module _ {T : Type 0} where
   abbrev pub board_of : HopView T → Board
   board_of v = record { lanes = opens v.lanes; request_end = v.request_end; response_end = v.response_end }
 
-  -- the BEGIN_RESP with which a lane's item came, where the lane's last call stands
-  pub record IsSentBy (number : ℕ) (l : Lane T) (e : Event) : Type 0 where
-    pub phase : IsPhase l.txn number BeginResp e
+  -- the call with which a lane's item came, where the lane's last call stands
+  pub record IsSentBy (number : ℕ) (side : Side) (l : Lane T) (e : Event) : Type 0 where
+    pub phase : IsPhase l.txn number (phase_to side) e
+    pub leads : LeadsToState side phase.answer l.state
     pub place : e.position ≡ l.latest
     pub time : e.time ≡ l.last
 
-  -- if the lane's item waits for the component upstream, its BEGIN_RESP is among these entries
+  -- if the lane's item waits at a side, the call with which it came is among these entries
   abbrev pub HasSent : ℕ → List Event → Lane T → Type 0
-  HasSent number es l = waits Up l ≡ true → Finds (Among es) (IsSentBy number l)
+  HasSent number es l = (side : Side) → waits side l ≡ true → Finds (Among es) (IsSentBy number side l)
 
   -- the lanes are those of the log: by its entries, with their marks, the model reaches them. Each entry is of the hop, and stands past those
-  -- before it. The log has the BEGIN_RESP of each item that waits upstream, also where its transaction has ended
+  -- before it. The log has the call with which each item came that waits, also where its transaction has ended
   pub record Follows (v : HopView T) : Type 0 where
     pub reached : ReachesMarked (rules_of v) start v.log.events (board_of v)
     pub ordered : AllPairs IsBefore v.log.events

@@ -5,7 +5,7 @@ use Rattle.std.specs.Option.{option_map}
 use Rattle.tlm_types.specs.declared.words.TxnId.{TxnId}
 use Rattle.tlm_model.specs.Requests.{is_txn}
 use Rattle.base_phases.specs.declared.phases.LaneState.{LaneState}
-use Rattle.base_phases.specs.declared.phases.LaneState.TheVariants.{Free}
+use Rattle.base_phases.specs.declared.phases.LaneState.TheVariants.{Free, Requested, Waiting}
 use Rattle.hop_model.specs.Answers.{is_requested, is_responding}
 use Rattle.hop_model.specs.Board.{Open}
 use Rattle.hop_object.specs.declared.lane.Lane.{Lane}
@@ -16,6 +16,12 @@ use Rattle.hop_object.specs.States.{number_of_state, is_down}
 -- the name of the leg of a lane whose BEGIN_REQ stands at this position
 abbrev pub name_at : ℕ → LaneState → ℕ
 name_at position state = 4 * position + number_of_state state
+
+-- the side at which a lane's item waits, if it has one
+abbrev pub side_of : LaneState → Side
+side_of Requested = Down
+side_of Waiting = Down
+side_of state = Up
 
 module _ {T : Type 0} where
   abbrev pub leg_name : Lane T → ℕ

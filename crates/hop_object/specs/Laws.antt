@@ -1,14 +1,15 @@
 -- Laws of a hop's log and of its legs.
-use Rattle.std.specs.Prelude.{◌≡◌, ◌⊎◌, ℕ, ◌<◌, ◌/◌, ◌%◌, true, map, Option, Some, None}
+use Rattle.std.specs.Prelude.{◌≡◌, ◌⊎◌, ℕ, ◌<◌, ◌/◌, ◌%◌, true, map, List, Option, Some, None}
 use Rattle.tlm_types.specs.declared.words.TxnId.{TxnId}
 use Rattle.tlm_types.specs.declared.words.Phase.TheVariants.{BeginReq, BeginResp}
 use Rattle.tlm_types.specs.declared.words.TlmSync.{TlmSync}
 use Rattle.tlm_types.specs.declared.entry.What.TheVariants.{Call as Called}
-use Rattle.base_phases.specs.declared.phases.LaneState.TheVariants.{Requested, Waiting, Responding}
+use Rattle.base_phases.specs.declared.phases.LaneState.{LaneState}
+use Rattle.base_phases.specs.declared.phases.LaneState.TheVariants.{Free, Requested, Waiting, Responding}
 use Rattle.token_book.specs.Account.{Account, Slip}
 use Rattle.tlm_model.specs.Each.{AtEach}
 use Rattle.hop_model.specs.Calls.{has_open_request}
-use Rattle.flow_model.specs.Events.{Among, Event, Finds, FindsAt, IsOwn, IsPhase, entries}
+use Rattle.flow_model.specs.Events.{Among, Event, Finds, FindsAt, IsCall, IsOwn, IsPhase, entries}
 use Rattle.flow_model.specs.Backed.{EndsRequest, EndsResponse}
 use Rattle.view_lists.specs.Lists.{Has}
 use Rattle.hop_object.specs.declared.call.Begun.{Begun}
@@ -22,9 +23,22 @@ use Rattle.hop_object.specs.declared.call.HopCall.TheVariants as Calls
 use Rattle.hop_object.specs.declared.call.HopReply.{HopReply}
 use Rattle.hop_object.specs.declared.call.HopReply.TheVariants as Replies
 use Rattle.hop_object.specs.States.{number_of_state}
+use Rattle.hop_object.specs.declared.lane.Side.{Side}
+use Rattle.hop_object.specs.declared.lane.Side.TheVariants.{Down, Up}
 use Rattle.hop_object.specs.View.{HopView}
-use Rattle.hop_object.specs.Hops.{IsLegOf}
+use Rattle.hop_object.specs.Hops.{phase_to, IsLegOf, LeadsToState}
 use Rattle.hop_object.specs.Objects.{brought_by, knows, lane_of, last_of, state_of, txn_of}
+
+-- the log of the hop of this number has the call of x with which its item came to a side, at this time, and its answer leads to this state of the lane
+pub record HasItemCall (number : ℕ) (log : List Event) (side : Side) (x : TxnId) (state : LaneState) (time : ℕ) : Type 0 where
+  pub answer : TlmSync
+  pub call : FindsAt (Among log) (IsCall x number (phase_to side) answer) time
+  pub leads : LeadsToState side answer state
+
+-- the state of a lane from which a response was fetched: its leg comes where END_RESP is owed
+abbrev pub state_with : Option Slip → LaneState
+state_with None = Free
+state_with (Some leg) = Responding
 
 module _ {T : Type 0} where
   -- the BEGIN_REQ of the lane of a leg, at the position that the leg names
@@ -58,18 +72,15 @@ module _ {T : Type 0} where
   ReplyNames w call (Replies.Up (Some r)) = OwedNames w r.0 r.1
   ReplyNames w call reply = Unit {0}
 
-  -- the log has the BEGIN_RESP of x, at this time
-  abbrev pub HasResponse : HopView T → TxnId → ℕ → Type 0
-  HasResponse w x time = FindsAt (Among w.log.events) (IsPhase x w.number BeginResp) time
-
-  -- a response that was fetched has its BEGIN_RESP in the log, at the time that the reply tells
+  -- what was fetched has the call with which it came in the log, at the time that the reply tells
   abbrev pub FetchedWasSent : HopView T → HopReply T → Type 0
-  FetchedWasSent w (Replies.Up (Some r)) = HasResponse w r.1 r.2
+  FetchedWasSent w (Replies.Down (Some r)) = HasItemCall w.number w.log.events Down r.2 r.1 r.3
+  FetchedWasSent w (Replies.Up (Some r)) = HasItemCall w.number w.log.events Up r.1 (state_with r.0) r.2
   FetchedWasSent w reply = Unit {0}
 
   -- An item that comes with a BEGIN_RESP is of the transaction of the entry at the leg's position, at each hop that has that entry
   abbrev pub BringsOwn : HopView T → Slip → ℕ → T → Type 0
-  BringsOwn h leg at item = (e : Written) → Has (map written_by h.log.events) e → e.position ≡ leg.name / 4 → (x : TxnId × T) → Has (brought_by h (Calls.BeginResp leg at item)) x → x ≡ (e.content.txn, item)
+  BringsOwn h leg at item = (e : Written) → Has (map written_by h.log.events) e → e.position ≡ leg.name / 4 → (x : TxnId × (Side × T)) → Has (brought_by h (Calls.BeginResp leg at item)) x → x ≡ (e.content.txn, (Up, item))
 
   -- each time by which a hop delays a call is that of a call in its log, which ends a request or a response, or is the last one of the leg's lane
   pub record HasTimes (h : HopView T) : Type 0 where

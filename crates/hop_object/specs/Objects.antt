@@ -15,6 +15,8 @@ use Rattle.shared_object.specs.Written.{Built}
 use Rattle.hop_model.specs.Answers.{response_answer}
 use Rattle.flow_model.specs.Marked.{mark_of}
 use Rattle.hop_object.specs.declared.lane.Lane.{Lane}
+use Rattle.hop_object.specs.declared.lane.Side.{Side}
+use Rattle.hop_object.specs.declared.lane.Side.TheVariants.{Down, Up}
 use Rattle.hop_object.specs.declared.call.Begun.{Begun}
 use Rattle.hop_object.specs.declared.call.Begun.TheVariants.{Left, Now, Busy}
 use Rattle.hop_object.specs.declared.call.Responded.{Responded}
@@ -25,7 +27,7 @@ use Rattle.hop_object.specs.declared.call.HopCall.TheVariants as Calls
 use Rattle.hop_object.specs.declared.call.HopReply.{HopReply}
 use Rattle.hop_object.specs.declared.call.HopReply.TheVariants as Replies
 use Rattle.hop_object.specs.View.{HopView}
-use Rattle.hop_object.specs.Lanes.{any_responding, has_leg, is_ended}
+use Rattle.hop_object.specs.Lanes.{any_responding, has_leg, is_ended, side_of}
 use Rattle.hop_object.specs.Hops.{begin_answer, begin_time, call_content, can_begin, IsLegOf}
 use Rattle.hop_object.specs.Calls.{AnswersRequest, AnswersResponse, EndsRequest, EndsResponse, FetchesDown, FetchesUp}
 
@@ -116,42 +118,42 @@ module _ {T : Type 0} where
   look_of (Replies.Ended false) = 5
   look_of _ = 0
 
-  -- an item, if there is one, with its transaction
-  abbrev pub of_item : TxnId → Option T → List (TxnId × T)
-  of_item txn None = []
-  of_item txn (Some item) = (txn, item) ∷ []
+  -- an item, if there is one, with its transaction and the side to which it goes
+  abbrev pub of_item : TxnId → Side → Option T → List (TxnId × (Side × T))
+  of_item txn side None = []
+  of_item txn side (Some item) = (txn, (side, item)) ∷ []
 
   -- the items that lanes carry
-  abbrev pub carried_by : List (Lane T) → List (TxnId × T)
+  abbrev pub carried_by : List (Lane T) → List (TxnId × (Side × T))
   carried_by [] = []
-  carried_by (l ∷ ls) = of_item l.txn l.item ++ carried_by ls
+  carried_by (l ∷ ls) = of_item l.txn (side_of l.state) l.item ++ carried_by ls
 
-  -- an item that comes with a leg, with the transaction of its lane. Where no lane has the leg there is none: the call can't be made
-  abbrev pub of_lane : Option (Lane T) → T → List (TxnId × T)
+  -- an item that comes with a leg and goes up, with the transaction of its lane. Where no lane has the leg there is none: the call can't be made
+  abbrev pub of_lane : Option (Lane T) → T → List (TxnId × (Side × T))
   of_lane None item = []
-  of_lane (Some lane) item = (lane.txn, item) ∷ []
+  of_lane (Some lane) item = (lane.txn, (Up, item)) ∷ []
 
   -- the items that a call brings
-  abbrev pub brought_by : HopView T → HopCall T → List (TxnId × T)
-  brought_by v (Calls.BeginReq txn at item) = (txn, item) ∷ []
+  abbrev pub brought_by : HopView T → HopCall T → List (TxnId × (Side × T))
+  brought_by v (Calls.BeginReq txn at item) = (txn, (Down, item)) ∷ []
   brought_by v (Calls.BeginResp leg at item) = of_lane (lane_of v leg) item
   brought_by v _ = []
 
-  abbrev pub given_begun : TxnId → Begun T → List (TxnId × T)
+  abbrev pub given_begun : TxnId → Begun T → List (TxnId × (Side × T))
   given_begun txn (Left answer time) = []
-  given_begun txn (Now answer time leg item) = (txn, item) ∷ []
-  given_begun txn (Busy holder live item) = (txn, item) ∷ []
+  given_begun txn (Now answer time leg item) = (txn, (Down, item)) ∷ []
+  given_begun txn (Busy holder live item) = (txn, (Down, item)) ∷ []
 
-  abbrev pub given_responded : HopView T → Responded T → List (TxnId × T)
+  abbrev pub given_responded : HopView T → Responded T → List (TxnId × (Side × T))
   given_responded v (Answers.Sent answer time) = []
   given_responded v (Answers.Busy holder leg item) = of_lane (lane_of v leg) item
 
   -- the items that a reply gives, of the transaction that the call names or that comes with them
-  abbrev pub given_by : HopView T → HopCall T → HopReply T → List (TxnId × T)
+  abbrev pub given_by : HopView T → HopCall T → HopReply T → List (TxnId × (Side × T))
   given_by v call (Replies.Begun b) = given_begun (txn_by v call) b
   given_by v call (Replies.Responded r) = given_responded v r
-  given_by v call (Replies.Down (Some r)) = (r.2, r.4) ∷ []
-  given_by v call (Replies.Up (Some r)) = (r.1, r.3) ∷ []
+  given_by v call (Replies.Down (Some r)) = (r.2, (Down, r.4)) ∷ []
+  given_by v call (Replies.Up (Some r)) = (r.1, (Up, r.3)) ∷ []
   given_by v call _ = []
 
   -- what a call at a position answers, and what it leaves

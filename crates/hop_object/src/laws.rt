@@ -50,9 +50,10 @@ pub fn replies_name_transactions<T>()
         Follows after → Applied before position call reply after → ReplyNames after call reply }
 {}
 
-/// A response that is fetched has its BEGIN_RESP in the log, of the transaction and at the time that the
-/// reply tells, also where no leg comes with it.
-pub fn fetched_responses_were_sent<T>()
+/// A request that is fetched has its BEGIN_REQ in the log, and a response its BEGIN_RESP, of the transaction
+/// and at the time that the reply tells, also where no leg comes with it. The answer of that call leads to the
+/// state that the lane has.
+pub fn fetched_items_were_sent<T>()
     ensures { (before : HopView T) (position : ℕ) (call : HopCall T) (reply : HopReply T) (after : HopView T) →
         Follows before → Applied before position call reply after → FetchedWasSent after reply }
 {}

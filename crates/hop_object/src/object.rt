@@ -3,6 +3,7 @@ ghost use Rattle.std.specs.Prelude.{◌≡◌, true};
 
 use crate::call::{HopCall, HopReply, HopTraits};
 use crate::hop::Hop;
+use crate::lane::Side;
 use one_history::Sign;
 use shared_object::Object;
 use tlm_types::{Log, Memory};
@@ -50,7 +51,7 @@ impl<T> Object for Hop<T> {
 
     type Reply = HopReply<T>;
 
-    type Item = T;
+    type Item = (Side, T);
 
     type Made = HopTraits;
 

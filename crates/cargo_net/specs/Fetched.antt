@@ -1,0 +1,53 @@
+-- What a component knows of what it fetched from a hop.
+use Rattle.std.specs.Prelude.{ℕ, ◌≡◌, ◌⊎◌, List, Option, Some, None}
+use Rattle.atomic_table.specs.Seated.{TableId}
+use Rattle.one_history.specs.declared.entry.Entry.{Entry}
+use Rattle.one_history.specs.declared.view.Frame.{Frame}
+use Rattle.tlm_types.specs.declared.entry.Content.{Content}
+use Rattle.tlm_types.specs.declared.words.ObjectNo.TheVariants.{Hop}
+use Rattle.tlm_types.specs.declared.words.Phase.TheVariants.{BeginReq}
+use Rattle.tlm_types.specs.declared.words.TlmSync.{TlmSync}
+use Rattle.tlm_model.specs.Plan.{Plan}
+use Rattle.base_phases.specs.declared.phases.LaneState.TheVariants.{Requested, Waiting}
+use Rattle.flow_model.specs.World.{Passage, hop_at, row_of}
+use Rattle.flow_model.specs.Events.{Among, FindsAt, IsCall}
+use Rattle.flow_model.specs.Platform.{world_of}
+use Rattle.hop_object.specs.declared.call.HopReply.{HopReply}
+use Rattle.hop_object.specs.declared.call.HopReply.TheVariants.{Down}
+use Rattle.cargo_model.specs.declared.cargo.Cargo.{Cargo}
+use Rattle.cargo_model.specs.Called.{IsAnswerIn}
+use Rattle.cargo_model.specs.Counts.{responses}
+use Rattle.cargo_model.specs.Known.{Known, object_number, objects_of}
+use Rattle.cargo_model.specs.Travel.{GoesDown, There}
+use Rattle.cargo_net.specs.Hops.{IsLegOfLane}
+use Rattle.cargo_net.specs.declared.fetches.FetchedRequest.{FetchedRequest}
+
+-- a hop of the history has this number
+pub record IsHopThere (p : Plan) (number : ℕ) : Type 0 where
+  pub hop : ℕ
+  pub place : number ≡ object_number p.platform (Hop hop)
+  pub there : Among (objects_of p.platform) (Hop hop)
+
+-- the reply is that to a fetch of a request
+abbrev pub IsDownReply : HopReply Cargo → Type 0
+IsDownReply (Down fetched) = Unit {0}
+IsDownReply reply = ⊥
+
+-- the reply of the hop
+abbrev pub down_reply : Option FetchedRequest → HopReply Cargo
+down_reply None = Down None
+down_reply (Some r) = Down (Some (r.leg, r.state, r.txn, r.at, r.cargo))
+
+-- A request of x was fetched, with the leg of its lane: its payload is on its way down there, and its BEGIN_REQ is known, at this time and with an
+-- answer that the row has and that left the response to come.
+pub record HasFetchedRequest (frame : Frame Plan) (tokens : TableId) (number : ℕ) (r : FetchedRequest) (known : List (Entry Content)) : Type 0 where
+  pub pass : Passage
+  pub hop : ℕ
+  pub place : number ≡ object_number frame.world.platform (Hop (hop_at pass hop))
+  pub down : GoesDown frame.world tokens (Known frame.world.platform known) r.txn pass There hop r.cargo
+  pub leg_of : IsLegOfLane frame tokens number known r.txn r.state r.leg
+  pub open_lane : (r.state ≡ Requested) ⊎ (r.state ≡ Waiting)
+  pub answer : TlmSync
+  pub begun : FindsAt (Known frame.world.platform known) (IsCall r.txn (hop_at pass hop) BeginReq answer) r.at
+  pub fits : IsAnswerIn (row_of (world_of frame.world) pass hop) answer
+  pub responds : responses (row_of (world_of frame.world) pass hop) answer ≡ 1

@@ -1,0 +1,11 @@
+pub mod Traffic
+pub mod Carried
+pub mod Grows
+pub mod Hops
+pub mod Ends
+pub mod Wallets
+pub mod Responds
+pub mod Answered
+pub mod Begins
+pub mod Tried
+pub mod Fetched
