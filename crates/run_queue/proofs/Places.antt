@@ -2,8 +2,8 @@
 use Rattle.std.proofs.Common.{◌≡◌, ◌≢◌, ℕ, zero, suc, ◌+◌, ◌<◌, ◌≤◌, Bool, true, false, cond, eqb, List, [], ◌∷◌, ◌++◌, length, get_or, set, map, Some, None, count_by, refl, sym, ap, subst, ◌∙◌, ⊎_elim, arith}
 use Rattle.std.specs.List.{range_with_len}
 use Rattle.std.proofs.lemmas.Bool.{eq-eqb, ne_eqb, cases_lt, cases_eq, cases_Bool, false≢true}
-use Rattle.std.proofs.lemmas.List.{get_or_past, get_or-set_same, get_or-set_other, get_or_default, get_or_append_left, get_or_push, get_or-map, length-set, length-map, length_push, map-id}
-use Rattle.std.proofs.lemmas.List.Sums.{sum_by-set, sum_by-cons, sum_by_push, count_by-le-length}
+use Rattle.std.proofs.lemmas.List.{get_or_past, get_or-set_same, get_or-set_other, get_or_default, get_or_append_left, get_or_push, get_or-map, length-set, length-map, length-append, length_push, map-id}
+use Rattle.std.proofs.lemmas.List.Sums.{sum_by-set, sum_by-cons, sum_by-append, sum_by_push, count_by-le-length}
 use Rattle.std.proofs.lemmas.List.FromFn.{length-range_with_len, map-range_with_len_more}
 use Rattle.run_queue.specs.declared.jobs.JobState.{JobState}
 use Rattle.run_queue.specs.declared.jobs.JobState.TheVariants.{Waiting, Out, Finished}
@@ -28,6 +28,9 @@ times-cons k n order = sum_by-cons (λ m. one_if (eqb m k)) n order
 
 times-push : (k n : ℕ) (order : List ℕ) → times k (order ++ n ∷ []) ≡ times k order + one_if (eqb n k)
 times-push k n order = sum_by_push (λ m. one_if (eqb m k)) order n
+
+times-append : (k : ℕ) (a b : List ℕ) → times k (a ++ b) ≡ times k a + times k b
+times-append k a b = sum_by-append (λ m. one_if (eqb m k)) a b
 
 times-below : (count from k : ℕ) → k < from → times k (range_with_len from count) ≡ 0
 times-below zero from k below = refl
@@ -150,6 +153,18 @@ module _ {J : Type 0} (number_of : J → ℕ) (is_done : J → Bool) where
             (λ (past : length jobs ≤ k). times-above (length jobs) 0 k (omega arith) ∙ sym (ap one_if (waits-map_past jobs k past)))
             (cases_lt k (length jobs));
         counted = length-range_with_len 0 (length jobs) ∙ sym (count-waits-map jobs);
+      }
+
+  -- the same numbers in another order
+  pub sound_behind : (places : List (JobState J)) (order parked : List ℕ) (n : ℕ) → IsSound number_of is_done places ((order ++ parked) ++ n ∷ []) → IsSound number_of is_done places ((order ++ n ∷ []) ++ parked)
+  sound_behind places order parked n sound =
+      record {
+        placed = sound.placed;
+        line =
+            λ k.
+            (omega (arith, times-append k (order ++ n ∷ []) parked, times-push k n order, times-push k n (order ++ parked), times-append k order parked))
+            ∙ sound.line k;
+        counted = omega (arith, sound.counted, length-append (order ++ n ∷ []) parked, length_push order n, length_push (order ++ parked) n, length-append order parked);
       }
 
   module _ (places : List (JobState J)) (order : List ℕ) (sound : IsSound number_of is_done places order) where

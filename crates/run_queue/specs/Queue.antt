@@ -1,14 +1,17 @@
 -- What is seen of the jobs.
-use Rattle.std.specs.Prelude.{◌≡◌, ◌==◌, ◌<◌, ◌≤◌, ℕ, Bool, true, false, List, [], ◌∷◌, ◌++◌, Option, Some, None, length, count_by, slice_index_or, slice_set, if◌then◌else◌}
+use Rattle.std.specs.Prelude.{◌≡◌, ◌==◌, ◌<◌, ◌≤◌, nat_lt, ℕ, Bool, true, false, List, [], ◌∷◌, ◌++◌, Option, Some, None, length, count_by, slice_index_or, slice_set, if◌then◌else◌}
 use Rattle.run_queue.specs.declared.jobs.JobState.{JobState}
 use Rattle.run_queue.specs.declared.jobs.JobState.TheVariants.{Waiting, Out, Finished}
 use Rattle.run_queue.specs.declared.jobs.Taken.{Taken}
 use Rattle.run_queue.specs.declared.jobs.Taken.TheVariants.{Took, Nothing, AllDone}
 
--- where the job of each number is, the numbers that wait in the order in which they are taken, and how many jobs have to finish
+-- where the job of each number is, the numbers in line in the order in which they are taken, those that are parked, the
+-- greatest round that the queue was told has been reached, and how many jobs have to finish
 pub record Queue (J : Type 0) : Type 0 where
   pub places : List (JobState J)
   pub order : List ℕ
+  pub parked : List ℕ
+  pub reached : ℕ
   pub unfinished : ℕ
 
 module _ {J : Type 0} where
@@ -20,7 +23,7 @@ module _ {J : Type 0} where
   abbrev pub IsOut : List (JobState J) → ℕ → Type 0
   IsOut places number = (number < length places) × (job_place places number ≡ Out)
 
-  -- does the job wait
+  -- does the job wait, in line or parked
   abbrev pub waits : JobState J → Bool
   waits (Waiting job) = true
   waits Out = false
@@ -42,22 +45,34 @@ module _ {J : Type 0} where
   abbrev pub finished_count : List (JobState J) → ℕ
   finished_count places = count_by has_finished places
 
-  -- the numbers that wait stand in the order once each, and no others do
+  -- the numbers that wait are these, once each, and no others are
   abbrev pub IsLineOf : List (JobState J) → List ℕ → Type 0
   IsLineOf places order = (k : ℕ) → count_by (λ n. n == k) order ≡ (if waits (job_place places k) then 1 else 0)
 
+  -- each number that waits is in line or parked, once
   abbrev pub IsLine : Queue J → Type 0
-  IsLine q = IsLineOf q.places q.order
+  IsLine q = IsLineOf q.places (q.order ++ q.parked)
 
-  -- after the job of a number has come back to wait
+  -- after the job of a number has come back to wait in line
   abbrev pub given_back : Queue J → ℕ → J → Queue J
-  given_back q number job =
-      record { places = slice_set q.places number (Waiting job); order = q.order ++ number ∷ []; unfinished = q.unfinished }
+  given_back q number job = record q { places = slice_set q.places number (Waiting job); order = q.order ++ number ∷ [] }
+
+  -- after the job of a number has come back to wait until a round above this one is reached; where that is known already,
+  -- it waits in line
+  abbrev pub set_aside : Queue J → ℕ → J → ℕ → Queue J
+  set_aside q number job round =
+      if nat_lt round q.reached then given_back q number job
+      else record q { places = slice_set q.places number (Waiting job); parked = q.parked ++ number ∷ [] }
+
+  -- after the queue was told that a round has been reached: where none at or above it was told before, all that are parked
+  -- wait in line, behind those that do
+  abbrev pub brought_back : Queue J → ℕ → Queue J
+  brought_back q round =
+      if nat_lt q.reached round then record q { order = q.order ++ q.parked; parked = []; reached = round } else q
 
   -- after the job of a number has finished
   abbrev pub ended : Queue J → ℕ → J → Queue J
-  ended q number job =
-      record { places = slice_set q.places number (Finished job); order = q.order; unfinished = q.unfinished }
+  ended q number job = record q { places = slice_set q.places number (Finished job) }
 
   -- a fact of the job that was taken, if one was
   abbrev pub IfTook : Taken J → (J → Type 0) → Type 0
@@ -80,8 +95,7 @@ module _ {J : Type 0} (number_of : J → ℕ) where
   pub record Takes (old new : Queue J) (job : J) : Type 0 where
     pub first : old.order ≡ number_of job ∷ new.order
     pub waited : job_place old.places (number_of job) ≡ Waiting job
-    pub out : new.places ≡ slice_set old.places (number_of job) Out
-    pub unfinished : new.unfinished ≡ old.unfinished
+    pub out : new ≡ record old { places = slice_set old.places (number_of job) Out; order = new.order }
 
   -- these are the jobs of all places by number, and at least those that have finished are done
   pub record Gathers (is_done : J → Bool) (places : List (JobState J)) (jobs : List J) : Type 0 where

@@ -10,8 +10,8 @@ module _ {J : Type 0} (number_of : J → ℕ) (is_done : J → Bool) where
     pub numbered : (k : ℕ) (job : J) → job_of (job_place places k) ≡ Some job → number_of job ≡ k
     pub done : (k : ℕ) (job : J) → job_place places k ≡ Finished job → is_done job ≡ true
 
-  -- besides, the order has just those that wait
-  pub record IsSound (places : List (JobState J)) (order : List ℕ) : Type 0 where
+  -- besides, these are just the numbers that wait
+  pub record IsSound (places : List (JobState J)) (waiting : List ℕ) : Type 0 where
     pub placed : ArePlaced places
-    pub line : IsLineOf places order
-    pub counted : length order ≡ count_by waits places
+    pub line : IsLineOf places waiting
+    pub counted : length waiting ≡ count_by waits places

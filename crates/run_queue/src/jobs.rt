@@ -1,8 +1,8 @@
 // The jobs.
-ghost use Rattle.std.specs.Prelude.{◌≡◌, ◌<◌, ◌≤◌, ◌↔◌, [], length, map, count_by, IfOk, IfSome, IsTrue, vec_len, vec_capacity};
+ghost use Rattle.std.specs.Prelude.{◌≡◌, ◌+◌, ◌<◌, ◌≤◌, ◌↔◌, ◌++◌, [], length, map, count_by, IfOk, IfSome, IsTrue, vec_len, vec_capacity};
 ghost use Rattle.std.specs.List.{range_with_len};
 ghost use Rattle.std.specs.VecDeque.{deque_capacity};
-ghost use Rattle.run_queue.specs.Queue.{job_of, IsOut, finished_count, AreNumbered, IsLine, IfTook, UnlessTook, Takes, given_back, ended, Gathers};
+ghost use Rattle.run_queue.specs.Queue.{job_of, IsOut, finished_count, AreNumbered, IsLine, IfTook, UnlessTook, Takes, given_back, ended, brought_back, set_aside, Gathers};
 ghost use Rattle.run_queue.specs.Sound.{ArePlaced};
 
 use std::alloc::{AllocError, Global};
@@ -30,7 +30,7 @@ pub trait Job: Drop {
         ensures { result ≡ is_done self.now };
 }
 
-/// Where the job of a number is: it waits, is out with a worker, or has finished.
+/// Where the job of a number is: it waits, in line or parked, is out with a worker, or has finished.
 #[derive(Drop)]
 pub enum JobState<J> {
     Waiting(J),
@@ -63,22 +63,24 @@ pub enum Taken<J> {
 pub struct Jobs<J: Job> {
     places: Vec<JobState<J>>,
     order: VecDeque<usize>,
+    parked: VecDeque<usize>,
+    reached: u64,
     finished: usize,
     unfinished: u32,
     room: Vec<J>,
 }
 
 impl<J: Job> Model for Jobs<J> {
-    ghost use Rattle.std.specs.Prelude.{◌≡◌, ◌≤◌, [], length, vec_capacity};
+    ghost use Rattle.std.specs.Prelude.{◌≡◌, ◌≤◌, ◌++◌, [], length, vec_capacity};
     ghost use Rattle.std.specs.VecDeque.{deque_capacity};
     ghost use Rattle.run_queue.specs.Queue.{Queue, finished_count};
     ghost use Rattle.run_queue.specs.Sound.{IsSound};
 
     ghost Value = { Queue J };
 
-    ghost view = { λ q. record { places = q.places.items; order = q.order.items; unfinished = q.unfinished } };
+    ghost view = { λ q. record { places = q.places.items; order = q.order.items; parked = q.parked.items; reached = q.reached; unfinished = q.unfinished } };
 
-    ghost invariant = { λ q. IsSound J.number_of J.is_done q.places.items q.order.items × (q.finished ≡ finished_count q.places.items) × (length q.places.items ≤ deque_capacity q.order) × (q.room.items ≡ []) × (length q.places.items ≤ vec_capacity q.room) };
+    ghost invariant = { λ q. IsSound J.number_of J.is_done q.places.items (q.order.items ++ q.parked.items) × (q.finished ≡ finished_count q.places.items) × ((length q.places.items ≤ deque_capacity q.order) × (length q.places.items ≤ deque_capacity q.parked)) × (q.room.items ≡ []) × (length q.places.items ≤ vec_capacity q.room) };
 }
 
 fn make_order(alloc: Global, count: usize) -> Result<VecDeque<usize>, Memory>
@@ -106,6 +108,21 @@ fn is_out<J>(places: &[JobState<J>], number: usize) -> bool
     matches!(places.get(number), Some(JobState::Out))
 }
 
+// Puts all numbers of one line behind those of another that has room for them.
+fn join(order: &mut VecDeque<usize>, parked: &mut VecDeque<usize>)
+    requires fits { length order.old.items + length parked.old.items ≤ deque_capacity order.old }
+    ensures order { order.new.items ≡ order.old.items ++ parked.old.items }
+    ensures parked { parked.new.items ≡ [] }
+    ensures room { deque_capacity order.new ≡ deque_capacity order.old }
+    ensures parked_room { deque_capacity parked.new ≡ deque_capacity parked.old }
+{
+    for _k in 0..parked.len() {
+        if let Some(number) = parked.pop_front() {
+            order.push_back_reserved(number);
+        }
+    }
+}
+
 // All jobs, where none is out.
 fn gather<J: Job>(places: Vec<JobState<J>>, mut room: Vec<J>) -> Option<Vec<J>>
     requires placed { ArePlaced J.number_of J.is_done places.items }
@@ -121,29 +138,35 @@ fn gather<J: Job>(places: Vec<JobState<J>>, mut room: Vec<J>) -> Option<Vec<J>>
 }
 
 impl<J: Job> Jobs<J> {
-    /// Jobs that all wait, in order, of which so many have to finish. Its only error is want of memory.
+    /// Jobs that all wait in line, in order, of which so many have to finish; no round above 0 has been reached. Its only
+    /// error is want of memory.
     pub fn new(alloc: Global, jobs: Vec<J>, unfinished: u32) -> Result<Jobs<J>, Memory>
         requires { AreNumbered J.number_of jobs.items }
         ensures { IfOk result (λ q. q ≡ record {
           places = map JobState.Waiting jobs.items;
           order = range_with_len 0 (length jobs.items);
+          parked = [];
+          reached = 0;
           unfinished = unfinished;
         }) }
     {
         let count = jobs.len();
         let room = Vec::with_capacity(alloc, count)?;
         let order = make_order(alloc, count)?;
+        let parked = VecDeque::with_capacity(alloc, count)?;
         let places = make_places(alloc, jobs)?;
         Ok(Jobs {
             places,
             order,
+            parked,
+            reached: 0,
             finished: 0,
             unfinished,
             room,
         })
     }
 
-    /// Takes out the job that has waited longest.
+    /// Takes out the job that has waited longest in line.
     pub fn take(&mut self) -> Taken<J>
         ensures took { IfTook result (λ job. Takes J.number_of self.old self.new job) }
         ensures unchanged { UnlessTook result (self.new ≡ self.old) }
@@ -154,7 +177,7 @@ impl<J: Job> Jobs<J> {
         ensures nothing { (result ≡ Taken.Nothing)
             ↔ ((self.old.order ≡ []) × (finished_count self.old.places < self.old.unfinished)) }
 
-        // The numbers that wait stand in the order once each, and no others do.
+        // Each number that waits is in line or parked, once, and no other is.
         ensures line { IsLine self.old }
     {
         if self.unfinished as usize <= self.finished {
@@ -169,7 +192,7 @@ impl<J: Job> Jobs<J> {
         Taken::Took(job)
     }
 
-    /// The job waits again, behind all that wait. A job whose number isn't out is dropped.
+    /// The job waits again, behind all in line. A job whose number isn't out is dropped.
     pub fn give_back(&mut self, job: J)
         ensures back { IsOut self.old.places (J.number_of job)
             → self.new ≡ given_back self.old (J.number_of job) job }
@@ -179,6 +202,34 @@ impl<J: Job> Jobs<J> {
         if is_out(&self.places, number) {
             self.places[number] = JobState::Waiting(job);
             self.order.push_back_reserved(number);
+        }
+    }
+
+    /// The job waits until a round above this one is reached: it is parked, and where that is known already it
+    /// waits behind all in line. A job whose number isn't out is dropped.
+    pub fn park(&mut self, job: J, round: u64)
+        ensures parked { IsOut self.old.places (J.number_of job)
+            → self.new ≡ set_aside self.old (J.number_of job) job round }
+        ensures dropped { ¬ (IsOut self.old.places (J.number_of job)) → self.new ≡ self.old }
+    {
+        if round < self.reached {
+            return self.give_back(job);
+        }
+        let number = job.number() as usize;
+        if is_out(&self.places, number) {
+            self.places[number] = JobState::Waiting(job);
+            self.parked.push_back_reserved(number);
+        }
+    }
+
+    /// This round has been reached. Where none at or above it was told before, all that are parked wait behind
+    /// those in line.
+    pub fn bring_back(&mut self, round: u64)
+        ensures { self.new ≡ brought_back self.old round }
+    {
+        if self.reached < round {
+            self.reached = round;
+            join(&mut self.order, &mut self.parked);
         }
     }
 
@@ -206,6 +257,8 @@ impl<J: Job> Jobs<J> {
         let Jobs {
             places,
             order: _,
+            parked: _,
+            reached: _,
             finished,
             unfinished: _,
             room,

@@ -1,14 +1,16 @@
 //! A queue of jobs that workers take, give a turn, and give back, until enough of them have finished.
 //!
 //! - A `Job` has a number and tells whether it is done.
-//! - `Jobs<J>` has each job at a `JobState`: it waits, is out with a worker, or has finished. Contracts see
-//!   the places by number, the order of the numbers that wait, and how many jobs have to finish.
+//! - `Jobs<J>` has each job at a `JobState`: it waits, is out with a worker, or has finished. One that waits is
+//!   in line, or parked until a round is reached. Contracts see the places by number, the numbers in line and those
+//!   that are parked, the greatest round that was told, and how many jobs have to finish.
 //! - `RunQueue<J>` is the same for threads, under a lock. Who hands in a job can take the next one under
 //!   the same lock.
 //! - `tlm_types::Memory` is the error of the two calls named `new`, which were refused memory.
 //!
-//! Promises: the jobs that wait are taken first in, first out. A job is out at most once, and a job
-//! that is handed in while its number isn't out is dropped. In the end each job comes back once, and
+//! Promises: the jobs in line are taken first in, first out; a parked one comes back into line when a round above
+//! its own is told, and at once where that was told before. A job is out at most once, and a job that is handed in
+//! while its number isn't out is dropped. In the end each job comes back once, and
 //! those that finished are done. No call but `new` can fail for want of memory.
 #![tactic(auto)]
 

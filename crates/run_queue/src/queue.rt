@@ -56,18 +56,30 @@ impl<J: Job> RunQueue<J> {
         self.lock.lock(rt).finish(job);
     }
 
-    /// What `Jobs::give_back` and then `Jobs::take` do, under one lock. It may wait for the lock.
-    pub fn give_back_and_take<R: Wait>(&self, rt: &R, job: J) -> Taken<J> {
+    /// What `Jobs::bring_back`, `Jobs::give_back` and then `Jobs::take` do, under one lock. It may wait for the
+    /// lock.
+    pub fn give_back_and_take<R: Wait>(&self, rt: &R, job: J, reached: u64) -> Taken<J> {
         let mut jobs = self.lock.lock(rt);
+        jobs.bring_back(reached);
         jobs.give_back(job);
         jobs.take()
     }
 
-    /// What `Jobs::finish` and then `Jobs::take` do, under one lock. It may wait for the lock.
-    pub fn finish_and_take<R: Wait>(&self, rt: &R, job: J) -> Taken<J>
+    /// What `Jobs::bring_back` and `Jobs::park`, both with this round, and then `Jobs::take` do, under one lock. It
+    /// may wait for the lock.
+    pub fn park_and_take<R: Wait>(&self, rt: &R, job: J, reached: u64) -> Taken<J> {
+        let mut jobs = self.lock.lock(rt);
+        jobs.bring_back(reached);
+        jobs.park(job, reached);
+        jobs.take()
+    }
+
+    /// What `Jobs::bring_back`, `Jobs::finish` and then `Jobs::take` do, under one lock. It may wait for the lock.
+    pub fn finish_and_take<R: Wait>(&self, rt: &R, job: J, reached: u64) -> Taken<J>
         requires { IsTrue (J.is_done job) }
     {
         let mut jobs = self.lock.lock(rt);
+        jobs.bring_back(reached);
         jobs.finish(job);
         jobs.take()
     }

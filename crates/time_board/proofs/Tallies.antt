@@ -67,6 +67,19 @@ unfinished_is_member members who unfinished =
     (λ (past : length members ≤ who). absurd (false≢true (sym unfinished ∙ ap (λ (m : Member). m.finished) (get_or_past members who absent past))))
     (cases_lt who (length members))
 
+-- where a member has not finished and is in a lower round, somebody is behind
+first_behind-some : (members : List Member) (round k : ℕ) → (member_of members k).finished ≡ false → (member_of members k).round < round → IsSome (first_behind members round)
+first_behind-some members round k unfinished below =
+    let p = is_behind round in
+    let m = member_of members k in
+    let n = position_or_len p members in
+    ⊎_elim
+    (λ (within : n < length members). subst (λ (b : Bool). IsSome (cond b (Some n) None)) (sym (lt-ltb n (length members) within)) refl)
+    (λ (past : length members ≤ n).
+    let passed : p m ≡ false = fails_before_first p members k absent (omega (arith, unfinished_is_member members k unfinished)) in
+    absurd (omega (arith, not_behind_means m.finished m.round round passed unfinished)))
+    (cases_lt n (length members))
+
 -- what holds of each member and of the new one holds of each after the change
 each_set : (P : Member → Type 0) (members : List Member) (who : ℕ) (new : Member) → who < length members → P new → ((k : ℕ) → P (member_of members k)) → (k : ℕ) → P (member_of (set members who new) k)
 each_set P members who new within here each k =
@@ -211,6 +224,22 @@ module _ (members : List Member) (t : Tally) (tallied : IsTallied members t) whe
       let none = count_by-none (is_in t.lowest) members (λ k within. nobody_passed round above past k within) in
       absurd (omega (arith, tallied.lower)))
       (cases_lt n (length members))
+
+  -- all unfinished members have reached the lowest round that one is in
+  pub reached_by_all : (round : ℕ) → (0 < t.behind → round ≡ t.lowest) → (t.behind ≡ 0 → round ≤ t.lowest + 1) → (k : ℕ) → (member_of members k).finished ≡ false → round ≤ (member_of members k).round
+  reached_by_all round lower upper k unfinished =
+      ⊎_elim (λ (some : 0 < t.behind). omega (arith, lower some, (tallied.within k unfinished).0))
+      (λ (none : t.behind ≤ 0). (let empty : t.behind ≡ 0 = omega arith in omega (arith, upper empty, above_lowest empty k unfinished)))
+      (cases_lt 0 t.behind)
+
+  -- and one is in it
+  pub reached_by_one : (round : ℕ) → (0 < t.behind → round ≡ t.lowest) → (t.behind ≡ 0 → t.lowest + 1 ≤ round) → (k : ℕ) → (member_of members k).finished ≡ false → IsSome (first_behind members (round + 1))
+  reached_by_one round lower upper k unfinished =
+      ⊎_elim (λ (some : 0 < t.behind). first_behind-above (round + 1) (omega (arith, lower some)) some)
+      (λ (none : t.behind ≤ 0).
+      let empty : t.behind ≡ 0 = omega arith in
+      first_behind-some members (round + 1) k unfinished (omega (arith, upper empty, above_lowest empty k unfinished)))
+      (cases_lt 0 t.behind)
 
 -- what was found is an unfinished member
 pub running_from : (found : Member) (xs members : List Member) (who : ℕ) → found ≡ member_of xs who → xs ≡ members → found.finished ≡ false → member_of members who ≡ running found.round

@@ -33,4 +33,21 @@ impl Board {
     pub fn finish<R: Wait>(&self, rt: &R, who: u32) {
         self.lock.lock(rt).finish(who);
     }
+
+    /// What `Rounds::advance` answers at some moment during this call, and what `Rounds::reached` answers after it.
+    pub fn advance_and_look<R: Wait>(&self, rt: &R, who: u32) -> (Advance, u64)
+        ensures { IsAnswer who result.0 }
+    {
+        let mut rounds = self.lock.lock(rt);
+        let answer = rounds.advance(who);
+        let reached = rounds.reached();
+        (answer, reached)
+    }
+
+    /// What `Rounds::finish` does, and what `Rounds::reached` answers after it.
+    pub fn finish_and_look<R: Wait>(&self, rt: &R, who: u32) -> u64 {
+        let mut rounds = self.lock.lock(rt);
+        rounds.finish(who);
+        rounds.reached()
+    }
 }

@@ -2,7 +2,8 @@
 //! synchronization of a quantum keeper (IEEE 1666-2011, clause 16.2) is a round.
 //!
 //! - `Rounds` has a member for each number below a fixed one. A member goes on to the next round, or is
-//!   told who is behind, or finishes. Contracts see it as the list of its members.
+//!   told who is behind, or finishes; and it tells which round all have reached. Contracts see it as the list of
+//!   its members.
 //! - `Board` is the same for threads, under a lock.
 //! - `tlm_types::Memory` is the error of the two calls named `new`, which were refused memory.
 //!

@@ -1,5 +1,5 @@
 // The rounds of the members.
-ghost use Rattle.std.specs.Prelude.{◌≡◌, ◌+◌, ◌^◌, ◌<◌, ◌≤◌, length, replicate, Option, IsSome, IfSome, IfOk};
+ghost use Rattle.std.specs.Prelude.{◌≡◌, ◌+◌, ◌-◌, ◌^◌, ◌<◌, ◌≤◌, ℕ, false, length, replicate, Option, IsSome, IfSome, IfOk};
 ghost use Rattle.time_board.specs.Rounds.{new_member, member_of, first_behind, answer_at, answer_of, members_after, members_finished, AreClose};
 
 use crate::tally::Tally;
@@ -129,6 +129,17 @@ impl Rounds {
         };
         self.tally = level.moved();
         Advance::Advanced { round: round + 1 }
+    }
+
+    /// The round that all unfinished members have reached: none is in a lower one, and where there is one, one is
+    /// in it.
+    pub fn reached(&self) -> u64
+        ensures all { (k : ℕ) → (member_of self.now k).finished ≡ false
+            → result ≤ (member_of self.now k).round }
+        ensures one { (k : ℕ) → (member_of self.now k).finished ≡ false → result < 2 ^ 64 - 1
+            → IsSome (first_behind self.now (result + 1)) }
+    {
+        self.tally.reached()
     }
 
     /// The member has finished, and no longer holds others back. For a number that no member has

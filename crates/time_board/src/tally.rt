@@ -1,5 +1,5 @@
 // How many members are in which round.
-ghost use Rattle.std.specs.Prelude.{◌≡◌, ◌+◌, ◌-◌, ◌^◌, ◌<◌, ◌≤◌, ◌↔◌, IsTrue};
+ghost use Rattle.std.specs.Prelude.{◌≡◌, ◌+◌, ◌-◌, ◌^◌, ◌<◌, ◌≤◌, ◌↔◌, min, IsTrue};
 
 // How many unfinished members are in the round `lowest` and in the one after it. None is in another.
 // With these counts an advance that succeeds looks at no other member.
@@ -16,6 +16,17 @@ impl Tally {
         ensures { IsTrue result ↔ ((self.now.lowest < round) × (0 < self.now.behind)) }
     {
         self.lowest < round && self.behind > 0
+    }
+
+    // The round that all unfinished members have reached, and one of them is in; at the greatest `u64` it stays.
+    pub(crate) fn reached(&self) -> u64
+        ensures lower { 0 < self.now.behind → result ≡ self.now.lowest }
+        ensures upper { self.now.behind ≡ 0 → result ≡ min (self.now.lowest + 1) (2 ^ 64 - 1) }
+    {
+        if self.behind > 0 {
+            return self.lowest;
+        }
+        self.lowest.saturating_add(1)
     }
 
     // The same with this round as the lowest, where no member is below it.

@@ -1,9 +1,9 @@
-use Rattle.std.proofs.Common.{List, subst, sym, ◌∙◌, arith, length-set}
+use Rattle.std.proofs.Common.{ℕ, List, ◌++◌, set, subst, sym, ◌∙◌, arith, length-set, length-append}
 use Rattle.run_queue.specs.declared.jobs.JobState.{JobState}
 use Rattle.run_queue.specs.declared.jobs.JobState.TheVariants.{Waiting}
 use Rattle.run_queue.specs.Queue.{IsOut}
 use Rattle.run_queue.specs.Sound.{IsSound}
-use Rattle.run_queue.proofs.Places.{sound_given, given_fits, finished_given}
+use Rattle.run_queue.proofs.Places.{sound_behind, sound_given, given_fits, finished_given}
 use Rattle.run_queue.proofs.jobs.Jobs.give_back.Goals as goal
 
 pub push_back_reserved-requires : goal.push_back_reserved-requires
@@ -12,23 +12,27 @@ push_back_reserved-requires g c =
     let n = c.number-number.result in
     let inv = c.self.invariant in
     let out : IsOut places n = subst (λ (xs : List (JobState g.row.J.Denot)). IsOut xs n) c.deref.ensures.value (c.is_out.ensures.0 c.if-is_out.true) in
-    let fits = given_fits g.J.Job.number_of g.J.Job.is_done places c.self.inside.order.items inv.0 n c.args.job out.0 out.1 (sym c.number-number.ensures) in
-    omega (arith, inv.2, c.self.inside.order.ok.0)
+    let order = c.self.inside.order.items in
+    let parked = c.self.inside.parked.items in
+    let fits = given_fits g.J.Job.number_of g.J.Job.is_done places (order ++ parked) inv.0 n c.args.job out.0 out.1 (sym c.number-number.ensures) in
+    omega (arith, inv.2.0, c.self.inside.order.ok.0, length-append order parked)
 
 pub invariant_of-self : goal.invariant_of-self
 invariant_of-self g c =
     let places = c.self.inside.places.items in
     let order = c.self.inside.order.items in
+    let parked = c.self.inside.parked.items in
     let n = c.number-number.result in
     let job = c.args.job in
     let inv = c.self.invariant in
     let out : IsOut places n = subst (λ (xs : List (JobState g.row.J.Denot)). IsOut xs n) c.deref.ensures.value (c.is_out.ensures.0 c.if-is_out.true) in
     let number = sym c.number-number.ensures in
     let length_new = length-set places n (Waiting job) in (
-      subst (IsSound g.J.Job.number_of g.J.Job.is_done _) (sym c.push_back_reserved.ensures.items)
-          (sound_given g.J.Job.number_of g.J.Job.is_done places order inv.0 n job out.0 out.1 number),
-      inv.1 ∙ sym (finished_given g.J.Job.number_of g.J.Job.is_done places order inv.0 n job out.0 out.1 number),
-      omega (arith, inv.2, c.push_back_reserved.ensures.capacity),
+      subst (λ (l : List ℕ). IsSound g.J.Job.number_of g.J.Job.is_done (set places n (Waiting job)) (l ++ parked)) (sym c.push_back_reserved.ensures.items)
+          (sound_behind g.J.Job.number_of g.J.Job.is_done (set places n (Waiting job)) order parked n
+          (sound_given g.J.Job.number_of g.J.Job.is_done places (order ++ parked) inv.0 n job out.0 out.1 number)),
+      inv.1 ∙ sym (finished_given g.J.Job.number_of g.J.Job.is_done places (order ++ parked) inv.0 n job out.0 out.1 number),
+      (omega (arith, inv.2.0, c.push_back_reserved.ensures.capacity), omega (arith, inv.2.1)),
       inv.3,
       omega (arith, inv.4),
     )

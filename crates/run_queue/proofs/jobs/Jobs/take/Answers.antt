@@ -1,4 +1,4 @@
-use Rattle.std.proofs.Common.{◌≡◌, ℕ, ◌∷◌, set, ap, subst, sym, ◌∙◌, arith, length-set}
+use Rattle.std.proofs.Common.{◌≡◌, ℕ, List, ◌∷◌, ◌++◌, set, ap, subst, sym, ◌∙◌, arith, length-set}
 use Rattle.run_queue.specs.declared.jobs.JobState.{JobState}
 use Rattle.run_queue.specs.declared.jobs.JobState.TheVariants.{Waiting, Out}
 use Rattle.run_queue.specs.Queue.{Queue, job_place, waits, job_of, finished_count}
@@ -9,31 +9,35 @@ use Rattle.run_queue.proofs.jobs.Jobs.take.Goals as goal
 pub index_mut-requires : goal.index_mut-requires
 index_mut-requires g c =
     let places = c.self.inside.places.items in
+    let parked = c.self.inside.parked.items in
     let n = c.in-Some.number in
-    let waiting = first_waits g.J.Job.number_of g.J.Job.is_done places c.self.inside.order.items c.self.invariant.0 n _ c.in-Some.ensures.items in
+    let waiting = first_waits g.J.Job.number_of g.J.Job.is_done places (c.self.inside.order.items ++ parked) c.self.invariant.0 n _ (ap (λ (l : List ℕ). l ++ parked) c.in-Some.ensures.items) in
     let within = waits_within places n waiting in
     omega (arith, c.self.inside.places.ok.0)
 
 pub unreachable-requires : goal.unreachable-requires
 unreachable-requires g c =
     let places = c.self.inside.places.items in
+    let parked = c.self.inside.parked.items in
     let n = c.in-Some.number in
-    let waiting = first_waits g.J.Job.number_of g.J.Job.is_done places c.self.inside.order.items c.self.invariant.0 n _ c.in-Some.ensures.items in
+    let waiting = first_waits g.J.Job.number_of g.J.Job.is_done places (c.self.inside.order.items ++ parked) c.self.invariant.0 n _ (ap (λ (l : List ℕ). l ++ parked) c.in-Some.ensures.items) in
     let here = place_of_read places n c.index_mut.result.now (waits_within places n waiting) c.index_mut.ensures.value in
     waits_is c.replace.result (ap waits c.replace.ensures.value ∙ ap waits (sym here) ∙ waiting) c.in_default-replace.not-Waiting
 
 pub invariant_of-self-2 : goal.invariant_of-self-2
 invariant_of-self-2 g c =
     let places = c.self.inside.places.items in
-    let order = c.self.inside.order.items in
+    let parked = c.self.inside.parked.items in
+    let waiting = c.self.inside.order.items ++ parked in
+    let line = ap (λ (l : List ℕ). l ++ parked) c.in-Some.ensures.items in
     let n = c.in-Some.number in
     let inv = c.self.invariant in
     let out = sym c.replace.ensures.after in
     let length_new = length-set places n c.replace.new.dest in (
-      subst (λ (p : JobState g.row.J.Denot). IsSound g.J.Job.number_of g.J.Job.is_done (set places n p) c.pop_front.new.self.items) out
-          (sound_taken g.J.Job.number_of g.J.Job.is_done places order inv.0 n _ c.in-Some.ensures.items),
-      inv.1 ∙ sym (finished_taken g.J.Job.number_of g.J.Job.is_done places order inv.0 n _ c.in-Some.ensures.items) ∙ ap (λ (p : JobState g.row.J.Denot). finished_count (set places n p)) out,
-      omega (arith, inv.2, c.in-Some.ensures.capacity),
+      subst (λ (p : JobState g.row.J.Denot). IsSound g.J.Job.number_of g.J.Job.is_done (set places n p) (c.pop_front.new.self.items ++ parked)) out
+          (sound_taken g.J.Job.number_of g.J.Job.is_done places waiting inv.0 n _ line),
+      inv.1 ∙ sym (finished_taken g.J.Job.number_of g.J.Job.is_done places waiting inv.0 n _ line) ∙ ap (λ (p : JobState g.row.J.Denot). finished_count (set places n p)) out,
+      (omega (arith, inv.2.0, c.in-Some.ensures.capacity), omega (arith, inv.2.1)),
       inv.3,
       omega (arith, inv.4),
     )
@@ -41,17 +45,28 @@ invariant_of-self-2 g c =
 pub returns-clause-took : goal.returns-clause-took
 returns-clause-took g c =
     let places = c.self.inside.places.items in
+    let parked = c.self.inside.parked.items in
     let n = c.in-Some.number in
     let job = c.in-Waiting.job in
     let inv = c.self.invariant in
-    let waiting = first_waits g.J.Job.number_of g.J.Job.is_done places c.self.inside.order.items inv.0 n _ c.in-Some.ensures.items in
+    let waiting = first_waits g.J.Job.number_of g.J.Job.is_done places (c.self.inside.order.items ++ parked) inv.0 n _ (ap (λ (l : List ℕ). l ++ parked) c.in-Some.ensures.items) in
     let read = place_of_read places n c.index_mut.result.now (waits_within places n waiting) c.index_mut.ensures.value in
     let here : job_place places n ≡ Waiting job = read ∙ sym c.replace.ensures.value ∙ c.in-Waiting.is in
     let number : g.J.Job.number_of job ≡ n = inv.0.placed.numbered n job (ap job_of here) in
     let seen = c.self.view_is in
+    let left = c.pop_front.new.self.items in
+    let was : Queue g.row.J.Denot = record {
+      places = places;
+      order = c.self.inside.order.items;
+      parked = parked;
+      reached = c.self.inside.reached;
+      unfinished = c.self.inside.unfinished;
+    } in
     record {
       first = ap (λ (q : Queue g.row.J.Denot). q.order) (sym seen) ∙ c.in-Some.ensures.items ∙ ap (λ (m : ℕ). m ∷ c.pop_front.new.self.items) (sym number);
       waited = ap (λ (q : Queue g.row.J.Denot). job_place q.places (g.J.Job.number_of job)) (sym seen) ∙ ap (job_place places) number ∙ here;
-      out = ap (set places n) c.replace.ensures.after ∙ ap (λ (m : ℕ). set places m Out) (sym number) ∙ ap (λ (q : Queue g.row.J.Denot). set q.places (g.J.Job.number_of job) Out) seen;
-      unfinished = ap (λ (q : Queue g.row.J.Denot). q.unfinished) seen;
+      out =
+          ap (λ (p : JobState g.row.J.Denot). record was { places = set places n p; order = left }) c.replace.ensures.after
+          ∙ ap (λ (m : ℕ). record was { places = set places m Out; order = left }) (sym number)
+          ∙ ap (λ (q : Queue g.row.J.Denot). record q { places = set q.places (g.J.Job.number_of job) Out; order = left }) seen;
     }
