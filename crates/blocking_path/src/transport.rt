@@ -9,6 +9,7 @@ ghost use Rattle.tlm_model.specs.Store.{zeros};
 ghost use Rattle.route_plan.specs.Plans.{walk_at};
 ghost use Rattle.shared_object.specs.Steps.{IsNote};
 ghost use Rattle.token_book.specs.Purse.{IsOf};
+ghost use Rattle.region_object.specs.Call.{payload_cost};
 ghost use Rattle.region_object.specs.declared.call.RegionCall.TheVariants.{Access, Debug};
 ghost use Rattle.plat_build.specs.Calls.{CanPay, IsCalled, OneTicketLess, route_at};
 
@@ -58,7 +59,7 @@ pub fn b_transport<N: Naming<Plan, TlmLaw>, R: Wait>(
     ensures note { IsNote N.table result.note }
     ensures wallet { IsOf N.tokens wallet.new }
     ensures ticket { MatchOption (route_at net.now who payload.address) (wallet.new ≡ wallet.old)
-        (λ route. OneTicketLess route.memory (length payload.bytes + length payload.enables) wallet.old wallet.new) }
+        (λ route. OneTicketLess route.memory (payload_cost payload) wallet.old wallet.new) }
 {
     let Some(route) = net.plan().route(who, payload.address()) else {
         let latency = net.plan().latency(who, payload.address());
@@ -105,7 +106,7 @@ pub fn b_transport_along<N: Naming<Plan, TlmLaw>, B: Reach<N>, R: Wait>(
     ensures time { result.at ≡ later at route.now.latency }
     ensures note { IsNote N.table result.note }
     ensures wallet { IsOf N.tokens wallet.new }
-    ensures ticket { OneTicketLess route.now.memory (length payload.bytes + length payload.enables) wallet.old wallet.new }
+    ensures ticket { OneTicketLess route.now.memory (payload_cost payload) wallet.old wallet.new }
 {
     payload.set_address(route.offset);
     let call = RegionCall::Access {
@@ -155,7 +156,7 @@ pub fn transport_dbg<N: Naming<Plan, TlmLaw>, R: Wait>(
     ensures note { IsNote N.table result.note }
     ensures wallet { IsOf N.tokens wallet.new }
     ensures ticket { MatchOption (route_at net.now who payload.address) (wallet.new ≡ wallet.old)
-        (λ route. OneTicketLess route.memory (length payload.bytes + length payload.enables) wallet.old wallet.new) }
+        (λ route. OneTicketLess route.memory (payload_cost payload) wallet.old wallet.new) }
 {
     net.debug(rt, who, payload, note, wallet, txn, at)
 }

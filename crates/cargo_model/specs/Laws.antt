@@ -15,7 +15,7 @@ use Rattle.tlm_types.specs.declared.words.TlmSync.TheVariants.{Accepted, Complet
 use Rattle.tlm_types.specs.declared.words.TxnId.{TxnId}
 use Rattle.tlm_model.specs.Plan.{Plan}
 use Rattle.tlm_model.specs.Route.{Route}
-use Rattle.generic_payload.specs.Payload.{PayloadView}
+use Rattle.generic_payload.specs.Payload.{PayloadView, access_of}
 use Rattle.token_book.specs.Account.{Slip}
 use Rattle.token_book.specs.Purse.{Purse, left_of, bytes_of}
 use Rattle.hop_model.specs.Answers.{request_answer, response_answer}
@@ -30,7 +30,7 @@ use Rattle.cargo_model.specs.Called.{IsAnswerIn, IsCalled, IsReturned}
 use Rattle.cargo_model.specs.Counts.{calls_in, owed_by, request_ends, response_ends, responses}
 use Rattle.cargo_model.specs.Known.{Known}
 use Rattle.cargo_model.specs.Tickets.{AreApart, Pulls, PullsOwed, Puts, Stocks}
-use Rattle.cargo_model.specs.Travel.{Asks, Back, GoesDown, GoesUp, HasComeUp, IsAsked, IsHeld, IsHoldOf, IsServed, IsVouched, Ready, There, numbers_for, route_for, stop_for, with_wallet}
+use Rattle.cargo_model.specs.Travel.{Asks, Back, GoesDown, GoesUp, HasComeUp, IsAsked, IsHeld, IsHoldOf, IsServed, IsVouched, Ready, There, logged_by, numbers_for, route_for, stop_for, with_wallet}
 
 -- the cargo with another payload and another wallet
 abbrev pub with_contents : Cargo → PayloadView → Purse → Cargo
@@ -96,7 +96,7 @@ module _ (s : Case) where
   abbrev pub Starts : Type 0
   Starts = (asked : IsAsked s.p s.tokens knows s.x s.pass) → IsHeld s.p s.tokens knows s.x s.pass 0 1 s.c → Finds knows (IsAcquire s.x 0) →
       s.c.baton.payload.status ≡ Incomplete → Asks asked.access asked.request.address s.c.baton.payload →
-      Stocks s.tokens (hop_count s.pass) (numbers_for s.p s.tokens knows s.x s.pass asked) (λ j left. left ≡ 4) (2 * hop_count s.pass) 1 (length asked.access.sent + length asked.access.enables) s.c.baton.wallet →
+      Stocks s.tokens (hop_count s.pass) (numbers_for s.p s.tokens knows s.x s.pass asked) (λ j left. left ≡ 4) (2 * hop_count s.pass) 1 (logged_by asked.access) s.c.baton.wallet →
       Down 0
 
   -- each Take of an access is backed
@@ -174,7 +174,7 @@ module _ (s : Case) where
   -- SERVE. At the last hop the memory's Access has a ticket for its bytes and is backed by BEGIN_REQ.
   abbrev pub AccessPaid : Type 0
   AccessPaid = (k : ℕ) (d : Taken k) (r : Route) → route_for s.p s.tokens knows s.x s.pass d.asked ≡ Some r → (m : ℕ) → (numbers_for s.p s.tokens knows s.x s.pass d.asked).memory ≡ Some m →
-      (0 < left_of s.c.baton.wallet m) × (bytes_of s.c.baton.wallet m ≡ length s.c.baton.payload.bytes + length s.c.baton.payload.enables)
+      (0 < left_of s.c.baton.wallet m) × (bytes_of s.c.baton.wallet m ≡ logged_by (access_of s.c.baton.payload))
 
   -- the payload that a memory gives back, which stands for the access that it made
   abbrev pub Served : (k : ℕ) → Type 0
@@ -182,7 +182,7 @@ module _ (s : Case) where
       route_for s.p s.tokens knows s.x s.pass d.asked ≡ Some r → (numbers_for s.p s.tokens knows s.x s.pass d.asked).memory ≡ Some m →
       Finds knows (IsPhase s.x (hop_at s.pass k) BeginReq) → Finds knows (IsServed s.x d.asked.access r v) → v.status ≢ Incomplete → v.room ≡ s.c.baton.payload.room →
       PullsOwed s.tokens (request_ends (row k)) ((numbers_for s.p s.tokens knows s.x s.pass d.asked).hop k) s.c.baton.wallet w →
-      Pulls s.tokens m (length s.c.baton.payload.bytes + length s.c.baton.payload.enables) w u →
+      Pulls s.tokens m (logged_by (access_of s.c.baton.payload)) w u →
       GoesUp s.p s.tokens knows s.x s.pass Ready k (with_contents s.c v u)
 
   abbrev pub Serves : Type 0

@@ -15,7 +15,7 @@ use Rattle.tlm_types.specs.declared.entry.Content.{Content}
 use Rattle.tlm_types.specs.declared.entry.Entry.{Entry}
 use Rattle.tlm_types.specs.declared.entry.What.TheVariants.{Access as Accessed, Take}
 use Rattle.tlm_model.specs.Plan.{Plan, Initiator, initiators_of}
-use Rattle.tlm_model.specs.Requests.{Request, Transport, requests_of}
+use Rattle.tlm_model.specs.Requests.{Request, Transport, data_logged, requests_of}
 use Rattle.tlm_model.specs.Route.{Route, hops_of, route_of}
 use Rattle.generic_payload.specs.Payload.{PayloadView, access_of}
 use Rattle.token_book.specs.Account.{Slip}
@@ -57,9 +57,9 @@ numbers_of p x pass route = record {
   memory = memory_number p route;
 }
 
--- how many bytes an access logs
+-- how many bytes an access logs: a fetch_add its operand and what it finds
 abbrev pub logged_by : Access → ℕ
-logged_by a = length a.sent + length a.enables
+logged_by a = data_logged a.command (length a.sent) + length a.enables
 
 -- a reference of the initiator's pool: a token of the pool's second book, whose owner comes after those of all objects
 abbrev pub reference : Plan → TableId → TxnId → ℕ → ℕ → Slip

@@ -9,7 +9,7 @@ use traffic_script::read_script;
 
 /// The plan of a platform of one initiator with this script.
 pub(crate) fn plan_of(rt: &impl Abort, alloc: Global, platform: &str, script: &str) -> Plan {
-    let script = read_script(alloc, script.as_bytes()).expect(rt, "a script");
+    let script = read_script(alloc, script.as_bytes(), 1).expect(rt, "a script");
     let scripts = vec![in alloc; script].expect(rt, "room");
     let platform = read_platform(alloc, platform.as_bytes()).expect(rt, "a platform");
     let shape = shape(alloc, &platform).expect(rt, "a shape");

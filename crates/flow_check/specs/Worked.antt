@@ -33,12 +33,13 @@ use Rattle.good_history.specs.Good.{IsGood}
 abbrev pub plan_of : ReqMode → RespMode → ℕ → Target → List RouterRow → List Operation → Plan
 plan_of reply response size bind routers script = record {
   platform = record {
+    version = 1;
     quantum = 0;
     initiators = record { name = codes "dma"; style = fourphase_style; script = codes "a.txt"; bind = bind; pool = 4; response = response } ∷ [];
     routers = routers;
     memories = record {
       name = codes "ram";
-      traits = record { size = size; latency = 10; readable = true; writable = true; enables = true; streaming = true; dmi = true; gates = 16 };
+      traits = record { size = size; latency = 10; readable = true; writable = true; fetch_add = false; enables = true; streaming = true; dmi = true; gates = 16 };
       reply = reply;
       lanes = 4;
     } ∷ [];

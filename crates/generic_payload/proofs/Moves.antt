@@ -1,12 +1,13 @@
 -- Laws of what a write puts and a read takes.
-use Rattle.std.proofs.Common.{◌≡◌, ℕ, min, zero, suc, ◌+◌, ◌-◌, ◌<◌, ◌≤◌, ◌%◌, Bool, true, false, cond, List, [], ◌∷◌, ◌++◌, length, get_or, set, take, drop, map, sym, refl, ap, ◌∙◌, arith}
+use Rattle.std.proofs.Common.{◌≡◌, ℕ, min, zero, suc, ◌+◌, ◌-◌, ◌<◌, ◌≤◌, ◌%◌, Bool, true, false, cond, nat_eq, List, [], ◌∷◌, ◌++◌, length, get_or, set, take, drop, map, sym, refl, ap, ◌∙◌, arith}
 use Rattle.std.specs.List.{range_with_len}
 use Rattle.std.proofs.Math.Nat.{mod-eq_of_lt, mod-lt, mod-le, add-zero}
 use borrow.Rule.Slice.PartMut.{put_mid}
 use Rattle.std.proofs.lemmas.List.{set-append_left, set-append_right, length-set, length_push, drop_more, set_at, append_assoc, drop_all, take-append-drop, length-take-le, length-drop, get_or-take, get_or-drop}
 use Rattle.tlm_types.specs.declared.entry.Access.{Access}
-use Rattle.tlm_types.specs.declared.words.Command.TheVariants.{Read, Write}
+use Rattle.tlm_types.specs.declared.words.Command.TheVariants.{Read, Write, FetchAdd}
 use Rattle.tlm_types.specs.declared.words.Response.TheVariants.{Ok}
+use Rattle.tlm_model.specs.Numbers.{added, le_number}
 use Rattle.tlm_model.specs.Store.{put_from, taken_from, stored_by, got_by, span_of, is_enabled, place_of}
 use Rattle.lane_copy.specs.Lanes.{merged, merged_byte}
 use Rattle.lane_copy.proofs.Merged.{merged_from_bytes}
@@ -109,7 +110,7 @@ put_from_more a k bytes store next within put =
     ap (λ (s : List ℕ). put_from a (k + 1) (drop (k + 1) bytes) s) put ∙ sym (ap (λ (rest : List ℕ). put_from a k rest store) (drop_more bytes k 0 within))
 
 -- the span of a valid width
-span_of-wide : (p : PayloadView) → 0 < p.width → span_of (access_of p) ≡ min (length p.bytes) p.width
+pub span_of-wide : (p : PayloadView) → 0 < p.width → span_of (access_of p) ≡ min (length p.bytes) p.width
 span_of-wide p wide = grind arith
 
 -- each data byte has its place in the span
@@ -163,3 +164,18 @@ stored_by-plain p store m writes places spans plain =
     let long : length p.bytes ≡ length (take m (drop p.address store)) = omega (arith, length-span p store m places spans, spans, span_of-wide p places.wide) in
     let copied = put_from-merged p.bytes p.enables (take m (drop p.address store)) p.width long plain in
     rw writes (sym (put_from-span p store m places spans ∙ rw copied refl))
+
+-- a fetch_add finds what a read would get
+pub got_by-word : (p : PayloadView) (store : List ℕ) (m : ℕ) → p.command ≡ FetchAdd → HasPlaces (access_of p) (length store) → m ≡ span_of (access_of p) → length p.bytes ≤ p.width → merged p.bytes (take m (drop p.address store)) p.enables ≡ got_by p.command Ok (access_of p) store
+got_by-word p store m fetches places spans plain =
+    rw fetches (sym (taken_from-span p store m places.wide spans ∙ taken_from-merged p.bytes p.enables (take m (drop p.address store)) p.width plain))
+
+-- a fetch_add puts the sum as a write would
+pub stored_by-word : (p : PayloadView) (store : List ℕ) (m : ℕ) → p.command ≡ FetchAdd → HasPlaces (access_of p) (length store) → m ≡ span_of (access_of p) → length p.bytes ≡ 4 → 4 ≤ p.width → put_mid p.address m store (merged (take m (drop p.address store)) (added (merged p.bytes (take m (drop p.address store)) p.enables) (le_number p.bytes)) p.enables) ≡ stored_by p.command Ok (access_of p) store
+stored_by-word p store m fetches places spans four plain =
+    let found = merged p.bytes (take m (drop p.address store)) p.enables in
+    let taken : found ≡ taken_from (access_of p) 0 p.bytes store = sym (taken_from-span p store m places.wide spans ∙ taken_from-merged p.bytes p.enables (take m (drop p.address store)) p.width (omega arith)) in
+    let q : PayloadView = record p { command = Write; bytes = added found (le_number p.bytes) } in
+    let same : span_of (access_of q) ≡ span_of (access_of p) = ap (λ (n : ℕ). cond (nat_eq p.width 0) n (min n p.width)) (sym four) in
+    let put = stored_by-plain q store m refl (record { inside = rw same places.inside; wide = places.wide }) (spans ∙ sym same) plain in
+    rw fetches (put ∙ ap (λ (bytes : List ℕ). put_from (access_of p) 0 (added bytes (le_number p.bytes)) store) taken)

@@ -1,7 +1,7 @@
 -- What contracts see of a payload, and the access that it stands for (IEEE 1666-2011, clause 14).
-use Rattle.std.specs.Prelude.{ℕ, ◌+◌, ◌<◌, ◌≤◌, Bool, false, ◌||◌, ◌==◌, List, [], length, take, drop}
+use Rattle.std.specs.Prelude.{ℕ, ◌≡◌, ◌+◌, ◌<◌, ◌≤◌, Bool, false, List, [], length, take, drop}
 use Rattle.tlm_types.specs.declared.words.Command.{Command}
-use Rattle.tlm_types.specs.declared.words.Command.TheVariants.{Write, Ignore}
+use Rattle.tlm_types.specs.declared.words.Command.TheVariants.{Read, Write, Ignore, FetchAdd}
 use Rattle.tlm_types.specs.declared.words.Response.{Response}
 use Rattle.tlm_types.specs.declared.words.Response.TheVariants.{Incomplete}
 use Rattle.tlm_types.specs.declared.entry.Access.{Access}
@@ -35,7 +35,14 @@ access_of p = record { command = p.command; offset = p.address; length = length 
 abbrev pub access_from_start : List ℕ → List ℕ → ℕ → Access
 access_from_start bytes enables width = record { command = Write; offset = 0; length = length bytes; sent = bytes; enables = enables; width = width }
 
--- a read or a write finds its places among this many bytes
+-- the data of a fetch_add is one word
+abbrev pub HasWord : Command → List ℕ → ℕ → Type 0
+HasWord Read bytes width = Unit {0}
+HasWord Write bytes width = Unit {0}
+HasWord Ignore bytes width = Unit {0}
+HasWord FetchAdd bytes width = (length bytes ≡ 4) × (width ≡ 4)
+
+-- a read, a write or a fetch_add finds its places among this many bytes
 pub record HasPlaces (a : Access) (size : ℕ) : Type 0 where
   pub inside : a.offset + span_of a ≤ size
   pub wide : 0 < a.width

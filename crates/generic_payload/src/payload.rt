@@ -1,11 +1,13 @@
 // A payload, and what it asks of a memory.
 ghost use Rattle.std.specs.Prelude.{◌≡◌, ◌≢◌, ◌↔◌, ◌+◌, ◌<◌, ◌≤◌, [], ◌++◌, length, take, drop, IsTrue, IfOk, true, false, vec_len, vec_capacity};
 ghost use Rattle.std.specs.List.{list_all};
-ghost use Rattle.generic_payload.specs.Payload.{PayloadView, new_payload, access_of, moved_by, HasPlaces};
+ghost use Rattle.generic_payload.specs.Payload.{PayloadView, new_payload, access_of, moved_by, HasPlaces, HasWord};
 ghost use Rattle.tlm_types.specs.Enables.{is_enable};
+ghost use Rattle.tlm_model.specs.Numbers.{le_bytes};
 ghost use Rattle.tlm_model.specs.Store.{zeros, span_of, is_allowed, checked, status_by, stored_by, got_by};
 
 use crate::stream::{stream_from, stream_into};
+use crate::word::fetch_word;
 use lane_copy::merge;
 use std::alloc::Global;
 use std::marker::Model;
@@ -32,7 +34,7 @@ struct Attributes {
 
 impl Model for Payload {
     ghost use Rattle.std.specs.Prelude.{◌≤◌, length, vec_capacity};
-    ghost use Rattle.generic_payload.specs.Payload.{PayloadView, viewed};
+    ghost use Rattle.generic_payload.specs.Payload.{PayloadView, viewed, HasWord};
 
     ghost Value = { PayloadView };
 
@@ -40,7 +42,8 @@ impl Model for Payload {
 
     ghost invariant = { λ p.
         (p.attributes.value.room ≤ vec_capacity p.attributes.value.bytes) × (length p.attributes.value.bytes.items ≤ p.attributes.value.room)
-        × (p.attributes.value.room ≤ vec_capacity p.attributes.value.enables) × (length p.attributes.value.enables.items ≤ p.attributes.value.room) };
+        × (p.attributes.value.room ≤ vec_capacity p.attributes.value.enables) × (length p.attributes.value.enables.items ≤ p.attributes.value.room)
+        × HasWord p.attributes.value.command p.attributes.value.bytes.items p.attributes.value.width };
 }
 
 impl Payload {
@@ -105,6 +108,22 @@ impl Payload {
         fill(&mut self.attributes.bytes, length as usize);
     }
 
+    /// Makes it a fetch_add of this operand: an access of four bytes, without byte enables, whose data
+    /// is the operand, the least byte first.
+    pub fn set_fetch_add(&mut self, address: u64, operand: u32)
+        requires roomy { 4 ≤ self.old.room }
+        ensures { self.new ≡ record (new_payload self.old.room) {
+          command = Command.FetchAdd;
+          address = address;
+          bytes = le_bytes operand;
+          width = 4;
+        } }
+    {
+        self.begin(Command::Ignore, address, 4);
+        append(&mut self.attributes.bytes, &operand.to_le_bytes());
+        self.attributes.command = Command::FetchAdd;
+    }
+
     /// Makes it an ignore command, with no data.
     pub fn set_ignore(&mut self, address: u64)
         ensures { self.new ≡ record (new_payload self.old.room) { address = address } }
@@ -113,6 +132,7 @@ impl Payload {
     }
 
     fn begin(&mut self, command: Command, address: u64, width: u64)
+        requires { command ≢ Command.FetchAdd }
         ensures { self.new ≡ record (new_payload self.old.room) {
           command = command;
           address = address;
@@ -153,10 +173,12 @@ impl Payload {
         self.attributes.address
     }
 
-    /// The data bytes: those to write, or the buffer of a read.
+    /// The data bytes: those to write, the buffer of a read, or the operand of a fetch_add, and after it
+    /// the four bytes that it found.
     pub fn bytes(&self) -> &[u8]
         ensures value { result.now ≡ self.now.bytes }
         ensures roomy { length self.now.bytes ≤ self.now.room }
+        ensures word { HasWord self.now.command self.now.bytes self.now.width }
     {
         &self.attributes.bytes
     }
@@ -220,8 +242,8 @@ impl Payload {
 
     /// The status that a memory with these traits gives the payload: OK for an ignore command,
     /// and else by the first of these that fails: the bytes lie within the memory, it allows the
-    /// command, it has byte enables where there are some, the width is valid. After OK a read or a
-    /// write finds its places in the memory.
+    /// command, it has byte enables where there are some, the width is valid. After OK a read, a write
+    /// or a fetch_add finds its places in the memory.
     pub fn check(&self, traits: &MemoryTraits) -> Response
         ensures status { result ≡ status_by traits.now (access_of self.now) self.now.command }
         ensures places { result ≡ Response.Ok → self.now.command ≢ Command.Ignore →
@@ -231,6 +253,10 @@ impl Payload {
             Command::Ignore => Response::Ok,
             Command::Read => self.check_places(traits, traits.readable),
             Command::Write => self.check_places(traits, traits.writable),
+            Command::FetchAdd => self.check_places(
+                traits,
+                traits.readable && traits.writable && traits.fetch_add,
+            ),
         }
     }
 
@@ -313,6 +339,26 @@ impl Payload {
             let attributes = &mut *self.attributes;
             merge(&mut attributes.bytes, places, &attributes.enables);
         }
+    }
+
+    /// Does a fetch_add on the bytes of a memory, where the check gave OK for a memory of that size: the
+    /// four bytes at the address become their sum with the operand, modulo 2^32, and the payload's data
+    /// is what stood there before.
+    pub fn fetch_into(&mut self, store: &mut [u8])
+        requires fetch { self.old.command ≡ Command.FetchAdd }
+        requires places { HasPlaces (access_of self.old) (length store.old) }
+        ensures payload { self.new ≡ record self.old {
+          bytes = got_by self.old.command Response.Ok (access_of self.old) store.old;
+        } }
+        ensures store { store.new ≡ stored_by self.old.command Response.Ok (access_of self.old) store.old }
+    {
+        let start = self.attributes.address as usize;
+        let attributes = &mut *self.attributes;
+        fetch_word(
+            &mut attributes.bytes,
+            &attributes.enables,
+            &mut store[start..start + 4],
+        );
     }
 
     /// Moves the bytes of a memory from the address on to the front of the data, to the memory's end at

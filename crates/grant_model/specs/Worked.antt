@@ -1,5 +1,5 @@
 -- Worked runs of a direct initiator: plans and histories that were made by hand.
-use Rattle.std.specs.Prelude.{ℕ, ◌≢◌, List, [], ◌∷◌, length, true, codes, Some, None}
+use Rattle.std.specs.Prelude.{ℕ, ◌≢◌, List, [], ◌∷◌, length, true, false, codes, Some, None}
 use Rattle.tlm_types.specs.declared.words.Command.TheVariants.{Read as read_command}
 use Rattle.tlm_types.specs.declared.words.Kind.TheVariants.{Both}
 use Rattle.tlm_types.specs.declared.words.ReqMode.TheVariants.{Accept}
@@ -25,12 +25,13 @@ use Rattle.grant_model.specs.Kept.{AsksAreAnswered, ClosesForInvalidations, Ends
 abbrev pub direct_plan : Target → List RouterRow → ℕ → List Operation → Plan
 direct_plan bind routers gates script = record {
   platform = record {
+    version = 1;
     quantum = 0;
     initiators = record { name = codes "d"; style = direct_style; script = codes "a.txt"; bind = bind; pool = 4; response = accept_response } ∷ [];
     routers = routers;
     memories = record {
       name = codes "ram";
-      traits = record { size = 256; latency = 10; readable = true; writable = true; enables = true; streaming = true; dmi = true; gates = gates };
+      traits = record { size = 256; latency = 10; readable = true; writable = true; fetch_add = false; enables = true; streaming = true; dmi = true; gates = gates };
       reply = Accept;
       lanes = 4;
     } ∷ [];

@@ -5,13 +5,12 @@ use Rattle.time_board.specs.Rounds.{AreClose, members_finished}
 use Rattle.tlm_model.specs.Plan.{Plan}
 use Rattle.initiator_run.specs.Board.{HasGoneOn, IsInRound, SyncsOnce}
 use Rattle.region_object.specs.Region.{LoggedMemory}
-use Rattle.script_engine.specs.declared.op.Op.{Op}
+use Rattle.script_engine.specs.declared.part.Transfer.{Transfer}
 use Rattle.initiator_run.specs.Moves.{HasAdvanced, IsUnderWay, Keeps}
-use Rattle.initiator_run.specs.Run.{Run, accessed, arrived, engine_after}
+use Rattle.initiator_run.specs.Run.{Run, accessed}
 use Rattle.initiator_run.specs.Turns.{HasRoomAt}
 use Rattle.initiator_run.proofs.BoardLemmas.{HasGoneOn-finished, HasGoneOn-moved, HasGoneOn-then}
-use Rattle.initiator_run.proofs.CountLemmas.{with_sync_finished}
-use Rattle.initiator_run.proofs.RunLemmas.{IsUnderWay-kept, Keeps-round, Keeps-then, SyncsOnce-by_access, few_syncs}
+use Rattle.initiator_run.proofs.RunLemmas.{IsUnderWay-kept, Keeps-round, Keeps-then, SyncsOnce-by_access, accessed_finished, few_syncs}
 
 -- a run has gone on from where it began
 pub record Goes (p : Plan) (a b : Run) (before after : List Member) : Type 0 where
@@ -42,10 +41,10 @@ Goes-ended p a b c before middle after who is going goes let_in same mine left c
     (left ∙ ap (members_finished middle) number) close
 
 -- by an access
-pub gone_accessed : (p : Plan) (a b c : Run) (before after : List Member) (op : Op) (by : ℕ) (got : List ℕ) → IsUnderWay p a → Keeps p a b → HasGoneOn a b before after → b.round ≡ b.syncs → c ≡ accessed op by got b → HasGoneOn a c before after
-gone_accessed p a b c before after op by got way keeps gone let_in run =
-    HasGoneOn-moved a b c before after gone let_in (SyncsOnce-by_access b c op by got run (few_syncs p b (IsUnderWay-kept p a b way keeps)))
-    (ap (λ (r : Run). r.finished) run ∙ with_sync_finished op (record b { engine = engine_after b.engine got; keeper = arrived op by b.keeper }))
+pub gone_accessed : (p : Plan) (a b c : Run) (before after : List Member) (x : Transfer) (by : ℕ) (got : List ℕ) → IsUnderWay p a → Keeps p a b → HasGoneOn a b before after → b.round ≡ b.syncs → c ≡ accessed x by got b → HasGoneOn a c before after
+gone_accessed p a b c before after x by got way keeps gone let_in run =
+    HasGoneOn-moved a b c before after gone let_in (SyncsOnce-by_access b c x by got run (few_syncs p b (IsUnderWay-kept p a b way keeps)))
+    (ap (λ (r : Run). r.finished) run ∙ accessed_finished x by got b)
 
 -- a memory that has room is there
 pub room_within : (regions : List LoggedMemory) (k : ℕ) → HasRoomAt regions k → k < length regions

@@ -1,5 +1,5 @@
 -- What a run counts, as it moves on.
-use Rattle.std.proofs.Common.{◌≡◌, ℕ, ◌+◌, ◌-◌, ◌^◌, ◌<◌, ◌≤◌, Bool, true, false, ◌||◌, ◌&&◌, cond, refl, ap, sym, ◌∙◌, arith}
+use Rattle.std.proofs.Common.{◌≡◌, ℕ, ◌+◌, ◌-◌, ◌^◌, ◌<◌, ◌≤◌, Bool, true, false, ◌||◌, ◌&&◌, cond, refl, ap, sym, subst, ◌∙◌, arith}
 use Rattle.tlm_model.specs.declared.platform.Platform.{Platform}
 use Rattle.tlm_model.specs.Plan.{Initiator}
 use Rattle.tlm_model.specs.Requests.{end_of}
@@ -23,44 +23,44 @@ pub time_stepped : (k : Keeper) (by : ℕ) → current_time (stepped k by) ≡ l
 time_stepped k by = stepped_time k.last_sync k.local by
 
 -- the time that a sync leaves
-pub with_sync_time : (op : Op) (r : Run) → current_time (with_sync op r).keeper ≡ current_time r.keeper
-with_sync_time op r = by_cases (is_due op r)
+pub with_sync_time : (sync : Bool) (r : Run) → current_time (with_sync sync r).keeper ≡ current_time r.keeper
+with_sync_time sync r = by_cases (is_due sync r)
   where
     by_cases : (b : Bool) → current_time (cond b (record r { keeper = synced r.keeper; syncs = once_more r.syncs }) r).keeper ≡ current_time r.keeper
     by_cases true = synced_time r.keeper
     by_cases false = refl
 
-pub with_sync_engine : (op : Op) (r : Run) → (with_sync op r).engine ≡ r.engine
-with_sync_engine op r = by_cases (is_due op r)
+pub with_sync_engine : (sync : Bool) (r : Run) → (with_sync sync r).engine ≡ r.engine
+with_sync_engine sync r = by_cases (is_due sync r)
   where
     by_cases : (b : Bool) → (cond b (record r { keeper = synced r.keeper; syncs = once_more r.syncs }) r).engine ≡ r.engine
     by_cases true = refl
     by_cases false = refl
 
-pub with_sync_refused : (op : Op) (r : Run) → (with_sync op r).refused ≡ r.refused
-with_sync_refused op r = by_cases (is_due op r)
+pub with_sync_refused : (sync : Bool) (r : Run) → (with_sync sync r).refused ≡ r.refused
+with_sync_refused sync r = by_cases (is_due sync r)
   where
     by_cases : (b : Bool) → (cond b (record r { keeper = synced r.keeper; syncs = once_more r.syncs }) r).refused ≡ r.refused
     by_cases true = refl
     by_cases false = refl
 
-pub with_sync_finished : (op : Op) (r : Run) → (with_sync op r).finished ≡ r.finished
-with_sync_finished op r = by_cases (is_due op r)
+pub with_sync_finished : (sync : Bool) (r : Run) → (with_sync sync r).finished ≡ r.finished
+with_sync_finished sync r = by_cases (is_due sync r)
   where
     by_cases : (b : Bool) → (cond b (record r { keeper = synced r.keeper; syncs = once_more r.syncs }) r).finished ≡ r.finished
     by_cases true = refl
     by_cases false = refl
 
-pub with_sync_round : (op : Op) (r : Run) → (with_sync op r).round ≡ r.round
-with_sync_round op r = by_cases (is_due op r)
+pub with_sync_round : (sync : Bool) (r : Run) → (with_sync sync r).round ≡ r.round
+with_sync_round sync r = by_cases (is_due sync r)
   where
     by_cases : (b : Bool) → (cond b (record r { keeper = synced r.keeper; syncs = once_more r.syncs }) r).round ≡ r.round
     by_cases true = refl
     by_cases false = refl
 
 -- at most one sync is made
-pub with_sync_once : (op : Op) (r : Run) → r.syncs < 2 ^ 64 → (r.syncs ≤ (with_sync op r).syncs) × ((with_sync op r).syncs ≤ r.syncs + 1)
-with_sync_once op r few = by_cases (is_due op r)
+pub with_sync_once : (sync : Bool) (r : Run) → r.syncs < 2 ^ 64 → (r.syncs ≤ (with_sync sync r).syncs) × ((with_sync sync r).syncs ≤ r.syncs + 1)
+with_sync_once sync r few = by_cases (is_due sync r)
   where
     by_cases : (b : Bool) → (r.syncs ≤ (cond b (record r { keeper = synced r.keeper; syncs = once_more r.syncs }) r).syncs) × ((cond b (record r { keeper = synced r.keeper; syncs = once_more r.syncs }) r).syncs ≤ r.syncs + 1)
     by_cases true = (omega arith, omega arith)
@@ -92,8 +92,8 @@ pub record Leaves (p : Platform) (i : Initiator) (r : Run) (op : Op) (e : State)
   pub rounds : (s : ℕ) → rounds_at p i r.keeper.last_sync (current_time r.keeper) r.engine (s + (e.seq - r.engine.seq)) ≡ rounds_then p i r.keeper.last_sync (time_after_op p i (current_time r.keeper) op) op e s
   pub numbers : numbers_at e ≡ numbers_at r.engine
 
-pub HasCounted-moved : (p : Platform) (i : Initiator) (r : Run) (op : Op) (e : State) (k : Keeper) → HasCounted p i r → Leaves p i r op e k → HasCounted p i (with_sync op (record r { engine = e; keeper = k }))
-HasCounted-moved p i r op e k has leaves = by_cases (is_due op next) left rounds_left
+HasCounted-then : (p : Platform) (i : Initiator) (r : Run) (op : Op) (e : State) (k : Keeper) → HasCounted p i r → Leaves p i r op e k → HasCounted p i (with_sync (is_sync_op op) (record r { engine = e; keeper = k }))
+HasCounted-then p i r op e k has leaves = by_cases (is_due (is_sync_op op) next) left rounds_left
   where
     next : Run
     next = record r { engine = e; keeper = k }
@@ -152,3 +152,6 @@ HasCounted-moved p i r op e k has leaves = by_cases (is_due op next) left rounds
       few = has.few;
       roomy = has.roomy;
     }
+
+pub HasCounted-moved : (p : Platform) (i : Initiator) (r : Run) (op : Op) (sync : Bool) (e : State) (k : Keeper) → is_sync_op op ≡ sync → HasCounted p i r → Leaves p i r op e k → HasCounted p i (with_sync sync (record r { engine = e; keeper = k }))
+HasCounted-moved p i r op sync e k same has leaves = subst (λ (b : Bool). HasCounted p i (with_sync b (record r { engine = e; keeper = k }))) same (HasCounted-then p i r op e k has leaves)

@@ -16,14 +16,15 @@ use Rattle.tlm_model.proofs.EachLemmas.{append_nil}
 use Rattle.quantum_keeper.specs.Keeper.{current_time}
 use Rattle.script_engine.specs.declared.op.Op.TheVariants as next
 use Rattle.script_engine.specs.Laws.{BeginsAtTheStart, EndsWithNothingLeft}
-use Rattle.script_engine.specs.State.{begun_engine, op_of, payload_of}
-use Rattle.script_engine.specs.Asking.{requests_at, syncs_at}
+use Rattle.script_engine.specs.State.{begun_engine, next_of, op_of, payload_of}
+use Rattle.script_engine.specs.declared.part.Part.TheVariants.{Asks}
+use Rattle.script_engine.specs.declared.part.Transfer.{Transfer}
+use Rattle.script_engine.specs.Asking.{request_for, requests_at, syncs_at}
 use Rattle.initiator_run.specs.Come.{HasCome, has_ended, rounds_at}
 use Rattle.traffic_script.specs.Proper.{IsProper}
-use Rattle.initiator_run.specs.Run.{Run, fresh_run, refused_item, request_for, IsAccessOp, address_of}
+use Rattle.initiator_run.specs.Run.{Run, fresh_run, refused_item}
 use Rattle.initiator_run.proofs.ComeLemmas.{HasMade-other}
-use Rattle.initiator_run.proofs.NextLemmas.{request_is_first, seq_of_request}
-use Rattle.initiator_run.proofs.AccessLemmas.{request_address}
+use Rattle.initiator_run.proofs.NextLemmas.{request_is_first, seq_of_next}
 
 -- all that a run has come to, while another initiator makes an entry
 pub HasCome-other : (p : Platform) (i : Initiator) (h : List Entry) (e : Entry) (r : Run) → nat_eq e.txn.initiator i.number ≡ false → HasCome p i h r → HasCome p i (h ++ e ∷ []) r
@@ -122,21 +123,20 @@ pub blocking_syncs : (style : Style) (n : ℕ) → style ≡ blocking_style → 
 blocking_syncs style n is = ap (λ (s : Style). syncs_by s n) is
 
 -- a request with a route that is next has no answer yet
-pub request_is_open : (p : Platform) (i : Initiator) (h : List Entry) (r : Run) (route : Route) → IsAccessOp (op_of r.engine) → route_of p i (address_of (op_of r.engine)) ≡ Some route → (come : HasCome p i h r)
-    → is_settled p i h (request_for (op_of r.engine) (payload_of r.engine 0) (current_time r.keeper) come.stage) ≡ false
-request_is_open p i h r route is leads come =
-    let q = request_for (op_of r.engine) (payload_of r.engine 0) (current_time r.keeper) come.stage in
-    ap (λ (o : Option Route). is_none o || has_answer i.number q.seq h) (ap (route_of p i) (request_address (op_of r.engine) (payload_of r.engine 0) (current_time r.keeper) come.stage is) ∙ leads)
-    ∙ (ap (λ (s : ℕ). has_answer i.number s h) (seq_of_request (current_time r.keeper) come.stage 0 r.engine is)
+pub request_is_open : (p : Platform) (i : Initiator) (h : List Entry) (r : Run) (x : Transfer) (route : Route) → next_of r.engine ≡ Asks x → route_of p i x.address ≡ Some route → (come : HasCome p i h r)
+    → is_settled p i h (request_for x (payload_of r.engine 0) (current_time r.keeper) come.stage) ≡ false
+request_is_open p i h r x route is leads come =
+    ap (λ (o : Option Route). is_none o || has_answer i.number x.seq h) leads
+    ∙ (ap (λ (s : ℕ). has_answer i.number s h) (seq_of_next r.engine x is)
     ∙ come.asked.fresh r.engine.seq (omega (arith, come.count)))
 
 -- a script has not ended where a request with a route is next
-pub HasCome-open : (p : Platform) (i : Initiator) (h : List Entry) (r : Run) (route : Route) → IsAccessOp (op_of r.engine) → route_of p i (address_of (op_of r.engine)) ≡ Some route → HasCome p i h r → has_ended p i h ≡ false
-HasCome-open p i h r route is leads come =
-    let q = request_for (op_of r.engine) (payload_of r.engine 0) (current_time r.keeper) come.stage in
-    let first = request_is_first p i h (current_time r.keeper) come.stage 0 r.engine is in
-    ap (list_all (is_settled p i h)) (requests_now p i h r come ∙ ap (λ (x : List Request). come.made ++ x) first.first)
-    ∙ one_unsettled p i h come.made first.more q (request_is_open p i h r route is leads come)
+pub HasCome-open : (p : Platform) (i : Initiator) (h : List Entry) (r : Run) (x : Transfer) (route : Route) → next_of r.engine ≡ Asks x → route_of p i x.address ≡ Some route → HasCome p i h r → has_ended p i h ≡ false
+HasCome-open p i h r x route is leads come =
+    let q = request_for x (payload_of r.engine 0) (current_time r.keeper) come.stage in
+    let first = request_is_first p i h (current_time r.keeper) come.stage 0 r.engine x is in
+    ap (list_all (is_settled p i h)) (requests_now p i h r come ∙ ap (λ (asked : List Request). come.made ++ asked) first.first)
+    ∙ one_unsettled p i h come.made first.more q (request_is_open p i h r x route is leads come)
 
 -- a run that has not begun
 pub HasCome-begun : (begins : BeginsAtTheStart) (p : Platform) (i : Initiator) (room : ℕ) → syncs_from p i 0 0 i.script < 2 ^ 64 → numbers_in i.script ≤ room → AllByRecursion IsProper i.script → HasCome p i [] (fresh_run i.number i.script p.quantum room)

@@ -1,7 +1,8 @@
 -- The entry of a turn, and the history with it.
-use Rattle.std.proofs.Common.{◌≡◌, ℕ, ◌≤◌, List, [], ◌∷◌, ◌++◌, length, Option, Some, true, refl, ap, sym, subst, ◌∙◌, None, cond}
+use Rattle.std.proofs.Common.{◌≡◌, ℕ, ◌≤◌, List, [], ◌∷◌, ◌++◌, length, Option, Some, true, refl, ap, sym, subst, ◌∙◌, None, cond, arith}
 use Rattle.std.specs.List.{AllByRecursion}
 use Rattle.std.specs.Prelude.{slice_get, IsSomeAnd}
+use Rattle.std.proofs.lemmas.Grind.{common_steps}
 use Rattle.std.proofs.lemmas.List.Elements.{filter-append}
 use Rattle.tlm_types.specs.declared.entry.Entry.{Entry}
 use Rattle.tlm_types.specs.declared.words.MemoryTraits.{MemoryTraits}
@@ -15,42 +16,34 @@ use Rattle.tlm_model.specs.Kept.{KeepsRequests}
 use Rattle.tlm_model.specs.Log.{bytes_from, log_bytes}
 use Rattle.tlm_model.specs.Plan.{Plan, Initiator, initiators_of}
 use Rattle.tlm_model.specs.Requests.{Asked, Request}
-use Rattle.tlm_model.specs.Route.{Route as RouteOfModel, later, route_of, before_of}
+use Rattle.tlm_model.specs.Route.{Route as RouteOfModel, before_of}
 use Rattle.tlm_model.specs.Scripts.{RunsScripts}
 use Rattle.tlm_model.specs.Times.{HasDecoupledTimes, access_time}
 use Rattle.tlm_model.proofs.PartsLemmas.{store_from-parts}
 use Rattle.generic_payload.specs.Payload.{PayloadView}
 use Rattle.region_object.specs.Region.{LoggedMemory}
 use Rattle.route_plan.specs.declared.step.Route.{Route}
-use Rattle.script_engine.specs.declared.op.Op.{Op}
-use Rattle.script_engine.specs.declared.op.Op.TheVariants as next
-use Rattle.script_engine.specs.State.{op_of, is_fenced, payload_of}
-use Rattle.script_engine.specs.Asking.{IsAnswered, requests_at}
+use Rattle.script_engine.specs.declared.part.Part.TheVariants.{Asks}
+use Rattle.script_engine.specs.declared.part.Transfer.{Transfer}
+use Rattle.script_engine.specs.Part.{is_fenced_kind, is_fenced_part}
+use Rattle.script_engine.specs.State.{next_of, op_of, payload_of}
+use Rattle.script_engine.specs.Asking.{IsAnswered, arrival, request_for, requests_at}
 use Rattle.quantum_keeper.specs.Keeper.{current_time}
-use Rattle.initiator_run.specs.Access.{IsRouteOf, bytes_back, entry_made, model_route, time_at}
+use Rattle.initiator_run.specs.Access.{IsRouteOf, bytes_back, entry_made, model_route}
 use Rattle.initiator_run.specs.Come.{HasCome}
 use Rattle.initiator_run.specs.Entry.{IsAccess, access_at, answered_by, request_entry, way_of}
-use Rattle.initiator_run.specs.Run.{Run, IsAccessOp, accessed, address_of, request_for}
-use Rattle.initiator_run.proofs.AccessLemmas.{HasCome-answered, request_address}
-use Rattle.initiator_run.proofs.NextLemmas.{request_is_first, seq_of_request, numbers_at}
+use Rattle.initiator_run.specs.Run.{Run, accessed}
+use Rattle.initiator_run.proofs.AccessLemmas.{HasCome-answered}
+use Rattle.initiator_run.proofs.NextLemmas.{request_is_first, seq_of_next, numbers_at}
 use Rattle.initiator_run.proofs.ReplyLemmas.{routed_answers}
 use Rattle.initiator_run.proofs.RunLemmas.{laws}
 use Rattle.initiator_run.proofs.StepLemmas.{HasDecoupledTimes-push, IsNext, KeepsRequests-push, RunsScripts-push}
 
--- the stage of a request doesn't show in its entry
-same_stage : (p : Platform) (i : Initiator) (op : Op) (payload : PayloadView) (t g : ℕ) (route : RouteOfModel) (m : MemoryTraits) (bytes : List ℕ) (position : ℕ) → request_entry p i (request_for op payload t 0) route m bytes position ≡ request_entry p i (request_for op payload t g) route m bytes position
-same_stage p i (next.Access s a n command plain fenced) payload t g route m bytes position = refl
-same_stage p i op payload t g route m bytes position = refl
+same_time : (p : Platform) (i : Initiator) (x : Transfer) (payload : PayloadView) (t g before : ℕ) → before ≡ before_of p i x.address → arrival x.kind t before ≡ access_time p i (request_for x payload t g) (way_of (request_for x payload t g).asked)
+same_time p i x payload t g before same = grind (arith, common_steps)
 
-same_time : (p : Platform) (i : Initiator) (op : Op) (payload : PayloadView) (t before : ℕ) → before ≡ before_of p i (address_of op) → IsAccessOp op → time_at op t before ≡ access_time p i (request_for op payload t 0) (way_of (request_for op payload t 0).asked)
-same_time p i (next.Access s a n command plain fenced) payload t before q is = ap (later t) q
-same_time p i (next.Debug s a n) payload t before q is = refl
-same_time p i op payload t before q is = absurd is
-
-is_access : (op : Op) (payload : PayloadView) (t g : ℕ) → IsAccessOp op → IsAccess (request_for op payload t g).asked
-is_access (next.Access s a n command plain fenced) payload t g is = tt
-is_access (next.Debug s a n) payload t g is = tt
-is_access op payload t g is = absurd is
+is_access : (x : Transfer) (payload : PayloadView) (t g : ℕ) → IsAccess (request_for x payload t g).asked
+is_access x payload t g = grind (arith, common_steps)
 
 abbrev entry_with : ℕ → ℕ → ℕ → ℕ → ℕ → Asked → RouteOfModel → MemoryTraits → List ℕ → Entry
 entry_with position number initiator seq time asked route m bytes = record {
@@ -62,17 +55,16 @@ entry_with position number initiator seq time asked route m bytes = record {
 }
 
 -- the entry that a turn makes is that of the request
-pub entry_is : (p : Plan) (i : Initiator) (r : Run) (m : LoggedMemory) (route : Route) (position g : ℕ) → IsAccessOp (op_of r.engine) → IsRouteOf p i (address_of (op_of r.engine)) route → m.number ≡ route.memory → r.engine.initiator ≡ i.number
-    → entry_made r m route position ≡ request_entry p.platform i (request_for (op_of r.engine) (payload_of r.engine 4096) (current_time r.keeper) g) (model_route route) m.traits (log_bytes m.traits m.log.entries) position
-entry_is p i r m route position g is leads number mine =
+pub entry_is : (p : Plan) (i : Initiator) (r : Run) (x : Transfer) (m : LoggedMemory) (route : Route) (position g : ℕ) → next_of r.engine ≡ Asks x → IsRouteOf p i x.address route → m.number ≡ route.memory → r.engine.initiator ≡ i.number
+    → entry_made r x m route position ≡ request_entry p.platform i (request_for x (payload_of r.engine 4096) (current_time r.keeper) g) (model_route route) m.traits (log_bytes m.traits m.log.entries) position
+entry_is p i r x m route position g is leads number mine =
     let t = current_time r.keeper in
     let bytes = log_bytes m.traits m.log.entries in
-    let q : Request = request_for (op_of r.engine) (payload_of r.engine 4096) t 0 in
-    ap (λ (x : ℕ). entry_with position x r.engine.initiator r.engine.seq (time_at (op_of r.engine) t route.before) q.asked (model_route route) m.traits bytes) number
-    ∙ (ap (λ (x : ℕ). entry_with position route.memory x r.engine.seq (time_at (op_of r.engine) t route.before) q.asked (model_route route) m.traits bytes) mine
-    ∙ (ap (λ (x : ℕ). entry_with position route.memory i.number x (time_at (op_of r.engine) t route.before) q.asked (model_route route) m.traits bytes) (sym (seq_of_request t 0 4096 r.engine is))
-    ∙ (ap (λ (x : ℕ). entry_with position route.memory i.number q.seq x q.asked (model_route route) m.traits bytes) (same_time p.platform i (op_of r.engine) (payload_of r.engine 4096) t route.before leads.before is)
-    ∙ same_stage p.platform i (op_of r.engine) (payload_of r.engine 4096) t g (model_route route) m.traits bytes position)))
+    let q : Request = request_for x (payload_of r.engine 4096) t g in
+    ap (λ (n : ℕ). entry_with position n r.engine.initiator r.engine.seq (arrival x.kind t route.before) q.asked (model_route route) m.traits bytes) number
+    ∙ (ap (λ (n : ℕ). entry_with position route.memory n r.engine.seq (arrival x.kind t route.before) q.asked (model_route route) m.traits bytes) mine
+    ∙ (ap (λ (n : ℕ). entry_with position route.memory i.number n (arrival x.kind t route.before) q.asked (model_route route) m.traits bytes) (sym (seq_of_next r.engine x is))
+    ∙ ap (λ (n : ℕ). entry_with position route.memory i.number q.seq n q.asked (model_route route) m.traits bytes) (same_time p.platform i x (payload_of r.engine 4096) t g route.before leads.before)))
 
 -- the bytes of a memory are those of the store
 pub bytes_are : (p : Plan) (h log : List Entry) (k : ℕ) (row : MemoryRow) (traits : MemoryTraits) → slice_get p.platform.memories k ≡ Some row → traits ≡ row.traits → log ≡ entries_at (memory_object k) h → log_bytes traits log ≡ last_store p.platform h k
@@ -91,19 +83,19 @@ pub record IsAtMemory (p : Plan) (h : List Entry) (route : Route) (m : LoggedMem
   pub log : m.log.entries ≡ entries_at (memory_object route.memory) h
 
 -- the request that a run makes next
-abbrev pub request_made : Run → ℕ → Request
-request_made r stage = request_for (op_of r.engine) (payload_of r.engine 4096) (current_time r.keeper) stage
+abbrev pub request_made : Run → Transfer → ℕ → Request
+request_made r x stage = request_for x (payload_of r.engine 4096) (current_time r.keeper) stage
 
-record HasNext (p : Plan) (i : Initiator) (h : List Entry) (r : Run) (stage : ℕ) (made : List Request) (route : Route) : Type 0 where
+record HasNext (p : Plan) (i : Initiator) (h : List Entry) (r : Run) (x : Transfer) (stage : ℕ) (made : List Request) (route : Route) : Type 0 where
   pub more : List Request
-  pub next : IsNext p i h made more (λ m. requests_at p.platform i m (current_time r.keeper) stage r.engine) (request_made r stage) (model_route route)
+  pub next : IsNext p i h made more (λ m. requests_at p.platform i m (current_time r.keeper) stage r.engine) (request_made r x stage) (model_route route)
 
-has_next : (p : Plan) (i : Initiator) (h : List Entry) (r : Run) (route : Route) → slice_get (initiators_of p) i.number ≡ Some i → i.row.style ≡ blocking_style → (come : HasCome p.platform i h r) → IsAccessOp (op_of r.engine) → IsRouteOf p i (address_of (op_of r.engine)) route → HasNext p i h r come.stage come.made route
-has_next p i h r route mine blocking come is leads =
+has_next : (p : Plan) (i : Initiator) (h : List Entry) (r : Run) (x : Transfer) (route : Route) → slice_get (initiators_of p) i.number ≡ Some i → i.row.style ≡ blocking_style → (come : HasCome p.platform i h r) → next_of r.engine ≡ Asks x → IsRouteOf p i x.address route → HasNext p i h r x come.stage come.made route
+has_next p i h r x route mine blocking come is leads =
     let t = current_time r.keeper in
-    let q : Request = request_made r come.stage in
-    let first = request_is_first p.platform i h t come.stage 4096 r.engine is in
-    let seq : q.seq ≡ r.engine.seq = seq_of_request t come.stage 4096 r.engine is in
+    let q : Request = request_made r x come.stage in
+    let first = request_is_first p.platform i h t come.stage 4096 r.engine x is in
+    let seq : q.seq ≡ r.engine.seq = seq_of_next r.engine x is in
     record {
       more = first.more;
       next = record {
@@ -113,10 +105,10 @@ has_next p i h r route mine blocking come is leads =
         first = first.first;
         number = seq ∙ sym come.count;
         later =
-            subst (λ (s : ℕ). AllByRecursion (λ (x : Request). s ≤ x.seq) (q ∷ first.more)) (sym seq)
-            (subst (AllByRecursion (λ (x : Request). r.engine.seq ≤ x.seq)) first.first (numbers_at p.platform i h t come.stage r.engine));
-        access = is_access (op_of r.engine) (payload_of r.engine 4096) t come.stage is;
-        leads = ap (route_of p.platform i) (request_address (op_of r.engine) (payload_of r.engine 4096) t come.stage is) ∙ leads.leads;
+            subst (λ (s : ℕ). AllByRecursion (λ (y : Request). s ≤ y.seq) (q ∷ first.more)) (sym seq)
+            (subst (AllByRecursion (λ (y : Request). r.engine.seq ≤ y.seq)) first.first (numbers_at p.platform i h t come.stage r.engine));
+        access = is_access x (payload_of r.engine 4096) t come.stage;
+        leads = leads.leads;
       };
     }
 
@@ -125,43 +117,43 @@ pub record GoesOnWith (p : Plan) (h : List Entry) (e : Entry) : Type 0 where
   pub scripts : RunsScripts p h → RunsScripts p (h ++ e ∷ [])
   pub times : HasDecoupledTimes p h → HasDecoupledTimes p (h ++ e ∷ [])
 
-pub goes_on_with : (p : Plan) (i : Initiator) (h : List Entry) (r : Run) (m : LoggedMemory) (route : Route) (position : ℕ) → slice_get (initiators_of p) i.number ≡ Some i → i.row.style ≡ blocking_style → HasCome p.platform i h r → IsAccessOp (op_of r.engine) → IsRouteOf p i (address_of (op_of r.engine)) route → m.number ≡ route.memory → GoesOnWith p h (entry_made r m route position)
-goes_on_with p i h r m route position mine blocking come is leads number =
-    let has = has_next p i h r route mine blocking come is leads in
+pub goes_on_with : (p : Plan) (i : Initiator) (h : List Entry) (r : Run) (x : Transfer) (m : LoggedMemory) (route : Route) (position : ℕ) → slice_get (initiators_of p) i.number ≡ Some i → i.row.style ≡ blocking_style → HasCome p.platform i h r → next_of r.engine ≡ Asks x → IsRouteOf p i x.address route → m.number ≡ route.memory → GoesOnWith p h (entry_made r x m route position)
+goes_on_with p i h r x m route position mine blocking come is leads number =
+    let has = has_next p i h r x route mine blocking come is leads in
     let bytes = log_bytes m.traits m.log.entries in
-    let same : entry_made r m route position ≡ request_entry p.platform i (request_made r come.stage) (model_route route) m.traits bytes position = entry_is p i r m route position come.stage is leads number come.counted.number in
+    let same : entry_made r x m route position ≡ request_entry p.platform i (request_made r x come.stage) (model_route route) m.traits bytes position = entry_is p i r x m route position come.stage is leads number come.counted.number in
     subst (GoesOnWith p h) (sym same) (record {
-      scripts = RunsScripts-push p i h come.made has.more _ (request_made r come.stage) (model_route route) has.next m.traits bytes position;
-      times = HasDecoupledTimes-push p i h come.made has.more _ (request_made r come.stage) (model_route route) has.next m.traits bytes position;
+      scripts = RunsScripts-push p i h come.made has.more _ (request_made r x come.stage) (model_route route) has.next m.traits bytes position;
+      times = HasDecoupledTimes-push p i h come.made has.more _ (request_made r x come.stage) (model_route route) has.next m.traits bytes position;
     })
 
 -- a history with a turn's entry has the points of requests
-pub KeepsRequests-turn : (p : Plan) (i : Initiator) (h : List Entry) (r : Run) (m : LoggedMemory) (route : Route) (position : ℕ) → KeepsRequests p h → slice_get (initiators_of p) i.number ≡ Some i → i.row.style ≡ blocking_style → HasCome p.platform i h r → IsAccessOp (op_of r.engine) → IsRouteOf p i (address_of (op_of r.engine)) route → IsAtMemory p h route m → position ≡ length h → KeepsRequests p (h ++ entry_made r m route position ∷ [])
-KeepsRequests-turn p i h r m route position kept mine blocking come is leads at counted =
-    let q : Request = request_made r come.stage in
-    let has = has_next p i h r route mine blocking come is leads in
+pub KeepsRequests-turn : (p : Plan) (i : Initiator) (h : List Entry) (r : Run) (x : Transfer) (m : LoggedMemory) (route : Route) (position : ℕ) → KeepsRequests p h → slice_get (initiators_of p) i.number ≡ Some i → i.row.style ≡ blocking_style → HasCome p.platform i h r → next_of r.engine ≡ Asks x → IsRouteOf p i x.address route → IsAtMemory p h route m → position ≡ length h → KeepsRequests p (h ++ entry_made r x m route position ∷ [])
+KeepsRequests-turn p i h r x m route position kept mine blocking come is leads at counted =
+    let q : Request = request_made r x come.stage in
+    let has = has_next p i h r x route mine blocking come is leads in
     let bytes = log_bytes m.traits m.log.entries in
     let pushed : KeepsRequests p (h ++ request_entry p.platform i q (model_route route) at.row.traits bytes (length h) ∷ []) =
     KeepsRequests-push p i h come.made has.more _ q (model_route route) at.row bytes kept has.next at.memory
     (bytes_are p h m.log.entries route.memory at.row m.traits at.memory at.traits at.log) in
-    let same : entry_made r m route position ≡ request_entry p.platform i q (model_route route) at.row.traits bytes (length h) =
-    entry_is p i r m route position come.stage is leads at.number come.counted.number
-    ∙ (ap (λ (x : MemoryTraits). request_entry p.platform i q (model_route route) x bytes position) at.traits ∙ ap (λ (x : ℕ). request_entry p.platform i q (model_route route) at.row.traits bytes x) counted) in
+    let same : entry_made r x m route position ≡ request_entry p.platform i q (model_route route) at.row.traits bytes (length h) =
+    entry_is p i r x m route position come.stage is leads at.number come.counted.number
+    ∙ (ap (λ (traits : MemoryTraits). request_entry p.platform i q (model_route route) traits bytes position) at.traits ∙ ap (λ (n : ℕ). request_entry p.platform i q (model_route route) at.row.traits bytes n) counted) in
     subst (λ (e : Entry). KeepsRequests p (h ++ e ∷ [])) (sym same) pushed
 
 -- the run after its turn
-pub HasCome-turn : (p : Plan) (i : Initiator) (h : List Entry) (r : Run) (m : LoggedMemory) (route : Route) (position : ℕ) (got : List ℕ) → HasCome p.platform i h r → IsAccessOp (op_of r.engine) → IsRouteOf p i (address_of (op_of r.engine)) route → m.number ≡ route.memory
-    → (is_fenced (op_of r.engine) ≡ true → got ≡ bytes_back r m route) → HasCome p.platform i (h ++ entry_made r m route position ∷ []) (accessed (op_of r.engine) route.latency got r)
-HasCome-turn p i h r m route position got come is leads number told =
-    HasCome-answered laws p.platform i h (entry_made r m route position) r route.latency 4096 got (model_route route) is leads.latency leads.leads come.counted.number refl refl
-    (λ rest fresh fenced.
-    subst (λ (e : Entry). IsAnswered p.platform i (h ++ (e ∷ rest)) (op_of r.engine) got) (sym (entry_is p i r m route position 0 is leads number come.counted.number))
-    (subst (λ (b : List ℕ). IsAnswered p.platform i (h ++ (request_entry p.platform i (request_for (op_of r.engine) (payload_of r.engine 4096) (current_time r.keeper) 0) (model_route route) m.traits (log_bytes m.traits m.log.entries) position ∷ rest)) (op_of r.engine) b) (sym (told fenced))
-    (routed_answers p.platform i h rest (current_time r.keeper) 0 4096 position r.engine (model_route route) m.traits (log_bytes m.traits m.log.entries) is leads.leads fresh fenced)))
+pub HasCome-turn : (p : Plan) (i : Initiator) (h : List Entry) (r : Run) (x : Transfer) (m : LoggedMemory) (route : Route) (position : ℕ) (got : List ℕ) → HasCome p.platform i h r → next_of r.engine ≡ Asks x → IsRouteOf p i x.address route → m.number ≡ route.memory
+    → (is_fenced_kind x.kind ≡ true → got ≡ bytes_back r x m route) → HasCome p.platform i (h ++ entry_made r x m route position ∷ []) (accessed x route.latency got r)
+HasCome-turn p i h r x m route position got come is leads number told =
+    HasCome-answered laws p.platform i h (entry_made r x m route position) r x route.latency 4096 got (model_route route) is leads.latency leads.leads come.counted.number refl refl
+    (λ rest fresh waits.
+    subst (λ (e : Entry). IsAnswered p.platform i (h ++ (e ∷ rest)) (op_of r.engine) got) (sym (entry_is p i r x m route position 0 is leads number come.counted.number))
+    (subst (λ (b : List ℕ). IsAnswered p.platform i (h ++ (request_entry p.platform i (request_for x (payload_of r.engine 4096) (current_time r.keeper) 0) (model_route route) m.traits (log_bytes m.traits m.log.entries) position ∷ rest)) (op_of r.engine) b) (sym (told (ap is_fenced_part (sym is) ∙ waits)))
+    (routed_answers p.platform i h rest (current_time r.keeper) 0 4096 position r.engine x (model_route route) m.traits (log_bytes m.traits m.log.entries) is leads.leads fresh)))
     come
 
 pub entries_at-push : (o : ObjectNo) (h : List Entry) (e : Entry) → entries_at o (h ++ e ∷ []) ≡ entries_at o h ++ cond (is_object o e.object) (e ∷ []) []
-entries_at-push o h e = filter-append (λ (x : Entry). is_object o x.object) h (e ∷ [])
+entries_at-push o h e = filter-append (λ (y : Entry). is_object o y.object) h (e ∷ [])
 
 pub record SomeRow (o : Option MemoryRow) (P : MemoryRow → Type 0) : Type 0 where
   pub row : MemoryRow

@@ -1,22 +1,21 @@
 -- The request of what is next in a script.
-use Rattle.std.proofs.Common.{◌≡◌, ℕ, ◌+◌, ◌≤◌, List, [], ◌∷◌, Option, Some, None, refl, ap, sym, arith}
-use Rattle.std.specs.Prelude.{unwrap_or}
+use Rattle.std.proofs.Common.{◌≡◌, ℕ, ◌+◌, ◌≤◌, List, [], ◌∷◌, drop, Option, Some, None, arith}
 use Rattle.std.specs.List.{AllByRecursion}
-use Rattle.std.proofs.Math.ListN.{length-replicate}
-use Rattle.tlm_types.specs.declared.entry.Access.{Access}
+use Rattle.std.proofs.lemmas.Grind.{common_steps}
 use Rattle.tlm_types.specs.declared.entry.Entry.{Entry}
-use Rattle.tlm_types.specs.declared.words.Command.TheVariants.{Read as read_command}
 use Rattle.tlm_model.specs.declared.operation.Operation.{Operation}
-use Rattle.tlm_model.specs.declared.operation.Operation.TheVariants.{Write, Read, Ignore, Debug, Copy, Add, Wait, Sync, Fence, Invalidate}
 use Rattle.tlm_model.specs.declared.platform.Platform.{Platform}
+use Rattle.tlm_model.specs.Actions.{Action, Plain, Alone, Pair, Pause, action_of}
 use Rattle.tlm_model.specs.Plan.{Initiator}
-use Rattle.tlm_model.specs.Requests.{Transport, Request, requests_from, buffer_of, using, read_of}
+use Rattle.tlm_model.specs.Requests.{Request, requests_by, requests_from, buffer_of, paused, time_past, using}
 use Rattle.tlm_model.specs.Route.{later, latency_of}
-use Rattle.tlm_model.specs.Store.{zeros}
 use Rattle.tlm_model.proofs.HistoryLemmas.{AllByRecursion-weaker}
-use Rattle.script_engine.specs.State.{Due, State, op_at, op_of, payload_at, payload_of, reading}
-use Rattle.script_engine.specs.Asking.{asked_access, requests_after, requests_at}
-use Rattle.initiator_run.specs.Run.{IsAccessOp, request_for}
+use Rattle.script_engine.specs.declared.part.Part.TheVariants.{Asks}
+use Rattle.script_engine.specs.declared.part.Transfer.{Transfer}
+use Rattle.script_engine.specs.Part.{part_of}
+use Rattle.script_engine.specs.State.{Due, State, next_of, op_at, payload_at, payload_of}
+use Rattle.script_engine.specs.Asking.{request_for, requests_after, requests_at}
+use Rattle.script_engine.proofs.Steps.{fills}
 
 abbrev Numbered : ℕ → List Request → Type 0
 Numbered s rs = AllByRecursion (λ (q : Request). s ≤ q.seq) rs
@@ -28,31 +27,23 @@ used : (s : ℕ) (o : Option (List ℕ)) (next : List ℕ → List Request) → 
 used s None next f = tt
 used s (Some got) next f = f got
 
--- what is asked for from a number on has no smaller number
-pub numbers_from : (p : Platform) (i : Initiator) (h : List Entry) (s t g : ℕ) (ops : List Operation) → Numbered s (requests_from p i h s t g ops)
-numbers_from p i h s t g [] = tt
-numbers_from p i h s t g (Write a bytes enables width ∷ ops) = (omega arith, fewer s (s + 1) (requests_from p i h (s + 1) (later t (latency_of p i a)) g ops) (omega arith) (numbers_from p i h (s + 1) (later t (latency_of p i a)) g ops))
-numbers_from p i h s t g (Read a n enables width ∷ ops) = (omega arith, fewer s (s + 1) (requests_from p i h (s + 1) (later t (latency_of p i a)) g ops) (omega arith) (numbers_from p i h (s + 1) (later t (latency_of p i a)) g ops))
-numbers_from p i h s t g (Ignore a ∷ ops) = (omega arith, fewer s (s + 1) (requests_from p i h (s + 1) (later t (latency_of p i a)) g ops) (omega arith) (numbers_from p i h (s + 1) (later t (latency_of p i a)) g ops))
-numbers_from p i h s t g (Debug a n ∷ ops) = (omega arith, fewer s (s + 1) (requests_from p i h (s + 1) t (g + 2) ops) (omega arith) (numbers_from p i h (s + 1) t (g + 2) ops))
-numbers_from p i h s t g (Copy from to n ∷ ops) = (
+-- no action asks for a smaller number than the one that it begins at, where what comes after it doesn't
+numbers_by : (p : Platform) (i : Initiator) (h : List Entry) (s t g : ℕ) (action : Action) (next : ℕ → ℕ → ℕ → List Request) → ((n u k : ℕ) → Numbered n (next n u k)) → Numbered s (requests_by p i h s t g action next)
+numbers_by p i h s t g (Plain a access) next f = (omega arith, fewer s (s + 1) (next (s + 1) (later t (latency_of p i a)) g) (omega arith) (f (s + 1) (later t (latency_of p i a)) g))
+numbers_by p i h s t g (Alone a asked) next f = (omega arith, fewer s (s + 1) (next (s + 1) (time_past p i t a asked) (g + 2)) (omega arith) (f (s + 1) (time_past p i t a asked) (g + 2)))
+numbers_by p i h s t g (Pair from to n change) next f = (
   omega arith,
   used s (buffer_of p i h s from n) _ (λ got. (
     omega arith,
-    fewer s (s + 2) (requests_from p i h (s + 2) (later (later t (latency_of p i from)) (latency_of p i to)) (g + 3) ops) (omega arith) (numbers_from p i h (s + 2) (later (later t (latency_of p i from)) (latency_of p i to)) (g + 3) ops),
+    fewer s (s + 2) (next (s + 2) (later (later t (latency_of p i from)) (latency_of p i to)) (g + 3)) (omega arith) (f (s + 2) (later (later t (latency_of p i from)) (latency_of p i to)) (g + 3)),
   )),
 )
-numbers_from p i h s t g (Add a n ∷ ops) = (
-  omega arith,
-  used s (buffer_of p i h s a 4) _ (λ got. (
-    omega arith,
-    fewer s (s + 2) (requests_from p i h (s + 2) (later (later t (latency_of p i a)) (latency_of p i a)) (g + 3) ops) (omega arith) (numbers_from p i h (s + 2) (later (later t (latency_of p i a)) (latency_of p i a)) (g + 3) ops),
-  )),
-)
-numbers_from p i h s t g (Wait n ∷ ops) = numbers_from p i h s (later t n) (g + 1) ops
-numbers_from p i h s t g (Sync ∷ ops) = numbers_from p i h s t (g + 1) ops
-numbers_from p i h s t g (Fence ∷ ops) = numbers_from p i h s t (g + 1) ops
-numbers_from p i h s t g (Invalidate a n ∷ ops) = (omega arith, fewer s (s + 1) (requests_from p i h (s + 1) t (g + 2) ops) (omega arith) (numbers_from p i h (s + 1) t (g + 2) ops))
+numbers_by p i h s t g (Pause time sync) next f = f s (paused t time) (g + 1)
+
+-- what is asked for from a number on has no smaller number
+pub numbers_from : (p : Platform) (i : Initiator) (h : List Entry) (s t g : ℕ) (ops : List Operation) → Numbered s (requests_from p i h s t g ops)
+numbers_from p i h s t g [] = tt
+numbers_from p i h s t g (op ∷ ops) = numbers_by p i h s t g (action_of op) (λ n u k. requests_from p i h n u k ops) (λ n u k. numbers_from p i h n u k ops)
 
 numbers_after : (p : Platform) (i : Initiator) (h : List Entry) (s t g : ℕ) (due : Option Due) (ops : List Operation) → Numbered s (requests_after p i h s t g due ops)
 numbers_after p i h s t g None ops = numbers_from p i h s t g ops
@@ -66,35 +57,14 @@ pub record ComesFirst (r : Request) (rs : List Request) : Type 0 where
   pub more : List Request
   pub first : rs ≡ r ∷ more
 
-read_access : (room a n : ℕ) (enables : List ℕ) (width : ℕ) → read_of n enables width ≡ asked_access (reading room a n enables width)
-read_access room a n enables width = ap (λ (x : ℕ). record { command = read_command; offset = 0; length = x; sent = zeros n; enables = enables; width = width }) (sym (length-replicate n 0))
+first_from : (p : Platform) (i : Initiator) (h : List Entry) (s t g room : ℕ) (due : Option Due) (ops : List Operation) (x : Transfer) → part_of (op_at s due ops) ≡ Asks x
+    → requests_after p i h s t g due ops ≡ request_for x (payload_at room due ops) t g ∷ drop 1 (requests_after p i h s t g due ops)
+first_from p i h s t g room due ops x next = grind (arith, common_steps)
 
-asked_first : (s a t g : ℕ) (x y : Access) (rest : List Request) → x ≡ y → ComesFirst (record { seq = s; address = a; asked = Transport y; time = t; stage = g }) (record { seq = s; address = a; asked = Transport x; time = t; stage = g } ∷ rest)
-asked_first s a t g x y rest same = record { more = rest; first = ap (λ (z : Access). record { seq = s; address = a; asked = Transport z; time = t; stage = g } ∷ rest) same }
+-- the request of a transfer that is next comes first, whatever is answered
+pub request_is_first : (p : Platform) (i : Initiator) (h : List Entry) (t g room : ℕ) (e : State) (x : Transfer) → next_of e ≡ Asks x → ComesFirst (request_for x (payload_of e room) t g) (requests_at p i h t g e)
+request_is_first p i h t g room e x next = record { more = _; first = first_from p i h e.seq t g room e.due e.remaining x next }
 
-first_from : (p : Platform) (i : Initiator) (h : List Entry) (s t g room : ℕ) (due : Option Due) (ops : List Operation) → IsAccessOp (op_at s due ops) → ComesFirst (request_for (op_at s due ops) (payload_at room due ops) t g) (requests_after p i h s t g due ops)
-first_from p i h s t g room (Some w) ops is = record { more = _; first = refl }
-first_from p i h s t g room None [] is = absurd is
-first_from p i h s t g room None (Write a bytes enables width ∷ ops) is = record { more = _; first = refl }
-first_from p i h s t g room None (Read a n enables width ∷ ops) is = asked_first s a t g _ _ _ (read_access room a n enables (unwrap_or width n))
-first_from p i h s t g room None (Ignore a ∷ ops) is = record { more = _; first = refl }
-first_from p i h s t g room None (Debug a n ∷ ops) is = record { more = _; first = refl }
-first_from p i h s t g room None (Copy from to n ∷ ops) is = asked_first s from t (g + 1) _ _ _ (read_access room from n [] n)
-first_from p i h s t g room None (Add a n ∷ ops) is = asked_first s a t (g + 1) _ _ _ (read_access room a 4 [] 4)
-first_from p i h s t g room None (op ∷ ops) is = absurd is
-
--- the request of an access or a debug read comes first, whatever is answered
-pub request_is_first : (p : Platform) (i : Initiator) (h : List Entry) (t g room : ℕ) (e : State) → IsAccessOp (op_of e) → ComesFirst (request_for (op_of e) (payload_of e room) t g) (requests_at p i h t g e)
-request_is_first p i h t g room e is = first_from p i h e.seq t g room e.due e.remaining is
-
-seq_from : (s t g room : ℕ) (due : Option Due) (ops : List Operation) → IsAccessOp (op_at s due ops) → (request_for (op_at s due ops) (payload_at room due ops) t g).seq ≡ s
-seq_from s t g room (Some w) ops is = refl
-seq_from s t g room None [] is = absurd is
-seq_from s t g room None (Wait n ∷ ops) is = absurd is
-seq_from s t g room None (Sync ∷ ops) is = absurd is
-seq_from s t g room None (Fence ∷ ops) is = absurd is
-seq_from s t g room None (Invalidate a n ∷ ops) is = absurd is
-seq_from s t g room None (op ∷ ops) is = refl
-
-pub seq_of_request : (t g room : ℕ) (e : State) → IsAccessOp (op_of e) → (request_for (op_of e) (payload_of e room) t g).seq ≡ e.seq
-seq_of_request t g room e is = seq_from e.seq t g room e.due e.remaining is
+-- its number is the next one
+pub seq_of_next : (e : State) (x : Transfer) → next_of e ≡ Asks x → x.seq ≡ e.seq
+seq_of_next e x next = (fills.transfer e 0 x next).0

@@ -1,17 +1,16 @@
 -- What an engine is told, and what a history answers.
-use Rattle.std.proofs.Common.{◌≡◌, ℕ, List, [], ◌∷◌, ◌++◌, length, Option, Some, None, Bool, true, false, cond, refl, ap, ◌∙◌, arith}
+use Rattle.std.proofs.Common.{◌≡◌, ℕ, List, ◌∷◌, ◌++◌, length, Option, Some, None, Bool, true, false, cond, refl, ap, sym, subst, ◌∙◌, arith}
 use Rattle.std.proofs.Math.ListN.{length-replicate}
 use Rattle.std.proofs.lemmas.Bool.Decides.{nat_tests}
+use Rattle.std.proofs.lemmas.Grind.{common_steps}
 use Rattle.tlm_types.specs.declared.entry.Access.{Access}
 use Rattle.tlm_types.specs.declared.entry.Entry.{Entry}
 use Rattle.tlm_types.specs.declared.words.Command.{Command}
-use Rattle.tlm_types.specs.declared.words.Command.TheVariants.{Read as read_command, Write as write_command, Ignore as ignore_command}
+use Rattle.tlm_types.specs.declared.words.Command.TheVariants.{Read as read_command, Write as write_command, Ignore as ignore_command, FetchAdd as fetch_add_command}
 use Rattle.tlm_types.specs.declared.words.MemoryTraits.{MemoryTraits}
 use Rattle.tlm_types.specs.declared.words.Response.{Response}
 use Rattle.tlm_types.specs.declared.words.Response.TheVariants.{Ok, Incomplete, GenericError, AddressError, CommandError, BurstError, ByteEnableError}
 use Rattle.tlm_types.specs.declared.words.Way.TheVariants.{Blocking}
-use Rattle.tlm_model.specs.declared.operation.Operation.{Operation}
-use Rattle.tlm_model.specs.declared.operation.Operation.TheVariants.{Read, Copy, Add, Wait, Sync, Fence, Invalidate}
 use Rattle.tlm_model.specs.declared.platform.Platform.{Platform}
 use Rattle.tlm_model.specs.Plan.{Initiator}
 use Rattle.tlm_model.specs.Requests.{is_txn, got_in, first_of_two, answered, buffer_by}
@@ -20,10 +19,18 @@ use Rattle.tlm_model.specs.Scripts.{has_answer}
 use Rattle.tlm_model.specs.Store.{zeros, status_of, got_by}
 use Rattle.generic_payload.specs.Payload.{PayloadView}
 use Rattle.generic_payload.proofs.Moves.{length-taken_from}
-use Rattle.script_engine.specs.State.{Due, State, op_at, op_of, is_fenced, payload_at, payload_of}
-use Rattle.script_engine.specs.Asking.{IsReadBack, IsAnswered, asked_access}
+use Rattle.script_engine.specs.declared.part.Part.{Part}
+use Rattle.script_engine.specs.declared.part.Part.TheVariants.{Asks}
+use Rattle.script_engine.specs.declared.part.Transfer.{Transfer}
+use Rattle.script_engine.specs.declared.part.TransferKind.{TransferKind}
+use Rattle.script_engine.specs.declared.part.TransferKind.TheVariants as transfer
+use Rattle.script_engine.specs.Part.{command_in}
+use Rattle.script_engine.specs.State.{State, next_of, op_of, payload_of}
+use Rattle.script_engine.specs.Asking.{IsReadBack, IsAnswered, IsAnsweredKind, IsAnsweredPart, asked_access, asked_for, request_for}
+use Rattle.script_engine.proofs.Payloads.{reads_into_zeros}
+use Rattle.script_engine.proofs.Steps.{fills}
 use Rattle.initiator_run.specs.Entry.{answered_by, request_entry, got_for, back}
-use Rattle.initiator_run.specs.Run.{IsAccessOp, address_of, refused_item, refused_op, request_for}
+use Rattle.initiator_run.specs.Run.{refused_as, refused_item}
 use Rattle.initiator_run.proofs.AnswerLemmas.{answered-fresh}
 
 -- a read's buffer where there is no route
@@ -33,30 +40,28 @@ unrouted_read p i h s a n nowhere = record {
   whole = length-replicate n 0;
 }
 
-unrouted_at : (p : Platform) (i : Initiator) (h : List Entry) (s room : ℕ) (due : Option Due) (ops : List Operation) → IsAccessOp (op_at s due ops) → route_of p i (address_of (op_at s due ops)) ≡ None → is_fenced (op_at s due ops) ≡ true → IsAnswered p i h (op_at s due ops) (payload_at room due ops).bytes
-unrouted_at p i h s room (Some w) ops is nowhere fenced = tt
-unrouted_at p i h s room None [] is nowhere fenced = tt
-unrouted_at p i h s room None (Read a n enables width ∷ ops) is nowhere fenced = unrouted_read p i h s a n nowhere
-unrouted_at p i h s room None (Copy from to n ∷ ops) is nowhere fenced = unrouted_read p i h s from n nowhere
-unrouted_at p i h s room None (Add a n ∷ ops) is nowhere fenced = unrouted_read p i h s a 4 nowhere
-unrouted_at p i h s room None (op ∷ ops) is nowhere fenced = tt
+-- a transfer without a route whose payload comes back as it was: a read's bytes are zeros
+unrouted_by : (p : Platform) (i : Initiator) (h : List Entry) (s a n : ℕ) (kind : TransferKind) (bytes : List ℕ) → route_of p i a ≡ None → length bytes ≡ n → (command_in kind ≡ read_command → bytes ≡ zeros (length bytes)) → IsAnsweredKind p i h s a n kind bytes
+unrouted_by p i h s a n (transfer.Access read_command plain fenced) bytes nowhere size reads =
+    subst (IsReadBack p i h s a n) (sym (reads refl ∙ ap zeros size)) (unrouted_read p i h s a n nowhere)
+unrouted_by p i h s a n (transfer.Access write_command plain fenced) bytes nowhere size reads = tt
+unrouted_by p i h s a n (transfer.Access ignore_command plain fenced) bytes nowhere size reads = tt
+unrouted_by p i h s a n (transfer.Access fetch_add_command plain fenced) bytes nowhere size reads = tt
+unrouted_by p i h s a n transfer.DebugRead bytes nowhere size reads = tt
 
--- the payload of an access without a route comes back as it was
-pub unrouted_answers : (p : Platform) (i : Initiator) (h : List Entry) (room : ℕ) (e : State) → IsAccessOp (op_of e) → route_of p i (address_of (op_of e)) ≡ None → is_fenced (op_of e) ≡ true → IsAnswered p i h (op_of e) (payload_of e room).bytes
-unrouted_answers p i h room e is nowhere fenced = unrouted_at p i h e.seq room e.due e.remaining is nowhere fenced
+-- the payload of a transfer without a route comes back as it was
+pub unrouted_answers : (p : Platform) (i : Initiator) (h : List Entry) (room : ℕ) (e : State) (x : Transfer) → next_of e ≡ Asks x → route_of p i x.address ≡ None → IsAnswered p i h (op_of e) (payload_of e room).bytes
+unrouted_answers p i h room e x is nowhere =
+    let payload = (fills.transfer e room x is).1 in
+    subst (λ (part : Part). IsAnsweredPart p i h part (payload_of e room).bytes) (sym is)
+    (unrouted_by p i h x.seq x.address x.length x.kind (payload_of e room).bytes nowhere payload.sized (λ reads. reads_into_zeros room e (payload.command ∙ reads)))
 
-refused_at : (s t g room : ℕ) (due : Option Due) (ops : List Operation) → IsAccessOp (op_at s due ops) → refused_op (op_at s due ops) t ≡ refused_item (request_for (op_at s due ops) (payload_at room due ops) t g) ∷ []
-refused_at s t g room (Some w) ops is = refl
-refused_at s t g room None [] is = absurd is
-refused_at s t g room None (Wait n ∷ ops) is = absurd is
-refused_at s t g room None (Sync ∷ ops) is = absurd is
-refused_at s t g room None (Fence ∷ ops) is = absurd is
-refused_at s t g room None (Invalidate a n ∷ ops) is = absurd is
-refused_at s t g room None (op ∷ ops) is = refl
+told_as : (x : Transfer) (payload : PayloadView) (t g : ℕ) → payload.command ≡ command_in x.kind → refused_as x t ≡ refused_item (request_for x payload t g)
+told_as x payload t g same = grind (arith, common_steps)
 
--- an access without a route is told as its request
-pub refused_is_request : (t g room : ℕ) (e : State) → IsAccessOp (op_of e) → refused_op (op_of e) t ≡ refused_item (request_for (op_of e) (payload_of e room) t g) ∷ []
-refused_is_request t g room e is = refused_at e.seq t g room e.due e.remaining is
+-- a transfer without a route is told as its request
+pub refused_is_request : (t g room : ℕ) (e : State) (x : Transfer) → next_of e ≡ Asks x → refused_as x t ≡ refused_item (request_for x (payload_of e room) t g)
+refused_is_request t g room e x is = told_as x (payload_of e room) t g (fills.transfer e room x is).1.command
 
 -- a read's buffer keeps its length
 pub length-got : (status : Response) (command : Command) (a : Access) (store : List ℕ) → command ≡ read_command → length (got_by command status a store) ≡ length a.sent
@@ -69,6 +74,17 @@ length-got BurstError read_command a store is = refl
 length-got ByteEnableError read_command a store is = refl
 length-got status write_command a store is = cc
 length-got status ignore_command a store is = cc
+length-got status fetch_add_command a store is = cc
+
+-- what a fetch_add found is as long as its operand
+pub length-found : (status : Response) (a : Access) (store : List ℕ) → length (got_by fetch_add_command status a store) ≡ length a.sent
+length-found Ok a store = length-taken_from a 0 a.sent store
+length-found Incomplete a store = refl
+length-found GenericError a store = refl
+length-found AddressError a store = refl
+length-found CommandError a store = refl
+length-found BurstError a store = refl
+length-found ByteEnableError a store = refl
 
 own_txn : (i s : ℕ) → is_txn i s (record { initiator = i; seq = s }) ≡ true
 own_txn i s = grind (arith, nat_tests)
@@ -93,24 +109,26 @@ routed_read p i h m s a n t g position payload route traits store reads size lea
       whole = length-got (status_of traits Blocking access) payload.command access store reads ∙ size;
     }
 
-routed_at : (p : Platform) (i : Initiator) (h m : List Entry) (s t g room position : ℕ) (due : Option Due) (ops : List Operation) (route : Route) (traits : MemoryTraits) (store : List ℕ)
-    → IsAccessOp (op_at s due ops) → route_of p i (address_of (op_at s due ops)) ≡ Some route → has_answer i.number s h ≡ false → is_fenced (op_at s due ops) ≡ true
-    → IsAnswered p i (h ++ (request_entry p i (request_for (op_at s due ops) (payload_at room due ops) t g) route traits store position ∷ m)) (op_at s due ops)
-    (back (payload_at room due ops).command (payload_at room due ops).bytes (got_for traits store (request_for (op_at s due ops) (payload_at room due ops) t g).asked route))
-routed_at p i h m s t g room position (Some w) ops route traits store is leads fresh fenced = tt
-routed_at p i h m s t g room position None [] route traits store is leads fresh fenced = tt
-routed_at p i h m s t g room position None (Read a n enables width ∷ ops) route traits store is leads fresh fenced =
-    routed_read p i h m s a n t g position (payload_at room None (Read a n enables width ∷ ops)) route traits store refl (length-replicate n 0) leads fresh (request_entry p i (request_for (op_at s None (Read a n enables width ∷ ops)) (payload_at room None (Read a n enables width ∷ ops)) t g) route traits store position) refl refl
-routed_at p i h m s t g room position None (Copy from to n ∷ ops) route traits store is leads fresh fenced =
-    routed_read p i h m s from n t g position (payload_at room None (Copy from to n ∷ ops)) route traits store refl (length-replicate n 0) leads fresh (request_entry p i (request_for (op_at s None (Copy from to n ∷ ops)) (payload_at room None (Copy from to n ∷ ops)) t g) route traits store position) refl refl
-routed_at p i h m s t g room position None (Add a n ∷ ops) route traits store is leads fresh fenced =
-    routed_read p i h m s a 4 t g position (payload_at room None (Add a n ∷ ops)) route traits store refl refl leads fresh (request_entry p i (request_for (op_at s None (Add a n ∷ ops)) (payload_at room None (Add a n ∷ ops)) t g) route traits store position) refl refl
-routed_at p i h m s t g room position None (op ∷ ops) route traits store is leads fresh fenced = tt
+routed_by : (p : Platform) (i : Initiator) (h m : List Entry) (s a n t g position : ℕ) (kind : TransferKind) (payload : PayloadView) (route : Route) (traits : MemoryTraits) (store : List ℕ)
+    → payload.command ≡ command_in kind → length payload.bytes ≡ n → route_of p i a ≡ Some route → has_answer i.number s h ≡ false
+    → IsAnsweredKind p i (h ++ (request_entry p i (request_for (record { seq = s; address = a; length = n; kind = kind }) payload t g) route traits store position ∷ m)) s a n kind
+    (back payload.command payload.bytes (got_for traits store (asked_for kind n payload) route))
+routed_by p i h m s a n t g position (transfer.Access read_command plain fenced) payload route traits store reads size leads fresh =
+    let e = request_entry p i (request_for (record { seq = s; address = a; length = n; kind = transfer.Access read_command plain fenced }) payload t g) route traits store position in
+    subst (λ (c : Command). IsReadBack p i (h ++ (e ∷ m)) s a n (back c payload.bytes (got_for traits store (asked_for (transfer.Access read_command plain fenced) n payload) route))) (sym reads)
+    (routed_read p i h m s a n t g position payload route traits store reads size leads fresh e refl refl)
+routed_by p i h m s a n t g position (transfer.Access write_command plain fenced) payload route traits store reads size leads fresh = tt
+routed_by p i h m s a n t g position (transfer.Access ignore_command plain fenced) payload route traits store reads size leads fresh = tt
+routed_by p i h m s a n t g position (transfer.Access fetch_add_command plain fenced) payload route traits store reads size leads fresh = tt
+routed_by p i h m s a n t g position transfer.DebugRead payload route traits store reads size leads fresh = tt
 
--- the history with its entry answers an access that the engine waits for, as its payload comes back
-pub routed_answers : (p : Platform) (i : Initiator) (h m : List Entry) (t g room position : ℕ) (e : State) (route : Route) (traits : MemoryTraits) (store : List ℕ)
-    → IsAccessOp (op_of e) → route_of p i (address_of (op_of e)) ≡ Some route → has_answer i.number e.seq h ≡ false → is_fenced (op_of e) ≡ true
-    → IsAnswered p i (h ++ (request_entry p i (request_for (op_of e) (payload_of e room) t g) route traits store position ∷ m)) (op_of e)
-    (back (payload_of e room).command (payload_of e room).bytes (got_for traits store (request_for (op_of e) (payload_of e room) t g).asked route))
-routed_answers p i h m t g room position e route traits store is leads fresh fenced =
-    routed_at p i h m e.seq t g room position e.due e.remaining route traits store is leads fresh fenced
+-- the history with its entry answers a transfer, as its payload comes back
+pub routed_answers : (p : Platform) (i : Initiator) (h m : List Entry) (t g room position : ℕ) (e : State) (x : Transfer) (route : Route) (traits : MemoryTraits) (store : List ℕ)
+    → next_of e ≡ Asks x → route_of p i x.address ≡ Some route → has_answer i.number e.seq h ≡ false
+    → IsAnswered p i (h ++ (request_entry p i (request_for x (payload_of e room) t g) route traits store position ∷ m)) (op_of e)
+    (back (payload_of e room).command (payload_of e room).bytes (got_for traits store (asked_for x.kind x.length (payload_of e room)) route))
+routed_answers p i h m t g room position e x route traits store is leads fresh =
+    let payload = payload_of e room in
+    let filled = fills.transfer e room x is in
+    subst (λ (part : Part). IsAnsweredPart p i (h ++ (request_entry p i (request_for x payload t g) route traits store position ∷ m)) part (back payload.command payload.bytes (got_for traits store (asked_for x.kind x.length payload) route))) (sym is)
+    (routed_by p i h m x.seq x.address x.length t g position x.kind payload route traits store filled.1.command filled.1.sized leads (ap (λ (s : ℕ). has_answer i.number s h) filled.0 ∙ fresh))

@@ -1,19 +1,22 @@
 -- The rounds of what is still to be asked for.
 use Rattle.std.proofs.Common.{◌≡◌, ℕ, ◌+◌, ◌-◌, List, [], ◌∷◌, Option, Some, None, Bool, true, false, cond, nat_lt, refl, ap, ◌∙◌, arith}
 use Rattle.std.proofs.lemmas.Bool.Decides.{nat_tests}
+use Rattle.std.proofs.lemmas.Grind.{common_steps}
 use Rattle.tlm_model.specs.declared.operation.Operation.{Operation}
-use Rattle.tlm_model.specs.declared.operation.Operation.TheVariants.{Copy, Add, Wait, Sync, Fence, Invalidate}
+use Rattle.tlm_model.specs.declared.operation.Operation.TheVariants.{Copy, Add, FetchAdd}
 use Rattle.tlm_model.specs.declared.platform.Platform.{Platform}
 use Rattle.tlm_model.specs.Plan.{Initiator}
 use Rattle.tlm_model.specs.Requests.{numbers_of, time_after}
 use Rattle.tlm_model.specs.Rounds.{rounds_from, syncs_after}
 use Rattle.tlm_model.specs.Route.{later, latency_of}
 use Rattle.script_engine.specs.declared.op.Op.TheVariants.{Done}
-use Rattle.script_engine.specs.State.{Due, State, is_fenced, op_at, op_for, op_of, passed_by, told_by}
+use Rattle.script_engine.specs.declared.part.Part.TheVariants.{Asks}
+use Rattle.script_engine.specs.declared.part.Transfer.{Transfer}
+use Rattle.script_engine.specs.Part.{part_of}
+use Rattle.script_engine.specs.State.{Due, State, is_fenced, next_of, op_at, op_for, op_of, passed_by, told_by}
 use Rattle.script_engine.specs.Asking.{time_after_op}
 use Rattle.script_engine.proofs.States.{state}
 use Rattle.initiator_run.specs.Come.{rounds_at, rounds_behind, rounds_once}
-use Rattle.initiator_run.specs.Run.{IsAccessOp}
 use Rattle.initiator_run.proofs.CountLemmas.{rounds_then}
 
 -- past the requests of an operation
@@ -51,9 +54,7 @@ first_passed p i now t s op ops = skip s (numbers_of op) (behind_op p i now t op
 then_passed : (p : Platform) (i : Initiator) (now t n q s : ℕ) (b : Bool) (op : Operation) (ops : List Operation) → is_fenced (op_for q op) ≡ false
     → behind_op p i now t op ops s ≡ rounds_then p i now (time_after_op p i t (op_for q op)) (op_for q op) (passed_by (state n q None (op ∷ ops) b)) s
 unfolding behind_op
-then_passed p i now t n q s b (Copy from to m) ops h = cc
-then_passed p i now t n q s b (Add a m) ops h = cc
-then_passed p i now t n q s b op ops h = refl
+then_passed p i now t n q s b op ops h = grind (arith, common_steps)
 
 passed_at : (p : Platform) (i : Initiator) (now t n q s : ℕ) (b : Bool) (due : Option Due) (ops : List Operation) → is_fenced (op_at q due ops) ≡ false → (op_at q due ops ≡ Done → ⊥)
     → rounds_behind p i now t due ops (s + ((passed_by (state n q due ops b)).seq - q)) ≡ rounds_then p i now (time_after_op p i t (op_at q due ops)) (op_at q due ops) (passed_by (state n q due ops b)) s
@@ -67,6 +68,12 @@ pub rounds_passed : (p : Platform) (i : Initiator) (now t s : ℕ) (e : State) �
     → rounds_at p i now t e (s + ((passed_by e).seq - e.seq)) ≡ rounds_then p i now (time_after_op p i t (op_of e)) (op_of e) (passed_by e) s
 rounds_passed p i now t s e h more = passed_at p i now t e.initiator e.seq s e.ended e.due e.remaining h more
 
+-- an operation whose one request the engine waits for
+then_told : (p : Platform) (i : Initiator) (now t n q s : ℕ) (b : Bool) (got : List ℕ) (a m : ℕ) (ops : List Operation)
+    → behind_op p i now t (FetchAdd a m) ops s ≡ rounds_then p i now (time_after_op p i t (op_for q (FetchAdd a m))) (op_for q (FetchAdd a m)) (told_by (state n q None (FetchAdd a m ∷ ops) b) got) s
+unfolding behind_op
+then_told p i now t n q s b got a m ops = grind (arith, common_steps)
+
 told_to : (p : Platform) (i : Initiator) (now t n q s : ℕ) (b : Bool) (got : List ℕ) (due : Option Due) (ops : List Operation) → is_fenced (op_at q due ops) ≡ true
     → rounds_behind p i now t due ops (s + ((told_by (state n q due ops b) got).seq - q)) ≡ rounds_then p i now (time_after_op p i t (op_at q due ops)) (op_at q due ops) (told_by (state n q due ops b) got) s
 told_to p i now t n q s b got (Some w) ops h =
@@ -76,6 +83,8 @@ told_to p i now t n q s b got None (Copy from to m ∷ ops) h =
     ap (rounds_from p i now t (Copy from to m ∷ ops)) (taken s q 1) ∙ skip_one s (rounds_once p i now (later (later t (latency_of p i from)) (latency_of p i to)) ops)
 told_to p i now t n q s b got None (Add a m ∷ ops) h =
     ap (rounds_from p i now t (Add a m ∷ ops)) (taken s q 1) ∙ skip_one s (rounds_once p i now (later (later t (latency_of p i a)) (latency_of p i a)) ops)
+told_to p i now t n q s b got None (FetchAdd a m ∷ ops) h =
+    ap (rounds_from p i now t (FetchAdd a m ∷ ops)) (taken s q 1) ∙ (first_passed p i now t s (FetchAdd a m) ops ∙ then_told p i now t n q s b got a m ops)
 told_to p i now t n q s b got None (op ∷ ops) h = cc
 
 -- the rounds behind an access or a debug read
@@ -84,15 +93,9 @@ pub rounds_after : (p : Platform) (i : Initiator) (now t s : ℕ) (e : State) (g
 rounds_after p i now t s e got true h more = told_to p i now t e.initiator e.seq s e.ended got e.due e.remaining h
 rounds_after p i now t s e got false h more = rounds_passed p i now t s e h more
 
-next_at : (p : Platform) (i : Initiator) (now t q : ℕ) (due : Option Due) (ops : List Operation) → IsAccessOp (op_at q due ops) → rounds_behind p i now t due ops 0 ≡ 0
-next_at p i now t q (Some w) ops is = refl
-next_at p i now t q None [] is = absurd is
-next_at p i now t q None (Wait n ∷ ops) is = absurd is
-next_at p i now t q None (Sync ∷ ops) is = absurd is
-next_at p i now t q None (Fence ∷ ops) is = absurd is
-next_at p i now t q None (Invalidate a n ∷ ops) is = absurd is
-next_at p i now t q None (op ∷ ops) is = refl
+next_at : (p : Platform) (i : Initiator) (now t q : ℕ) (due : Option Due) (ops : List Operation) (x : Transfer) → part_of (op_at q due ops) ≡ Asks x → rounds_behind p i now t due ops 0 ≡ 0
+next_at p i now t q due ops x is = grind (arith, common_steps)
 
--- no sync stands before an access that is next
-pub no_rounds_before : (p : Platform) (i : Initiator) (now t : ℕ) (e : State) → IsAccessOp (op_of e) → rounds_at p i now t e 0 ≡ 0
-no_rounds_before p i now t e is = next_at p i now t e.seq e.due e.remaining is
+-- no sync stands before a transfer that is next
+pub no_rounds_before : (p : Platform) (i : Initiator) (now t : ℕ) (e : State) (x : Transfer) → next_of e ≡ Asks x → rounds_at p i now t e 0 ≡ 0
+no_rounds_before p i now t e x is = next_at p i now t e.seq e.due e.remaining x is

@@ -1,140 +1,119 @@
 -- The call that carries an access or a debug read to its memory.
-use Rattle.std.proofs.Common.{◌≡◌, ℕ, List, [], ◌∷◌, ◌++◌, length, Option, Some, None, true, refl, ap, sym, subst, ◌∙◌}
-use Rattle.std.proofs.Math.ListN.{length-replicate}
+use Rattle.std.proofs.Common.{◌≡◌, ℕ, List, [], ◌∷◌, ◌++◌, length, true, refl, ap, sym, subst, ◌∙◌, arith}
+use Rattle.std.proofs.lemmas.Grind.{common_steps}
+use Rattle.tlm_types.specs.declared.entry.Access.{Access}
 use Rattle.tlm_types.specs.declared.entry.Entry.{Entry}
-use Rattle.tlm_types.specs.declared.words.Command.TheVariants.{Read as read_command}
+use Rattle.tlm_types.specs.declared.entry.What.{What}
+use Rattle.tlm_types.specs.declared.words.Command.{Command}
+use Rattle.tlm_types.specs.declared.words.Command.TheVariants.{Read as read_command, Write as write_command, Ignore as ignore_command, FetchAdd as fetch_add_command}
 use Rattle.tlm_types.specs.declared.words.ObjectNo.TheVariants.{Memory as memory_object}
+use Rattle.tlm_types.specs.declared.words.Response.{Response}
 use Rattle.tlm_types.specs.declared.words.TxnId.{TxnId}
-use Rattle.tlm_types.specs.declared.words.Way.TheVariants.{Debug as by_debug}
-use Rattle.tlm_model.specs.declared.operation.Operation.{Operation}
-use Rattle.tlm_model.specs.declared.operation.Operation.TheVariants.{Write, Read, Ignore, Debug, Copy, Add, Wait, Sync, Fence, Invalidate}
+use Rattle.tlm_types.specs.declared.words.Way.TheVariants.{Blocking, Debug as by_debug}
 use Rattle.tlm_model.specs.Log.{log_bytes}
-use Rattle.tlm_model.specs.Store.{zeros, status_of}
+use Rattle.tlm_model.specs.Store.{got_by, status_of, zeros}
 use Rattle.generic_payload.specs.Payload.{PayloadView}
 use Rattle.region_object.specs.Call.{IsFit}
 use Rattle.region_object.specs.declared.call.RegionCall.{RegionCall}
-use Rattle.region_object.specs.Region.{LoggedMemory, answered, region_entry as entry_of_call}
+use Rattle.region_object.specs.Region.{LoggedMemory, answered, buffer_after, region_entry as entry_of_call}
 use Rattle.route_plan.specs.declared.step.Route.{Route}
-use Rattle.script_engine.specs.declared.op.Op.{Op}
-use Rattle.script_engine.specs.declared.op.Op.TheVariants as next
-use Rattle.script_engine.specs.State.{Due, op_at, op_of, is_fenced, length_of, payload_at, payload_of}
+use Rattle.script_engine.specs.declared.part.Part.TheVariants.{Asks}
+use Rattle.script_engine.specs.declared.part.Transfer.{Transfer}
+use Rattle.script_engine.specs.declared.part.TransferKind.{TransferKind}
+use Rattle.script_engine.specs.declared.part.TransferKind.TheVariants as transfer
+use Rattle.script_engine.specs.Part.{command_in, is_fenced_kind}
+use Rattle.script_engine.specs.State.{State, next_of, payload_of}
+use Rattle.script_engine.specs.Asking.{arrival, asked_for}
+use Rattle.script_engine.proofs.Payloads.{reads_into_zeros, room_of_payload}
+use Rattle.script_engine.proofs.Steps.{fills}
 use Rattle.quantum_keeper.specs.Keeper.{current_time}
 use Rattle.initiator_run.specs.declared.run.NextAccess.{NextAccess}
-use Rattle.initiator_run.specs.Access.{HasLog, call_at, next_call, payload_back, model_route, time_at, entry_made, bytes_back, payload_room}
+use Rattle.initiator_run.specs.Access.{HasLog, call_at, next_call, payload_back, model_route, entry_made, bytes_back, payload_room}
 use Rattle.initiator_run.specs.Entry.{access_at, answered_by, back, got_for, way_of}
-use Rattle.initiator_run.specs.Run.{Run, IsAccessOp, request_for}
-use Rattle.initiator_run.proofs.ReplyLemmas.{length-got}
+use Rattle.initiator_run.specs.Run.{Run}
+use Rattle.initiator_run.proofs.ReplyLemmas.{length-found, length-got}
 
 -- the payload keeps its room
-pub room_back : (m : LoggedMemory) (op : Op) (txn : TxnId) (t before : ℕ) (p : PayloadView) → (payload_back m (call_at op txn t before p)).room ≡ p.room
-room_back m (next.Access s a n command plain fenced) txn t before p = refl
-room_back m op txn t before p = refl
+pub room_back : (m : LoggedMemory) (kind : TransferKind) (txn : TxnId) (t before : ℕ) (p : PayloadView) → (payload_back m (call_at kind txn t before p)).room ≡ p.room
+room_back m (transfer.Access command plain fenced) txn t before p = refl
+room_back m transfer.DebugRead txn t before p = refl
 
-pub room_of_payload : (room : ℕ) (due : Option Due) (ops : List Operation) → (payload_at room due ops).room ≡ room
-room_of_payload room (Some w) ops = refl
-room_of_payload room None [] = refl
-room_of_payload room None (Write a bytes enables width ∷ ops) = refl
-room_of_payload room None (op ∷ ops) = refl
-
-abbrev sent_by : ℕ → Option Due → List Operation → ℕ → PayloadView
-sent_by room due ops offset = record (payload_at room due ops) { address = offset }
+buffer_back : (command : Command) (got bytes : List ℕ) → buffer_after command got bytes ≡ back command bytes got
+buffer_back command got bytes = grind (arith, common_steps)
 
 -- the bytes of a payload that the engine waits for
-bytes_at : (m : LoggedMemory) (route : Route) (txn : TxnId) (s t g before room : ℕ) (due : Option Due) (ops : List Operation) → is_fenced (op_at s due ops) ≡ true
-    → (payload_back m (call_at (op_at s due ops) txn t before (sent_by room due ops route.offset))).bytes
-    ≡ back (payload_at room due ops).command (payload_at room due ops).bytes (got_for m.traits (log_bytes m.traits m.log.entries) (request_for (op_at s due ops) (payload_at room due ops) t g).asked (model_route route))
-bytes_at m route txn s t g before room (Some w) ops fenced = refl
-bytes_at m route txn s t g before room None [] fenced = cc
-bytes_at m route txn s t g before room None (Copy from to n ∷ ops) fenced = refl
-bytes_at m route txn s t g before room None (Add a n ∷ ops) fenced = refl
-bytes_at m route txn s t g before room None (op ∷ ops) fenced = cc
+bytes_at : (m : LoggedMemory) (route : Route) (txn : TxnId) (t before n : ℕ) (kind : TransferKind) (payload : PayloadView) → is_fenced_kind kind ≡ true
+    → (payload_back m (call_at kind txn t before (record payload { address = route.offset }))).bytes
+    ≡ back payload.command payload.bytes (got_for m.traits (log_bytes m.traits m.log.entries) (asked_for kind n payload) (model_route route))
+bytes_at m route txn t before n (transfer.Access command plain fenced) payload waits =
+    buffer_back payload.command (got_for m.traits (log_bytes m.traits m.log.entries) (asked_for (transfer.Access command plain fenced) n payload) (model_route route)) payload.bytes
+bytes_at m route txn t before n transfer.DebugRead payload waits = cc
+
+length-back : (command : Command) (status : Response) (a : Access) (sent store : List ℕ) → length a.sent ≡ length sent → length (back command sent (got_by command status a store)) ≡ length sent
+length-back read_command status a sent store same = length-got status read_command a store refl ∙ same
+length-back write_command status a sent store same = refl
+length-back ignore_command status a sent store same = refl
+length-back fetch_add_command status a sent store same = length-found status a store ∙ same
 
 -- they are as many as were asked for
-whole_at : (m : LoggedMemory) (route : Route) (s t g room : ℕ) (due : Option Due) (ops : List Operation) → is_fenced (op_at s due ops) ≡ true
-    → length (back (payload_at room due ops).command (payload_at room due ops).bytes (got_for m.traits (log_bytes m.traits m.log.entries) (request_for (op_at s due ops) (payload_at room due ops) t g).asked (model_route route))) ≡ length_of (op_at s due ops)
-whole_at m route s t g room (Some w) ops fenced = refl
-whole_at m route s t g room None [] fenced = cc
-whole_at m route s t g room None (Copy from to n ∷ ops) fenced =
-    let asked = (request_for (op_at s None (Copy from to n ∷ ops)) (payload_at room None (Copy from to n ∷ ops)) t g).asked in
-    length-got (status_of m.traits (way_of asked) (access_at (model_route route) asked)) read_command (access_at (model_route route) asked) (log_bytes m.traits m.log.entries) refl ∙ length-replicate n 0
-whole_at m route s t g room None (Add a n ∷ ops) fenced =
-    let asked = (request_for (op_at s None (Add a n ∷ ops)) (payload_at room None (Add a n ∷ ops)) t g).asked in
-    length-got (status_of m.traits (way_of asked) (access_at (model_route route) asked)) read_command (access_at (model_route route) asked) (log_bytes m.traits m.log.entries) refl
-whole_at m route s t g room None (op ∷ ops) fenced = cc
+whole_at : (m : LoggedMemory) (route : Route) (n : ℕ) (kind : TransferKind) (payload : PayloadView) → is_fenced_kind kind ≡ true → length payload.bytes ≡ n
+    → length (back payload.command payload.bytes (got_for m.traits (log_bytes m.traits m.log.entries) (asked_for kind n payload) (model_route route))) ≡ n
+whole_at m route n (transfer.Access command plain fenced) payload waits size =
+    let access = access_at (model_route route) (asked_for (transfer.Access command plain fenced) n payload) in
+    length-back payload.command (status_of m.traits Blocking access) access payload.bytes (log_bytes m.traits m.log.entries) refl ∙ size
+whole_at m route n transfer.DebugRead payload waits size = cc
 
-pub bytes_come_back : (r : Run) (m : LoggedMemory) (route : Route) → is_fenced (op_of r.engine) ≡ true → (payload_back m (next_call r route)).bytes ≡ bytes_back r m route
-bytes_come_back r m route fenced = bytes_at m route (record { initiator = r.engine.initiator; seq = r.engine.seq }) r.engine.seq (current_time r.keeper) 0 route.before payload_room r.engine.due r.engine.remaining fenced
+pub bytes_come_back : (r : Run) (x : Transfer) (m : LoggedMemory) (route : Route) → is_fenced_kind x.kind ≡ true → (payload_back m (next_call r x route)).bytes ≡ bytes_back r x m route
+bytes_come_back r x m route waits = bytes_at m route (record { initiator = r.engine.initiator; seq = r.engine.seq }) (current_time r.keeper) route.before x.length x.kind (payload_of r.engine payload_room) waits
 
-pub whole_comes_back : (r : Run) (m : LoggedMemory) (route : Route) → is_fenced (op_of r.engine) ≡ true → length (bytes_back r m route) ≡ length_of (op_of r.engine)
-whole_comes_back r m route fenced = whole_at m route r.engine.seq (current_time r.keeper) 0 payload_room r.engine.due r.engine.remaining fenced
+pub whole_comes_back : (r : Run) (x : Transfer) (m : LoggedMemory) (route : Route) → next_of r.engine ≡ Asks x → is_fenced_kind x.kind ≡ true → length (bytes_back r x m route) ≡ x.length
+whole_comes_back r x m route is waits = whole_at m route x.length x.kind (payload_of r.engine payload_room) waits (fills.transfer r.engine payload_room x is).1.sized
 
-abbrev debug_entry : LoggedMemory → ℕ → ℕ → ℕ → TxnId → ℕ → Entry
-debug_entry m position time offset txn n = record {
-  position = position;
-  object = memory_object m.number;
-  txn = txn;
-  time = time;
-  what = answered m.traits m.log.entries by_debug (record { command = read_command; offset = offset; length = n; sent = []; enables = []; width = n });
-}
+abbrev entry_of : LoggedMemory → ℕ → TxnId → ℕ → What → Entry
+entry_of m position txn time what = record { position = position; object = memory_object m.number; txn = txn; time = time; what = what }
 
-debugged_as : (m : LoggedMemory) (position time offset n : ℕ) (txn : TxnId) (bytes : List ℕ) → length bytes ≡ n → debug_entry m position time offset txn (length bytes) ≡ debug_entry m position time offset txn n
-debugged_as m position time offset n txn bytes same = ap (debug_entry m position time offset txn) same
+entry_by : (m : LoggedMemory) (route : Route) (txn : TxnId) (position t n : ℕ) (kind : TransferKind) (payload : PayloadView) → length payload.bytes ≡ n
+    → entry_of_call m position (call_at kind txn t route.before (record payload { address = route.offset }))
+    ≡ entry_of m position txn (arrival kind t route.before) (answered_by m.traits (log_bytes m.traits m.log.entries) (way_of (asked_for kind n payload)) (access_at (model_route route) (asked_for kind n payload)))
+entry_by m route txn position t n (transfer.Access command plain fenced) payload size = refl
+entry_by m route txn position t n transfer.DebugRead payload size =
+    ap (λ (k : ℕ). entry_of m position txn t (answered m.traits m.log.entries by_debug (record { command = read_command; offset = route.offset; length = k; sent = []; enables = []; width = k }))) size
 
-entry_at : (m : LoggedMemory) (route : Route) (txn : TxnId) (position s t g room : ℕ) (due : Option Due) (ops : List Operation) → IsAccessOp (op_at s due ops)
-    → entry_of_call m position (call_at (op_at s due ops) txn t route.before (sent_by room due ops route.offset))
-    ≡ record {
-      position = position;
-      object = memory_object m.number;
-      txn = txn;
-      time = time_at (op_at s due ops) t route.before;
-      what = answered_by m.traits (log_bytes m.traits m.log.entries) (way_of (request_for (op_at s due ops) (payload_at room due ops) t g).asked) (access_at (model_route route) (request_for (op_at s due ops) (payload_at room due ops) t g).asked);
-    }
-entry_at m route txn position s t g room (Some w) ops is = refl
-entry_at m route txn position s t g room None [] is = absurd is
-entry_at m route txn position s t g room None (Debug a n ∷ ops) is = debugged_as m position t route.offset n txn (zeros n) (length-replicate n 0)
-entry_at m route txn position s t g room None (Wait n ∷ ops) is = absurd is
-entry_at m route txn position s t g room None (Sync ∷ ops) is = absurd is
-entry_at m route txn position s t g room None (Fence ∷ ops) is = absurd is
-entry_at m route txn position s t g room None (Invalidate a n ∷ ops) is = absurd is
-entry_at m route txn position s t g room None (op ∷ ops) is = refl
+pub entry_is_made : (r : Run) (x : Transfer) (m : LoggedMemory) (route : Route) (position : ℕ) → next_of r.engine ≡ Asks x → entry_of_call m position (next_call r x route) ≡ entry_made r x m route position
+entry_is_made r x m route position is =
+    entry_by m route (record { initiator = r.engine.initiator; seq = r.engine.seq }) position (current_time r.keeper) x.length x.kind (payload_of r.engine payload_room) (fills.transfer r.engine payload_room x is).1.sized
 
-pub entry_is_made : (r : Run) (m : LoggedMemory) (route : Route) (position : ℕ) → IsAccessOp (op_of r.engine) → entry_of_call m position (next_call r route) ≡ entry_made r m route position
-entry_is_made r m route position is = entry_at m route (record { initiator = r.engine.initiator; seq = r.engine.seq }) position r.engine.seq (current_time r.keeper) 0 payload_room r.engine.due r.engine.remaining is
+fit_by : (kind : TransferKind) (txn : TxnId) (t before : ℕ) (payload : PayloadView) → payload.command ≡ command_in kind → (payload.command ≡ read_command → payload.bytes ≡ zeros (length payload.bytes)) → IsFit (call_at kind txn t before payload)
+fit_by (transfer.Access command plain fenced) txn t before payload same reads = (tt, reads)
+fit_by transfer.DebugRead txn t before payload same reads = same
 
-pub fit_at : (txn : TxnId) (s t before offset : ℕ) (due : Option Due) (ops : List Operation) → IsAccessOp (op_at s due ops) → IsFit (call_at (op_at s due ops) txn t before (sent_by payload_room due ops offset))
-fit_at txn s t before offset (Some w) ops is = (tt, λ q. cc)
-fit_at txn s t before offset None [] is = absurd is
-fit_at txn s t before offset None (Write a bytes enables width ∷ ops) is = (tt, λ q. cc)
-fit_at txn s t before offset None (Read a n enables width ∷ ops) is = (tt, λ q. ap zeros (sym (length-replicate n 0)))
-fit_at txn s t before offset None (Ignore a ∷ ops) is = (tt, λ q. cc)
-fit_at txn s t before offset None (Debug a n ∷ ops) is = refl
-fit_at txn s t before offset None (Copy from to n ∷ ops) is = (tt, λ q. ap zeros (sym (length-replicate n 0)))
-fit_at txn s t before offset None (Add a n ∷ ops) is = (tt, λ q. refl)
-fit_at txn s t before offset None (op ∷ ops) is = absurd is
+-- the payload of a transfer that is next is one that a memory takes
+pub payload_fits : (e : State) (x : Transfer) (room : ℕ) (txn : TxnId) (t before offset : ℕ) → next_of e ≡ Asks x → IsFit (call_at x.kind txn t before (record (payload_of e room) { address = offset }))
+payload_fits e x room txn t before offset is = fit_by x.kind txn t before (record (payload_of e room) { address = offset }) (fills.transfer e room x is).1.command (reads_into_zeros room e)
 
 -- the call is one that a memory takes
-pub next_call_fits : (r : Run) (route : Route) (call : RegionCall) → call ≡ next_call r route → IsAccessOp (op_of r.engine) → IsFit call
-next_call_fits r route call same is = subst IsFit (sym same) (fit_at (record { initiator = r.engine.initiator; seq = r.engine.seq }) r.engine.seq (current_time r.keeper) route.before route.offset r.engine.due r.engine.remaining is)
+pub next_call_fits : (r : Run) (x : Transfer) (route : Route) (call : RegionCall) → call ≡ next_call r x route → next_of r.engine ≡ Asks x → IsFit call
+next_call_fits r x route call same is = subst IsFit (sym same) (payload_fits r.engine x payload_room (record { initiator = r.engine.initiator; seq = r.engine.seq }) (current_time r.keeper) route.before route.offset is)
 
 -- the call of what is next, from its parts
-pub call_is_next : (r : Run) (next : NextAccess) (txn : TxnId) (t : ℕ) (p : PayloadView) → next.op ≡ op_of r.engine → txn ≡ record { initiator = r.engine.initiator; seq = r.engine.seq } → t ≡ current_time r.keeper → p ≡ record (payload_of r.engine payload_room) { address = next.route.offset }
-    → call_at next.op txn t next.route.before p ≡ next_call r next.route
-call_is_next r next txn t p op mine now filled = rw (op, mine, now, filled) refl
+pub call_is_next : (r : Run) (next : NextAccess) (txn : TxnId) (t : ℕ) (p : PayloadView) → txn ≡ record { initiator = r.engine.initiator; seq = r.engine.seq } → t ≡ current_time r.keeper → p ≡ record (payload_of r.engine payload_room) { address = next.route.offset }
+    → call_at next.transfer.kind txn t next.route.before p ≡ next_call r next.transfer next.route
+call_is_next r next txn t p mine now filled = rw (mine, now, filled) refl
 
 -- what comes back of a call
-pub record IsSent (r : Run) (old new : LoggedMemory) (route : Route) (position : ℕ) (returned : PayloadView) : Type 0 where
-  pub logged : HasLog old new (old.log.entries ++ entry_made r old route position ∷ [])
-  pub bytes : is_fenced (op_of r.engine) ≡ true → returned.bytes ≡ bytes_back r old route
-  pub whole : is_fenced (op_of r.engine) ≡ true → length returned.bytes ≡ length_of (op_of r.engine)
+pub record IsSent (r : Run) (x : Transfer) (old new : LoggedMemory) (route : Route) (position : ℕ) (returned : PayloadView) : Type 0 where
+  pub logged : HasLog old new (old.log.entries ++ entry_made r x old route position ∷ [])
+  pub bytes : is_fenced_kind x.kind ≡ true → returned.bytes ≡ bytes_back r x old route
+  pub whole : is_fenced_kind x.kind ≡ true → length returned.bytes ≡ x.length
   pub room : returned.room ≡ payload_room
 
-pub call_is_sent : (r : Run) (old new : LoggedMemory) (route : Route) (position : ℕ) (call : RegionCall) (returned : PayloadView) → IsAccessOp (op_of r.engine) → call ≡ next_call r route → HasLog old new (old.log.entries ++ entry_of_call old position call ∷ []) → returned ≡ payload_back old call → IsSent r old new route position returned
-call_is_sent r old new route position call returned is same logged comes =
-    let back_is : returned ≡ payload_back old (next_call r route) = comes ∙ ap (payload_back old) same in
-    let entry : entry_of_call old position call ≡ entry_made r old route position = ap (entry_of_call old position) same ∙ entry_is_made r old route position is in
+pub call_is_sent : (r : Run) (x : Transfer) (old new : LoggedMemory) (route : Route) (position : ℕ) (call : RegionCall) (returned : PayloadView) → next_of r.engine ≡ Asks x → call ≡ next_call r x route → HasLog old new (old.log.entries ++ entry_of_call old position call ∷ []) → returned ≡ payload_back old call → IsSent r x old new route position returned
+call_is_sent r x old new route position call returned is same logged comes =
+    let back_is : returned ≡ payload_back old (next_call r x route) = comes ∙ ap (payload_back old) same in
+    let entry : entry_of_call old position call ≡ entry_made r x old route position = ap (entry_of_call old position) same ∙ entry_is_made r x old route position is in
     record {
       logged = subst (λ (e : Entry). HasLog old new (old.log.entries ++ e ∷ [])) entry logged;
-      bytes = λ fenced. ap (λ (p : PayloadView). p.bytes) back_is ∙ bytes_come_back r old route fenced;
-      whole = λ fenced. ap (λ (p : PayloadView). length p.bytes) back_is ∙ (ap length (bytes_come_back r old route fenced) ∙ whole_comes_back r old route fenced);
-      room = ap (λ (p : PayloadView). p.room) back_is ∙ (room_back old (op_of r.engine) (record { initiator = r.engine.initiator; seq = r.engine.seq }) (current_time r.keeper) route.before (record (payload_of r.engine payload_room) { address = route.offset }) ∙ room_of_payload payload_room r.engine.due r.engine.remaining);
+      bytes = λ waits. ap (λ (p : PayloadView). p.bytes) back_is ∙ bytes_come_back r x old route waits;
+      whole = λ waits. ap (λ (p : PayloadView). length p.bytes) back_is ∙ (ap length (bytes_come_back r x old route waits) ∙ whole_comes_back r x old route is waits);
+      room = ap (λ (p : PayloadView). p.room) back_is ∙ (room_back old x.kind (record { initiator = r.engine.initiator; seq = r.engine.seq }) (current_time r.keeper) route.before (record (payload_of r.engine payload_room) { address = route.offset }) ∙ room_of_payload payload_room r.engine);
     }

@@ -15,12 +15,14 @@ use Rattle.region_object.specs.declared.call.RegionReply.{RegionReply}
 use Rattle.region_object.specs.declared.call.RegionReply.TheVariants.{Accessed, Moved}
 use Rattle.region_object.specs.Region.{LoggedMemory, reply_of}
 use Rattle.route_plan.specs.declared.step.Route.{Route}
-use Rattle.script_engine.specs.declared.op.Op.{Op}
-use Rattle.script_engine.specs.declared.op.Op.TheVariants as next
-use Rattle.script_engine.specs.State.{op_of, payload_of}
+use Rattle.script_engine.specs.declared.part.Transfer.{Transfer}
+use Rattle.script_engine.specs.declared.part.TransferKind.{TransferKind}
+use Rattle.script_engine.specs.declared.part.TransferKind.TheVariants as transfer
+use Rattle.script_engine.specs.State.{payload_of}
+use Rattle.script_engine.specs.Asking.{arrival, asked_for}
 use Rattle.quantum_keeper.specs.Keeper.{current_time}
 use Rattle.initiator_run.specs.Entry.{way_of, access_at, answered_by, got_for, back}
-use Rattle.initiator_run.specs.Run.{Run, request_for}
+use Rattle.initiator_run.specs.Run.{Run}
 
 -- how many data bytes the payload of an initiator has room for
 abbrev pub payload_room : ℕ
@@ -42,15 +44,10 @@ pub record IsRouteOf (p : Plan) (i : Initiator) (address : ℕ) (route : Route) 
   pub before : route.before ≡ before_of p.platform i address
   pub latency : route.latency ≡ latency_of p.platform i address
 
--- the moment at which an access arrives that was issued at this time: a debug read takes no time
-abbrev pub time_at : Op → ℕ → ℕ → ℕ
-time_at (next.Access s a n command plain fenced) t before = later t before
-time_at op t before = t
-
--- the call of an access or a debug read that was issued at this time
-abbrev pub call_at : Op → TxnId → ℕ → ℕ → PayloadView → RegionCall
-call_at (next.Access s a n command plain fenced) txn t before payload = Access txn (later t before) Blocking payload
-call_at op txn t before payload = Debug txn t payload
+-- the call of a transfer of this kind that was issued at this time: a debug read takes no time
+abbrev pub call_at : TransferKind → TxnId → ℕ → ℕ → PayloadView → RegionCall
+call_at (transfer.Access command plain fenced) txn t before payload = Access txn (later t before) Blocking payload
+call_at transfer.DebugRead txn t before payload = Debug txn t payload
 
 abbrev pub payload_in_reply : RegionReply → PayloadView
 payload_in_reply (Accessed payload) = payload
@@ -60,28 +57,28 @@ payload_in_reply (Moved payload moved) = payload
 abbrev pub payload_back : LoggedMemory → RegionCall → PayloadView
 payload_back m call = payload_in_reply (reply_of m call)
 
--- what a run asks for next
-abbrev pub asked_next : Run → Asked
-asked_next r = (request_for (op_of r.engine) (payload_of r.engine payload_room) (current_time r.keeper) 0).asked
+-- what a transfer that is next asks for
+abbrev pub asked_next : Run → Transfer → Asked
+asked_next r x = asked_for x.kind x.length (payload_of r.engine payload_room)
 
--- the entry of what a run asks for next, at a memory and at this position
-abbrev pub entry_made : Run → LoggedMemory → Route → ℕ → Entry
-entry_made r m route position = record {
+-- the entry of a transfer that is next, at a memory and at this position
+abbrev pub entry_made : Run → Transfer → LoggedMemory → Route → ℕ → Entry
+entry_made r x m route position = record {
   position = position;
   object = memory_object m.number;
   txn = record { initiator = r.engine.initiator; seq = r.engine.seq };
-  time = time_at (op_of r.engine) (current_time r.keeper) route.before;
-  what = answered_by m.traits (log_bytes m.traits m.log.entries) (way_of (asked_next r)) (access_at (model_route route) (asked_next r));
+  time = arrival x.kind (current_time r.keeper) route.before;
+  what = answered_by m.traits (log_bytes m.traits m.log.entries) (way_of (asked_next r x)) (access_at (model_route route) (asked_next r x));
 }
 
 -- the data bytes with which its payload comes back
-abbrev pub bytes_back : Run → LoggedMemory → Route → List ℕ
-bytes_back r m route =
+abbrev pub bytes_back : Run → Transfer → LoggedMemory → Route → List ℕ
+bytes_back r x m route =
     back (payload_of r.engine payload_room).command (payload_of r.engine payload_room).bytes
-    (got_for m.traits (log_bytes m.traits m.log.entries) (asked_next r) (model_route route))
+    (got_for m.traits (log_bytes m.traits m.log.entries) (asked_next r x) (model_route route))
 
--- the call that carries what a run asks for next along this route
-abbrev pub next_call : Run → Route → RegionCall
-next_call r route =
-    call_at (op_of r.engine) (record { initiator = r.engine.initiator; seq = r.engine.seq }) (current_time r.keeper) route.before
+-- the call that carries it along this route
+abbrev pub next_call : Run → Transfer → Route → RegionCall
+next_call r x route =
+    call_at x.kind (record { initiator = r.engine.initiator; seq = r.engine.seq }) (current_time r.keeper) route.before
     (record (payload_of r.engine payload_room) { address = route.offset })

@@ -5,7 +5,7 @@ use Rattle.tlm_types.specs.declared.entry.Entry.{Entry}
 use Rattle.tlm_types.specs.declared.entry.What.{What}
 use Rattle.tlm_types.specs.declared.entry.What.TheVariants.{Access as Accessed}
 use Rattle.tlm_types.specs.declared.words.Command.{Command}
-use Rattle.tlm_types.specs.declared.words.Command.TheVariants.{Read, Write, Ignore}
+use Rattle.tlm_types.specs.declared.words.Command.TheVariants.{Read, Write, Ignore, FetchAdd}
 use Rattle.tlm_types.specs.declared.words.MemoryTraits.{MemoryTraits}
 use Rattle.tlm_types.specs.declared.words.ObjectNo.TheVariants.{Memory as memory_object}
 use Rattle.tlm_types.specs.declared.words.Way.{Way}
@@ -57,8 +57,9 @@ request_entry p i r route m bytes position = record {
 abbrev pub got_for : MemoryTraits → List ℕ → Asked → Route → List ℕ
 got_for m bytes asked route = got_of (way_of asked) (status_of m (way_of asked) (access_at route asked)) (access_at route asked) bytes
 
--- the bytes of a payload that comes back: a read's buffer, else those that it sent
+-- the bytes of a payload that comes back: a read's buffer, what a fetch_add found, else those that it sent
 abbrev pub back : Command → List ℕ → List ℕ → List ℕ
 back Read sent got = got
 back Write sent got = sent
 back Ignore sent got = sent
+back FetchAdd sent got = got

@@ -5,7 +5,9 @@ use Rattle.tlm_model.specs.Plan.{Plan, Initiator, initiators_of}
 use Rattle.route_plan.specs.declared.step.Route.{Route}
 use Rattle.time_board.specs.declared.rounds.Member.{Member}
 use Rattle.script_engine.specs.declared.op.Op.TheVariants as next
-use Rattle.script_engine.specs.State.{State, op_of}
+use Rattle.script_engine.specs.declared.part.Part.TheVariants.{Asks}
+use Rattle.script_engine.specs.declared.part.Transfer.{Transfer}
+use Rattle.script_engine.specs.State.{State, next_of, op_of}
 use Rattle.script_engine.specs.Asking.{numbers_due}
 use Rattle.initiator_run.specs.declared.run.Move.{Move}
 use Rattle.initiator_run.specs.declared.run.Move.TheVariants.{Went, Reached, Ended}
@@ -15,7 +17,7 @@ use Rattle.initiator_run.specs.Access.{IsRouteOf}
 use Rattle.initiator_run.specs.Board.{IsWaiting}
 use Rattle.initiator_run.specs.Come.{HasCome}
 use Rattle.initiator_run.specs.Left.{asks_left, bytes_left}
-use Rattle.initiator_run.specs.Run.{Run, IsAccessOp, address_of}
+use Rattle.initiator_run.specs.Run.{Run}
 
 -- a run of one of the plan's initiators, whose script is served
 pub record IsUnderWay (p : Plan) (r : Run) : Type 0 where
@@ -28,10 +30,10 @@ pub record IsUnderWay (p : Plan) (r : Run) : Type 0 where
 abbrev pub steps_left : State → ℕ
 steps_left e = 2 * length e.remaining + numbers_due e.due
 
--- the access or debug read that is next has this route
-pub record HasReached (p : Plan) (r : Run) (route : Route) : Type 0 where
-  pub access : IsAccessOp (op_of r.engine)
-  pub leads : MatchOption (slice_get (initiators_of p) r.engine.initiator) ⊥ (λ i. IsRouteOf p i (address_of (op_of r.engine)) route)
+-- this transfer is next, and its address has this route
+pub record HasReached (p : Plan) (r : Run) (x : Transfer) (route : Route) : Type 0 where
+  pub next : next_of r.engine ≡ Asks x
+  pub leads : MatchOption (slice_get (initiators_of p) r.engine.initiator) ⊥ (λ i. IsRouteOf p i x.address route)
 
 -- a run whose script has ended has finished
 pub record HasNoMore (r : Run) : Type 0 where
@@ -41,12 +43,12 @@ pub record HasNoMore (r : Run) : Type 0 where
 -- a move goes on in the script, or stands at an access with a route, or at the end
 abbrev pub IsMove : Plan → Run → Run → Move → Type 0
 IsMove p old new Went = (steps_left new.engine < steps_left old.engine) × (new.finished ≡ old.finished)
-IsMove p old new (Reached access) = HasReached p new access.route × (access.op ≡ op_of new.engine) × (new ≡ old)
+IsMove p old new (Reached access) = HasReached p new access.transfer access.route × (new ≡ old)
 IsMove p old new Ended = HasNoMore new × (new ≡ record old { finished = true })
 
 -- all moves lead to an access with a route, to the end, or to a sync that isn't let through
 abbrev pub Advances : Plan → Run → Run → List Member → Stop → Type 0
-Advances p old new members (stop.Reached access) = HasReached p new access.route × (access.op ≡ op_of new.engine) × (new.finished ≡ old.finished) × (new.round ≡ new.syncs)
+Advances p old new members (stop.Reached access) = HasReached p new access.transfer access.route × (new.finished ≡ old.finished) × (new.round ≡ new.syncs)
 Advances p old new members stop.Waits = IsWaiting members new × (new.finished ≡ old.finished)
 Advances p old new members stop.Ended = HasNoMore new × (new.round ≡ new.syncs)
 

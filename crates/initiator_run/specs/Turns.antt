@@ -4,7 +4,8 @@ use Rattle.tlm_model.specs.Plan.{Plan}
 use Rattle.region_object.specs.Region.{LoggedMemory}
 use Rattle.route_plan.specs.declared.step.Route.{Route}
 use Rattle.time_board.specs.declared.rounds.Member.{Member}
-use Rattle.script_engine.specs.State.{op_of, is_fenced}
+use Rattle.script_engine.specs.declared.part.Transfer.{Transfer}
+use Rattle.script_engine.specs.Part.{is_fenced_kind}
 use Rattle.initiator_run.specs.declared.turn.Turn.{Turn}
 use Rattle.initiator_run.specs.declared.turn.Turn.TheVariants.{Made, Waits, Ended, NoMemory}
 use Rattle.initiator_run.specs.Access.{HasLog, bytes_back, entry_made}
@@ -24,25 +25,27 @@ HasRoomAt regions k = IsSomeAnd (slice_get regions k) (λ m. length m.log.entrie
 -- the run has moved to an access with a route, and made it
 pub record HasMadeAccess (p : Plan) (old new : Run) (before after : List LoggedMemory) (position : ℕ) : Type 0 where
   pub middle : Run
+  pub transfer : Transfer
   pub route : Route
   pub region : LoggedMemory
   pub next : LoggedMemory
   pub got : List ℕ
   pub keeps : Keeps p old middle
   pub finished : middle.finished ≡ old.finished
-  pub reached : HasReached p middle route
+  pub reached : HasReached p middle transfer route
   pub through : middle.round ≡ middle.syncs
   pub memory : HasLogAt before after route.memory region next
-  pub logged : HasLog region next (region.log.entries ++ entry_made middle region route position ∷ [])
-  pub told : is_fenced (op_of middle.engine) ≡ true → got ≡ bytes_back middle region route
-  pub run : new ≡ accessed (op_of middle.engine) route.latency got middle
+  pub logged : HasLog region next (region.log.entries ++ entry_made middle transfer region route position ∷ [])
+  pub told : is_fenced_kind transfer.kind ≡ true → got ≡ bytes_back middle transfer region route
+  pub run : new ≡ accessed transfer route.latency got middle
 
 -- the run has moved to an access with a route, and memory was refused
 pub record HasMoved (p : Plan) (old new : Run) (before after : List LoggedMemory) : Type 0 where
   pub keeps : Keeps p old new
   pub finished : new.finished ≡ old.finished
+  pub transfer : Transfer
   pub route : Route
-  pub reached : HasReached p new route
+  pub reached : HasReached p new transfer route
   pub place : ℕ
   pub region : LoggedMemory
   pub next : LoggedMemory

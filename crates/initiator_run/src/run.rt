@@ -4,21 +4,23 @@ ghost use Rattle.tlm_model.specs.Plan.{Plan as PlanView};
 ghost use Rattle.region_object.specs.Call.{IsFit};
 ghost use Rattle.region_object.specs.Region.{region_entry as entry_of_call};
 ghost use Rattle.traffic_script.specs.Proper.{AreProper};
-ghost use Rattle.script_engine.specs.State.{is_fenced, length_of, op_of, payload_of};
+ghost use Rattle.script_engine.specs.declared.part.Part.TheVariants.{Asks, Pauses};
+ghost use Rattle.script_engine.specs.Part.{is_fenced_kind, is_sync_pause};
+ghost use Rattle.script_engine.specs.State.{next_of, payload_of};
 ghost use Rattle.quantum_keeper.specs.Keeper.{current_time};
 ghost use Rattle.time_board.specs.Rounds.{AreClose};
 ghost use Rattle.initiator_run.specs.Access.{HasLog, bytes_back, call_at, entry_made, payload_back};
 ghost use Rattle.initiator_run.specs.Board.{HasGoneOn, IsInRound, IsLet, SyncsOnce};
 ghost use Rattle.initiator_run.specs.Moves.{Advances, IsMove, IsUnderWay, Keeps, steps_left};
 ghost use Rattle.initiator_run.specs.Steps.{StepsOnce};
-ghost use Rattle.initiator_run.specs.Run.{IsAccessOp, IsQuiet, accessed, address_of, fresh_run, end_at, engine_after, is_debug, passed, refused_op, with_refusal, with_sync};
+ghost use Rattle.initiator_run.specs.Run.{accessed, fresh_run, end_at, engine_after, passed, refused_as, with_refusal, with_sync};
 
 use generic_payload::Payload;
 use outside::Pace;
 use quantum_keeper::QuantumKeeper;
 use region_object::Region;
 use route_plan::{Plan, Route};
-use script_engine::{Engine, Op};
+use script_engine::{Engine, Part, Pause, Transfer, TransferKind};
 use std::alloc::Global;
 use std::marker::Model;
 use time_board::{Advance, Rounds};
@@ -55,7 +57,7 @@ impl Model for InitiatorRun {
 /// An access or a debug read that is next, with its route.
 #[derive(Drop)]
 pub struct NextAccess {
-    pub op: Op,
+    pub transfer: Transfer,
     pub route: Route,
 }
 
@@ -239,18 +241,17 @@ impl InitiatorRun {
         ensures cases { IsMove plan.now self.old self.new result }
         ensures roomy { payload.new.room ≡ payload.old.room }
     {
-        let op = self.engine.next();
-        match op {
-            Op::Access { address, .. } | Op::Debug { address, .. } => {
+        match self.engine.next().part() {
+            Part::Asks(transfer) => {
                 pace.before(self.engine.initiator(), self.engine.transactions());
-                self.look_up(plan, &op, address, payload)
+                self.look_up(plan, transfer, payload)
             }
-            Op::Wait(_) | Op::Sync | Op::Fence => {
-                self.pass(&op);
+            Part::Pauses(pause) => {
+                self.pass(pause);
                 Move::Went
             }
-            Op::Invalidate { .. } => unreachable!(),
-            Op::Done => {
+            Part::Invalidates { .. } => unreachable!(),
+            Part::Ends => {
                 self.finished = true;
                 Move::Ended
             }
@@ -259,11 +260,9 @@ impl InitiatorRun {
 
     // Finds the route of the access or debug read that is next. Without one it is refused.
     #[inline(always)]
-    fn look_up(&mut self, plan: &Plan, op: &Op, address: u64, payload: &mut Payload) -> Move
+    fn look_up(&mut self, plan: &Plan, transfer: Transfer, payload: &mut Payload) -> Move
         requires way { IsUnderWay plan.now self.old }
-        requires next { op.now ≡ op_of self.old.engine }
-        requires access { IsAccessOp op.now }
-        requires address { address ≡ address_of op.now }
+        requires next { next_of self.old.engine ≡ Asks transfer }
         requires roomy { payload.old.room ≡ 4096 }
         ensures keeps { Keeps plan.now self.old self.new }
         ensures syncs { SyncsOnce self.old self.new }
@@ -272,95 +271,89 @@ impl InitiatorRun {
         ensures roomy { payload.new.room ≡ payload.old.room }
     {
         let initiator = self.engine.initiator();
-        match plan.route(initiator, address) {
-            Some(route) => Move::Reached(NextAccess { op: *op, route }),
+        match plan.route(initiator, transfer.address) {
+            Some(route) => Move::Reached(NextAccess { transfer, route }),
             None => {
-                self.refuse(op, address, plan.latency(initiator, address), payload);
+                let latency = plan.latency(initiator, transfer.address);
+                self.refuse(transfer, latency, payload);
                 Move::Went
             }
         }
     }
 
     // Notes an access or a debug read that has no route, and goes on after it.
-    fn refuse(&mut self, op: &Op, address: u64, latency: Ps, payload: &mut Payload)
-        requires next { op.now ≡ op_of self.old.engine }
-        requires access { IsAccessOp op.now }
-        requires address { address ≡ address_of op.now }
+    fn refuse(&mut self, transfer: Transfer, latency: Ps, payload: &mut Payload)
+        requires next { next_of self.old.engine ≡ Asks transfer }
         requires items { length self.old.refused.items < self.old.refused.room }
         requires roomy { payload.old.room ≡ 4096 }
-        ensures run { self.new ≡ accessed op.now latency (payload_of self.old.engine 4096).bytes (with_refusal op.now self.old) }
+        ensures run { self.new ≡ accessed transfer latency (payload_of self.old.engine 4096).bytes (with_refusal transfer self.old) }
         ensures roomy { payload.new.room ≡ payload.old.room }
     {
         self.engine.fill(payload);
-        let item = self.refused_item(op, address, payload.command());
+        let item = self.refused_item(transfer, payload.command());
         self.refused.push(item);
-        self.complete(op, latency, payload);
+        self.complete(transfer, latency, payload);
     }
 
     // How the access or debug read that is next is noted, whose payload has this command.
-    fn refused_item(&self, op: &Op, address: u64, command: Command) -> RefusedItem
-        requires next { op.now ≡ op_of self.now.engine }
-        requires access { IsAccessOp op.now }
-        requires address { address ≡ address_of op.now }
+    fn refused_item(&self, transfer: Transfer, command: Command) -> RefusedItem
+        requires next { next_of self.now.engine ≡ Asks transfer }
         requires command { command ≡ (payload_of self.now.engine 4096).command }
-        ensures { refused_op op.now (current_time self.now.keeper) ≡ result ∷ [] }
+        ensures { result ≡ refused_as transfer (current_time self.now.keeper) }
     {
         RefusedItem {
-            seq: self.engine.transactions(),
+            seq: transfer.seq,
             time: self.keeper.current(),
-            debug: is_debug(op),
+            debug: matches!(transfer.kind, TransferKind::DebugRead),
             command,
-            address,
+            address: transfer.address,
         }
     }
 
     // Goes on after a wait, a sync or a fence.
-    fn pass(&mut self, op: &Op)
-        requires next { op.now ≡ op_of self.old.engine }
-        requires quiet { IsQuiet op.now }
-        ensures run { self.new ≡ passed op.now self.old }
+    fn pass(&mut self, pause: Pause)
+        requires next { next_of self.old.engine ≡ Pauses pause }
+        ensures run { self.new ≡ passed pause self.old }
         ensures keeps { (p : PlanView) → Keeps p self.old self.new }
         ensures syncs { self.old.syncs < 2 ^ 64 → SyncsOnce self.old self.new }
         ensures once { StepsOnce self.old.engine self.new.engine }
         ensures fewer { steps_left self.new.engine < steps_left self.old.engine }
     {
-        if let Op::Wait(time) = op {
-            self.keeper.inc(*time);
+        if let Pause::Wait(time) = pause {
+            self.keeper.inc(time);
         }
         self.engine.passed();
-        self.finish_operation(op);
+        self.finish_operation(matches!(pause, Pause::Sync));
     }
 
     /// Goes on after an access or a debug read, whose payload has come back, with the sync that is due.
-    pub fn complete(&mut self, op: &Op, latency: Ps, payload: &Payload)
-        requires next { op.now ≡ op_of self.old.engine }
-        requires access { IsAccessOp op.now }
-        requires whole { is_fenced op.now ≡ true → length payload.now.bytes ≡ length_of op.now }
-        ensures { self.new ≡ accessed op.now latency payload.now.bytes self.old }
+    pub fn complete(&mut self, transfer: Transfer, latency: Ps, payload: &Payload)
+        requires next { next_of self.old.engine ≡ Asks transfer }
+        requires whole { is_fenced_kind transfer.kind ≡ true → length payload.now.bytes ≡ transfer.length }
+        ensures { self.new ≡ accessed transfer latency payload.now.bytes self.old }
     {
-        self.tell(op, payload);
-        if let Op::Access { .. } = op {
+        self.tell(transfer, payload);
+        if let TransferKind::Access { .. } = transfer.kind {
             self.keeper.inc(latency);
         }
-        self.finish_operation(op);
+        self.finish_operation(false);
     }
 
-    fn tell(&mut self, op: &Op, payload: &Payload)
-        requires next { op.now ≡ op_of self.old.engine }
-        requires whole { is_fenced op.now ≡ true → length payload.now.bytes ≡ length_of op.now }
+    fn tell(&mut self, transfer: Transfer, payload: &Payload)
+        requires next { next_of self.old.engine ≡ Asks transfer }
+        requires whole { is_fenced_kind transfer.kind ≡ true → length payload.now.bytes ≡ transfer.length }
         ensures { self.new ≡ record self.old { engine = engine_after self.old.engine payload.now.bytes } }
     {
-        match op {
-            Op::Access { fenced: true, .. } => self.engine.told(payload),
+        match transfer.kind {
+            TransferKind::Access { fenced: true, .. } => self.engine.told(payload),
             _ => self.engine.passed(),
         }
     }
 
-    // Makes the sync that is due after what has just been done.
-    fn finish_operation(&mut self, op: &Op)
-        ensures { self.new ≡ with_sync op.now self.old }
+    // Makes the sync that is due after what has just been done, which was a sync itself or not.
+    fn finish_operation(&mut self, is_sync: bool)
+        ensures { self.new ≡ with_sync is_sync self.old }
     {
-        let is_sync = matches!(op, Op::Sync);
         if self.engine.at_end_of_operation() && (is_sync || self.keeper.need_sync()) {
             self.keeper.sync();
             self.syncs = self.syncs.saturating_add(1);
@@ -376,13 +369,12 @@ impl InitiatorRun {
         position: u64,
         payload: &mut Payload,
     ) -> Result<(), Memory>
-        requires next { next.now.op ≡ op_of self.old.engine }
-        requires access { IsAccessOp (op_of self.old.engine) }
+        requires next { next_of self.old.engine ≡ Asks next.now.transfer }
         requires room { length region.old.log.entries < region.old.log.room }
         requires roomy { payload.old.room ≡ 4096 }
-        ensures ok { OnOk result ((self.new ≡ accessed (op_of self.old.engine) next.now.route.latency payload.new.bytes self.old)
-            × HasLog region.old region.new (region.old.log.entries ++ entry_made self.old region.old next.now.route position ∷ [])
-            × (is_fenced (op_of self.old.engine) ≡ true → payload.new.bytes ≡ bytes_back self.old region.old next.now.route)) }
+        ensures ok { let transfer = next.now.transfer in OnOk result ((self.new ≡ accessed transfer next.now.route.latency payload.new.bytes self.old)
+            × HasLog region.old region.new (region.old.log.entries ++ entry_made self.old transfer region.old next.now.route position ∷ [])
+            × (is_fenced_kind transfer.kind ≡ true → payload.new.bytes ≡ bytes_back self.old transfer region.old next.now.route)) }
         ensures err { OnErr result ((self.new ≡ self.old) × HasLog region.old region.new region.old.log.entries) }
         ensures roomy { payload.new.room ≡ 4096 }
     {
@@ -392,13 +384,13 @@ impl InitiatorRun {
         send(
             region,
             position,
-            &next.op,
+            next.transfer.kind,
             txn,
             time,
             next.route.before,
             payload,
         )?;
-        self.complete(&next.op, next.route.latency, payload);
+        self.complete(next.transfer, next.route.latency, payload);
         Ok(())
     }
 
@@ -422,37 +414,30 @@ impl InitiatorRun {
     }
 }
 
-fn is_debug(op: &Op) -> bool
-    ensures { result ≡ is_debug op.now }
-{
-    matches!(op, Op::Debug { .. })
-}
-
 // Makes the call of an access or a debug read that was issued at this time, as the entry at this
 // position: an access arrives after the routers.
 fn send(
     region: &mut Region,
     position: u64,
-    op: &Op,
+    kind: TransferKind,
     txn: TxnId,
     time: Ps,
     before: Ps,
     payload: &mut Payload,
 ) -> Result<(), Memory>
-    requires access { IsAccessOp op.now }
-    requires fit { IsFit (call_at op.now txn time before payload.old) }
+    requires fit { IsFit (call_at kind txn time before payload.old) }
     requires room { length region.old.log.entries < region.old.log.room }
-    ensures ok { let call = call_at op.now txn time before payload.old in
+    ensures ok { let call = call_at kind txn time before payload.old in
         OnOk result (HasLog region.old region.new (region.old.log.entries ++ entry_of_call region.old position call ∷ [])
         × (payload.new ≡ payload_back region.old call)) }
     ensures err { OnErr result (HasLog region.old region.new region.old.log.entries × (payload.new ≡ payload.old)) }
 {
     region.make_room_for(payload)?;
-    match op {
-        Op::Debug { .. } => {
+    match kind {
+        TransferKind::DebugRead => {
             region.debug(position, txn, time, payload);
         }
-        _ => {
+        TransferKind::Access { .. } => {
             let arrival = time.saturating_add(before);
             region.transport(position, txn, arrival, Way::Blocking, payload);
         }

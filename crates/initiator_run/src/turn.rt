@@ -6,6 +6,7 @@ ghost use Rattle.initiator_run.specs.Moves.{HasReached, IsUnderWay, Keeps};
 ghost use Rattle.initiator_run.specs.Run.{Run};
 ghost use Rattle.initiator_run.specs.Turns.{HasRoomAt, IsTurn};
 ghost use Rattle.route_plan.specs.declared.step.Route.{Route as RouteView};
+ghost use Rattle.script_engine.specs.declared.part.Transfer.{Transfer as TransferView};
 
 use crate::run::{InitiatorRun, Stop};
 use generic_payload::Payload;
@@ -43,7 +44,7 @@ pub fn take_turn<P: Pace>(
     requires round { IsInRound rounds.old run.old.engine.initiator run.old }
     requires close { AreClose rounds.old }
     requires roomy { payload.old.room ≡ 4096 }
-    requires room { (middle : Run) (route : RouteView) → Keeps plan.now run.old middle → HasReached plan.now middle route → HasRoomAt regions.old route.memory }
+    requires room { (middle : Run) (x : TransferView) (route : RouteView) → Keeps plan.now run.old middle → HasReached plan.now middle x route → HasRoomAt regions.old route.memory }
     ensures turn { IsTurn plan.now run.old run.new rounds.new regions.old regions.new position result }
     ensures rounds { HasGoneOn run.old run.new rounds.old rounds.new }
     ensures roomy { payload.new.room ≡ 4096 }

@@ -1,5 +1,5 @@
 -- A run of two initiators, made by hand.
-use Rattle.std.specs.Prelude.{ℕ, List, [], ◌∷◌, None, codes, true}
+use Rattle.std.specs.Prelude.{ℕ, List, [], ◌∷◌, None, codes, true, false}
 use Rattle.tlm_types.specs.declared.words.ObjectNo.TheVariants.{Memory as memory_object}
 use Rattle.tlm_types.specs.declared.words.ReqMode.TheVariants.{Accept}
 use Rattle.tlm_types.specs.declared.words.RespMode.TheVariants.{Accept as accept_response}
@@ -23,12 +23,13 @@ initiator name = record { name = name; style = Blocking; script = codes "a.txt";
 unfoldable pub meeting_plan : Plan
 meeting_plan = record {
   platform = record {
+    version = 1;
     quantum = 0;
     initiators = initiator (codes "cpu") ∷ initiator (codes "dma") ∷ [];
     routers = [];
     memories = record {
       name = codes "ram";
-      traits = record { size = 256; latency = 10; readable = true; writable = true; enables = true; streaming = true; dmi = true; gates = 16 };
+      traits = record { size = 256; latency = 10; readable = true; writable = true; fetch_add = false; enables = true; streaming = true; dmi = true; gates = 16 };
       reply = Accept;
       lanes = 4;
     } ∷ [];

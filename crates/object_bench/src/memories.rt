@@ -280,6 +280,7 @@ fn blank(alloc: Global, number: u32) -> Result<Region, Memory>
         latency: 10,
         readable: true,
         writable: true,
+        fetch_add: false,
         enables: true,
         streaming: true,
         dmi: true,

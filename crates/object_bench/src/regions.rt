@@ -16,6 +16,7 @@ const RAM: MemoryTraits = MemoryTraits {
     latency: 10,
     readable: true,
     writable: true,
+    fetch_add: true,
     enables: true,
     streaming: true,
     dmi: true,

@@ -1,8 +1,10 @@
 // What scripts ask for.
 ghost use Rattle.std.specs.Prelude.{◌≡◌};
+ghost use Rattle.script_engine.specs.declared.part.Part.TheVariants.{Asks};
+ghost use Rattle.script_engine.specs.State.{next_of};
 
 use generic_payload::Payload;
-use script_engine::{Engine, Op};
+use script_engine::{Engine, Op, Part, Transfer, TransferKind};
 use std::alloc::Global;
 use std::process::Abort;
 use tlm_types::{Command, MemoryTraits, Response};
@@ -11,7 +13,7 @@ use traffic_script::read_script;
 const ROOM: u32 = 4_096;
 
 fn engine_of(rt: &impl Abort, alloc: Global, text: &str) -> Engine {
-    let script = read_script(alloc, text.as_bytes()).expect(rt, "a script");
+    let script = read_script(alloc, text.as_bytes(), 2).expect(rt, "a script");
     Engine::new(3, script)
 }
 
@@ -22,6 +24,7 @@ fn transport(payload: &mut Payload, memory: &mut [u8]) {
         latency: 10,
         readable: true,
         writable: true,
+        fetch_add: true,
         enables: true,
         streaming: true,
         dmi: false,
@@ -32,30 +35,44 @@ fn transport(payload: &mut Payload, memory: &mut [u8]) {
         match payload.command() {
             Command::Read => payload.read_from(memory),
             Command::Write => payload.write_into(memory),
+            Command::FetchAdd => payload.fetch_into(memory),
             Command::Ignore => {}
         }
     }
     payload.set_status(status);
 }
 
-// Does what is next, an access on a memory, and goes on.
-fn step(rt: &impl Abort, engine: &mut Engine, payload: &mut Payload, memory: &mut [u8]) {
-    assert!(rt; payload.room() >= ROOM);
-    engine.fill(payload);
-    match engine.next() {
-        Op::Access { length, fenced, .. } => {
+// Makes a transfer that is next, an access on a memory, and goes on.
+fn make(
+    rt: &impl Abort,
+    engine: &mut Engine,
+    payload: &mut Payload,
+    memory: &mut [u8],
+    transfer: Transfer,
+)
+    requires { next_of engine.old ≡ Asks transfer }
+{
+    match transfer.kind {
+        TransferKind::Access { fenced, .. } => {
             transport(payload, memory);
             if fenced {
-                assert!(rt; payload.bytes().len() == length as usize);
+                assert!(rt; payload.bytes().len() == transfer.length as usize);
                 engine.told(payload);
             } else {
                 engine.passed();
             }
         }
-        Op::Debug { .. } | Op::Wait(_) | Op::Sync | Op::Fence | Op::Invalidate { .. } | Op::Done =>
-            {
-                engine.passed();
-            }
+        TransferKind::DebugRead => engine.passed(),
+    }
+}
+
+// Does what is next, and goes on.
+fn step(rt: &impl Abort, engine: &mut Engine, payload: &mut Payload, memory: &mut [u8]) {
+    assert!(rt; payload.room() >= ROOM);
+    engine.fill(payload);
+    match engine.next().part() {
+        Part::Asks(transfer) => make(rt, engine, payload, memory, transfer),
+        Part::Pauses(_) | Part::Invalidates { .. } | Part::Ends => engine.passed(),
     }
 }
 
@@ -85,13 +102,14 @@ wait 30
 copy 0x0 0x8 5
 sync
 add 0x30 7
+fetch_add 0x30 7
 fence
 repeat 2
 wait 0
 end
 ";
 
-static ASKED: [(Op, bool); 18] = [
+static ASKED: [(Op, bool); 19] = [
     (access!(0, 0x10, 4, Write, true, false), false),
     (access!(1, 0x20, 2, Write, false, false), true),
     (access!(2, 0x20, 4, Write, false, false), true),
@@ -112,6 +130,7 @@ static ASKED: [(Op, bool); 18] = [
     (Op::Sync, true),
     (access!(9, 0x30, 4, Read, true, true), true),
     (access!(10, 0x30, 4, Write, true, true), false),
+    (access!(11, 0x30, 4, FetchAdd, false, true), true),
     (Op::Fence, true),
     (Op::Wait(0), true),
     (Op::Wait(0), true),
@@ -130,7 +149,7 @@ fn operations_are_asked_for_in_order(rt: HostRuntime) {
         assert!(rt; engine.at_end_of_operation() == *ended, "before {op:?}");
         step(&rt, &mut engine, &mut payload, &mut memory);
     }
-    assert!(rt; engine.transactions() == 11);
+    assert!(rt; engine.transactions() == 12);
 }
 
 // A script of one operation, and what its payload has.
@@ -143,7 +162,7 @@ struct Filled<'a> {
     width: u64,
 }
 
-static FILLED: [Filled<'static>; 8] = [
+static FILLED: [Filled<'static>; 9] = [
     Filled {
         text: "write 0x10 deadbeef\n",
         command: Command::Write,
@@ -197,6 +216,14 @@ static FILLED: [Filled<'static>; 8] = [
         command: Command::Read,
         address: 0x30,
         bytes: &[0; 4],
+        enables: &[],
+        width: 4,
+    },
+    Filled {
+        text: "fetch_add 0x30 0x1020304\n",
+        command: Command::FetchAdd,
+        address: 0x30,
+        bytes: &[4, 3, 2, 1],
         enables: &[],
         width: 4,
     },

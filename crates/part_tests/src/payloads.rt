@@ -14,6 +14,7 @@ const OPEN: MemoryTraits = MemoryTraits {
     latency: 10,
     readable: true,
     writable: true,
+    fetch_add: true,
     enables: true,
     streaming: true,
     dmi: true,

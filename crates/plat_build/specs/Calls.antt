@@ -15,6 +15,7 @@ use Rattle.route_plan.specs.Routes.{route_by}
 use Rattle.region_object.specs.declared.call.RegionCall.{RegionCall}
 use Rattle.region_object.specs.declared.call.RegionReply.{RegionReply}
 use Rattle.region_object.specs.declared.call.RegionReply.TheVariants.{Accessed, Moved}
+use Rattle.region_object.specs.Call.{payload_cost}
 use Rattle.region_object.specs.Region.{LoggedMemory, after_call, reply_of}
 use Rattle.region_object.specs.Written.{written_from}
 
@@ -25,7 +26,7 @@ route_at p initiator address = route_by (walk_at p initiator address)
 -- the wallet has a ticket of the memory at the end of a route, for the bytes of this payload
 pub record CanPay (payload : PayloadView) (w : Purse) (route : Route) : Type 0 where
   pub left : 0 < left_of w route.memory
-  pub bytes : length payload.bytes + length payload.enables ≤ bytes_of w route.memory
+  pub bytes : payload_cost payload ≤ bytes_of w route.memory
 
 -- the payload that a memory hands back
 abbrev pub returned : RegionReply → PayloadView

@@ -5,7 +5,7 @@ ghost use Rattle.tlm_types.specs.declared.words.Command.TheVariants.{Read};
 ghost use Rattle.tlm_types.specs.declared.words.Response.TheVariants.{AddressError};
 ghost use Rattle.shared_object.specs.Steps.{IsNote};
 ghost use Rattle.token_book.specs.Purse.{IsOf, bytes_of, left_of};
-ghost use Rattle.region_object.specs.Call.{IsFit, cost_of, payload_of};
+ghost use Rattle.region_object.specs.Call.{IsFit, cost_of, payload_cost, payload_of};
 ghost use Rattle.region_object.specs.declared.call.RegionCall.TheVariants.{Debug};
 ghost use Rattle.plat_build.specs.Calls.{CanPay, IsCalled, OneTicketLess, returned, route_at};
 
@@ -124,7 +124,7 @@ impl<N: Naming<Plan, TlmLaw>> Net<N> {
         ensures note { IsNote N.table result.note }
         ensures wallet { IsOf N.tokens wallet.new }
         ensures ticket { MatchOption (route_at self.now who payload.address) (wallet.new ≡ wallet.old)
-            (λ route. OneTicketLess route.memory (length payload.bytes + length payload.enables) wallet.old wallet.new) }
+            (λ route. OneTicketLess route.memory (payload_cost payload) wallet.old wallet.new) }
     {
         let Some(route) = self.plan().route(who, payload.address()) else {
             payload.set_status(Response::AddressError);

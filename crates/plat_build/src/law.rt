@@ -44,7 +44,7 @@ impl Naming<Plan, TlmLaw> for Brand {
     ghost table = { record { words = 0; slots = 0; views_name = 0; atom = 0; block = 0; offset = 0; slot_names = [] } };
 
     ghost frame = { record {
-      world = record { platform = record { quantum = 0; initiators = []; routers = []; memories = [] }; scripts = [] };
+      world = record { platform = record { version = 1; quantum = 0; initiators = []; routers = []; memories = [] }; scripts = [] };
       planned = [];
       gates = [];
       notes = 0;

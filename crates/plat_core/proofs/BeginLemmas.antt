@@ -24,11 +24,11 @@ use Rattle.initiator_run.proofs.EndLemmas.{HasCome-begun}
 use Rattle.run_outcome.proofs.ListLemmas.{at_push}
 use Rattle.run_outcome.proofs.PlanLemmas.{no_fourphase}
 use Rattle.traffic_script.specs.Proper.{AreProper}
-use Rattle.initiator_run.proofs.BeginLemmas.{asked_planned, proper_at, syncs_bound}
+use Rattle.initiator_run.proofs.BeginLemmas.{proper_at, syncs_bound}
 
 share_bound : (p : Plan) (i : Initiator) (m : ℕ) → asked_in p i m i.script ≤ share_of p i (memory_object m)
 unfolding share_of
-share_bound p i m = omega (arith, asked_planned p i m i.script)
+share_bound p i m = omega arith
 
 total_bound : (p : Plan) (m : ℕ) (is : List Initiator) → total_left p m is (map (begun_run p) is) ≤ sum_by (λ i. share_of p i (memory_object m)) is
 total_bound p m [] = omega arith

@@ -20,7 +20,8 @@ use Rattle.good_history.proofs.Decoupled.{sound_grows}
 use Rattle.region_object.specs.Region.{LoggedMemory}
 use Rattle.time_board.specs.declared.rounds.Member.{Member}
 use Rattle.route_plan.specs.declared.step.Route.{Route}
-use Rattle.script_engine.specs.State.{State, op_of}
+use Rattle.script_engine.specs.declared.part.Transfer.{Transfer}
+use Rattle.script_engine.specs.State.{State}
 use Rattle.script_engine.proofs.Steps.{ends}
 use Rattle.initiator_run.specs.Access.{HasLog, IsRouteOf, entry_made, model_route}
 use Rattle.initiator_run.specs.Come.{HasCome, has_ended}
@@ -29,17 +30,16 @@ use Rattle.plat_core.specs.declared.steps.CoreStep.{CoreStep}
 use Rattle.initiator_run.specs.Left.{asks_left, leads, total_left}
 use Rattle.run_outcome.specs.Merge.{entries_in, merged}
 use Rattle.initiator_run.specs.Moves.{HasReached, IsUnderWay, Keeps}
-use Rattle.initiator_run.specs.Run.{Run, address_of, arrived, engine_after}
+use Rattle.initiator_run.specs.Run.{Run, engine_after}
 use Rattle.initiator_run.specs.declared.turn.Turn.{Turn}
 use Rattle.initiator_run.specs.declared.turn.Turn.TheVariants.{Made as turn_made, Waits as turn_waits, Ended as turn_ended, NoMemory as no_memory}
 use Rattle.initiator_run.specs.Turns.{IsTurn, HasLogAt, HasMadeAccess, HasMoved, HasMovedToEnd, HasMovedToWait, HasRoomAt}
-use Rattle.initiator_run.proofs.CountLemmas.{with_sync_finished}
 use Rattle.initiator_run.proofs.EndLemmas.{HasCome-other, HasCome-ended, HasCome-open}
 use Rattle.initiator_run.proofs.EntryLemmas.{IsAtMemory, KeepsRequests-turn, HasCome-turn, entries_at-push, some_row}
 use Rattle.initiator_run.proofs.LeftLemmas.{left_after, leads_there, total_left-set, total_left-at}
 use Rattle.run_outcome.proofs.ListLemmas.{HasElement, at_map, at_set, has_element, length-set', map-set, set-same, within, is_within}
 use Rattle.run_outcome.proofs.MergeLemmas.{merged-push, length-by_position}
-use Rattle.initiator_run.proofs.RunLemmas.{accessed_step}
+use Rattle.initiator_run.proofs.RunLemmas.{accessed_finished, accessed_step}
 use Rattle.run_outcome.proofs.PlanLemmas.{blocking_at, initiator_number, no_fourphase}
 use Rattle.initiator_run.proofs.RouteLemmas.{walk_memory}
 use Rattle.route_plan.proofs.ShareLemmas.{count_initiators}
@@ -86,12 +86,12 @@ has_turn p runs regions made k r core at =
     }
 
 -- a run that stands at an access with a route has not finished
-not_finished : (p : Plan) (i : Initiator) (h : List Entry) (old new : Run) (route : Route) → slice_get (initiators_of p) old.engine.initiator ≡ Some i → IsRunOf p h i old → Keeps p old new → HasReached p new route → old.finished ≡ true → ⊥
-not_finished p i h old new route mine own keeps reached finished =
+not_finished : (p : Plan) (i : Initiator) (h : List Entry) (old new : Run) (x : Transfer) (route : Route) → slice_get (initiators_of p) old.engine.initiator ≡ Some i → IsRunOf p h i old → Keeps p old new → HasReached p new x route → old.finished ≡ true → ⊥
+not_finished p i h old new x route mine own keeps reached finished =
     let come = keeps.come i h mine own.come in
-    let leads = MatchOption-at_some ⊥ (λ (x : Initiator). IsRouteOf p x (address_of (op_of new.engine)) route) i (ap (slice_get (initiators_of p)) keeps.initiator ∙ mine) reached.leads in
+    let leads = MatchOption-at_some ⊥ (λ (j : Initiator). IsRouteOf p j x.address route) i (ap (slice_get (initiators_of p)) keeps.initiator ∙ mine) reached.leads in
     let ended : has_ended p.platform i h ≡ true = (HasCome-ended ends p.platform i h old own.come (own.finished finished)).ended in
-    let unended : has_ended p.platform i h ≡ false = HasCome-open p.platform i h new (model_route route) reached.access leads.leads come in
+    let unended : has_ended p.platform i h ≡ false = HasCome-open p.platform i h new x (model_route route) reached.next leads.leads come in
     cc
 
 same_total : (p : Plan) (runs : List Run) (k j : ℕ) (i : Initiator) (old new : Run) → slice_get (initiators_of p) k ≡ Some i → slice_get (initiators_of p) old.engine.initiator ≡ Some i → slice_get runs k ≡ Some old → Keeps p old new → total_left p j (initiators_of p) (set runs k new) ≤ total_left p j (initiators_of p) runs
@@ -177,7 +177,7 @@ core_moved p runs regions after made k old new core at moved =
       each_run = λ j x r mine run. subst (λ (h : List Entry). IsRunOf p h x r) (sym same)
           (runs_moved p runs (history_of regions) k turn.initiator new turn.at (record {
             come = moved.keeps.come turn.initiator (history_of regions) turn.mine turn.own.come;
-            finished = λ f. absurd (not_finished p turn.initiator (history_of regions) old new moved.route turn.mine turn.own moved.keeps moved.reached (sym moved.finished ∙ f));
+            finished = λ f. absurd (not_finished p turn.initiator (history_of regions) old new moved.transfer moved.route turn.mine turn.own moved.keeps moved.reached (sym moved.finished ∙ f));
           }) core.each_run j x r mine run);
       each_region = λ j m is. subst (λ (h : List Entry). IsMemoryAt p (set runs k new) h j m) (sym same)
           (regions_moved j m (subst (λ (x : List LoggedMemory). slice_get x j ≡ Some m) moved.memory.now is)
@@ -206,21 +206,21 @@ memory_of p runs regions made i a route core leads =
     let found = has_element regions route.memory (omega (arith, is_within p.platform.memories route.memory there, core.region_count)) in
     record { region = found.element; at = found.at; is = core.each_region route.memory found.element found.at }
 
-pub route_at : (p : Plan) (i : Initiator) (old middle : Run) (route : Route) → slice_get (initiators_of p) old.engine.initiator ≡ Some i → Keeps p old middle → HasReached p middle route → IsRouteOf p i (address_of (op_of middle.engine)) route
-route_at p i old middle route mine keeps reached = MatchOption-at_some ⊥ (λ (x : Initiator). IsRouteOf p x (address_of (op_of middle.engine)) route) i (ap (slice_get (initiators_of p)) keeps.initiator ∙ mine) reached.leads
+pub route_at : (p : Plan) (i : Initiator) (old middle : Run) (x : Transfer) (route : Route) → slice_get (initiators_of p) old.engine.initiator ≡ Some i → Keeps p old middle → HasReached p middle x route → IsRouteOf p i x.address route
+route_at p i old middle x route mine keeps reached = MatchOption-at_some ⊥ (λ (j : Initiator). IsRouteOf p j x.address route) i (ap (slice_get (initiators_of p)) keeps.initiator ∙ mine) reached.leads
 
-one_asked : (p : Plan) (i : Initiator) (old middle : Run) (got : List ℕ) (route : Route) → slice_get (initiators_of p) old.engine.initiator ≡ Some i → Keeps p old middle → HasReached p middle route → IsRouteOf p i (address_of (op_of middle.engine)) route → asks_left p i route.memory (engine_after middle.engine got) + 1 ≤ asks_left p i route.memory old.engine
-one_asked p i old middle got route mine keeps reached leads =
-    omega (arith, left_after p i route.memory middle.engine got reached.access, leads_there p i (address_of (op_of middle.engine)) (model_route route) leads.leads, keeps.left i route.memory mine)
+one_asked : (p : Plan) (i : Initiator) (old middle : Run) (got : List ℕ) (x : Transfer) (route : Route) → slice_get (initiators_of p) old.engine.initiator ≡ Some i → Keeps p old middle → HasReached p middle x route → IsRouteOf p i x.address route → asks_left p i route.memory (engine_after middle.engine got) + 1 ≤ asks_left p i route.memory old.engine
+one_asked p i old middle got x route mine keeps reached leads =
+    omega (arith, left_after p i route.memory middle.engine got x reached.next, leads_there p i x.address (model_route route) leads.leads, keeps.left i route.memory mine)
 
 -- a memory has room for the access that a run comes to
-pub room_for_access : (p : Plan) (runs : List Run) (regions : List LoggedMemory) (made k : ℕ) (old middle : Run) (route : Route) → IsCore p runs regions made → slice_get runs k ≡ Some old → Keeps p old middle → HasReached p middle route → HasRoomAt regions route.memory
-room_for_access p runs regions made k old middle route core at keeps reached =
+pub room_for_access : (p : Plan) (runs : List Run) (regions : List LoggedMemory) (made k : ℕ) (old middle : Run) (x : Transfer) (route : Route) → IsCore p runs regions made → slice_get runs k ≡ Some old → Keeps p old middle → HasReached p middle x route → HasRoomAt regions route.memory
+room_for_access p runs regions made k old middle x route core at keeps reached =
     let turn = has_turn p runs regions made k old core at in
-    let leads = route_at p turn.initiator old middle route turn.mine keeps reached in
-    let memory = memory_of p runs regions made turn.initiator (address_of (op_of middle.engine)) route core leads.leads in
+    let leads = route_at p turn.initiator old middle x route turn.mine keeps reached in
+    let memory = memory_of p runs regions made turn.initiator x.address route core leads.leads in
     subst (λ (o : Option LoggedMemory). IsSomeAnd o (λ m. length m.log.entries < m.log.room)) (sym memory.at)
-    (omega (arith, memory.is.roomy, total_left-at p route.memory (initiators_of p) runs k turn.initiator old turn.at at, one_asked p turn.initiator old middle [] route turn.mine keeps reached leads))
+    (omega (arith, memory.is.roomy, total_left-at p route.memory (initiators_of p) runs k turn.initiator old turn.at at, one_asked p turn.initiator old middle [] x route turn.mine keeps reached leads))
 
 few_entries : (regions : List LoggedMemory) → ((k : ℕ) (m : LoggedMemory) → slice_get regions k ≡ Some m → length m.log.entries ≤ 1000000) → length (entries_in (logs_of regions)) ≤ 1000000 * length regions
 few_entries [] each = omega arith
@@ -241,9 +241,9 @@ few_made p runs regions made core =
     few_at : (k : ℕ) (m : LoggedMemory) → IsMemoryAt p runs (history_of regions) k m → length m.log.entries ≤ 1000000
     few_at k m is = omega (arith, is.roomy, is.few)
 
-pub history_made : (p : Plan) (old new : Run) (regions after : List LoggedMemory) (made : ℕ) → IsNumbered (history_of regions) → made ≡ length (history_of regions) → (is : HasMadeAccess p old new regions after made) → history_of after ≡ history_of regions ++ entry_made is.middle is.region is.route made ∷ []
+pub history_made : (p : Plan) (old new : Run) (regions after : List LoggedMemory) (made : ℕ) → IsNumbered (history_of regions) → made ≡ length (history_of regions) → (is : HasMadeAccess p old new regions after made) → history_of after ≡ history_of regions ++ entry_made is.middle is.transfer is.region is.route made ∷ []
 history_made p old new regions after made numbered count is =
-    let e = entry_made is.middle is.region is.route made in
+    let e = entry_made is.middle is.transfer is.region is.route made in
     ap history_of is.memory.now
     ∙ (ap merged (map-set (λ (x : LoggedMemory). x.log.entries) regions is.route.memory is.next)
     ∙ (ap (λ (log : List Entry). merged (set (logs_of regions) is.route.memory log)) is.logged.all
@@ -254,10 +254,10 @@ at_memory p runs h route m is =
     let found = some_row (slice_get p.platform.memories route.memory) (λ (row : MemoryRow). m.traits ≡ row.traits) is.row in
     record { row = found.row; memory = found.at; traits = found.has; number = is.number; log = is.log }
 
-fewer_asks : (p : Plan) (i : Initiator) (j : ℕ) (old middle new : Run) (got : List ℕ) (route : Route) → new.engine ≡ engine_after middle.engine got → slice_get (initiators_of p) old.engine.initiator ≡ Some i → Keeps p old middle → HasReached p middle route → asks_left p i j new.engine + 0 ≤ asks_left p i j old.engine
-fewer_asks p i j old middle new got route same mine keeps reached =
+fewer_asks : (p : Plan) (i : Initiator) (j : ℕ) (old middle new : Run) (got : List ℕ) (x : Transfer) (route : Route) → new.engine ≡ engine_after middle.engine got → slice_get (initiators_of p) old.engine.initiator ≡ Some i → Keeps p old middle → HasReached p middle x route → asks_left p i j new.engine + 0 ≤ asks_left p i j old.engine
+fewer_asks p i j old middle new got x route same mine keeps reached =
     let engine : asks_left p i j new.engine ≡ asks_left p i j (engine_after middle.engine got) = ap (asks_left p i j) same in
-    omega (arith, engine, left_after p i j middle.engine got reached.access, keeps.left i j mine)
+    omega (arith, engine, left_after p i j middle.engine got x reached.next, keeps.left i j mine)
 
 apart : (a b : ℕ) → nat_eq a b ≡ false → nat_eq b a ≡ false
 apart a b is = grind (arith, nat_tests)
@@ -318,43 +318,43 @@ memory_kept p runs next_runs h e j n m is object other less = record {
 pub core_made : (p : Plan) (runs : List Run) (regions after : List LoggedMemory) (made k : ℕ) (old new : Run) → IsCore p runs regions made → slice_get runs k ≡ Some old → HasMadeAccess p old new regions after made → IsCore p (set runs k new) after (made + 1)
 core_made p runs regions after made k old new core at is =
     let h = history_of regions in
-    let e = entry_made is.middle is.region is.route made in
+    let e = entry_made is.middle is.transfer is.region is.route made in
     let turn = has_turn p runs regions made k old core at in
     let i = turn.initiator in
-    let leads = route_at p i old is.middle is.route turn.mine is.keeps is.reached in
+    let leads = route_at p i old is.middle is.transfer is.route turn.mine is.keeps is.reached in
     let memory = core.each_region is.route.memory is.region is.memory.was in
     let come = is.keeps.come i h turn.mine turn.own.come in
     let same : history_of after ≡ h ++ e ∷ [] = history_made p old new regions after made core.sound.requests.numbered core.count is in
     let mine : slice_get (initiators_of p) i.number ≡ Some i = ap (slice_get (initiators_of p)) turn.number ∙ turn.at in
-    let engine : new.engine ≡ engine_after is.middle.engine is.got = ap (λ (r : Run). r.engine) is.run ∙ accessed_step (op_of is.middle.engine) is.route.latency is.got is.middle in
+    let engine : new.engine ≡ engine_after is.middle.engine is.got = ap (λ (r : Run). r.engine) is.run ∙ accessed_step is.transfer is.route.latency is.got is.middle in
     let own : IsRunOf p (h ++ e ∷ []) i new = record {
-      come = subst (HasCome p.platform i (h ++ e ∷ [])) (sym is.run) (HasCome-turn p i h is.middle is.region is.route made is.got come is.reached.access leads memory.number is.told);
-      finished = λ f. absurd (not_finished p i h old is.middle is.route turn.mine turn.own is.keeps is.reached (sym is.finished ∙ (sym (ap (λ (r : Run). r.finished) is.run ∙ with_sync_finished (op_of is.middle.engine) (record is.middle { engine = engine_after is.middle.engine is.got; keeper = arrived (op_of is.middle.engine) is.route.latency is.middle.keeper })) ∙ f)));
+      come = subst (HasCome p.platform i (h ++ e ∷ [])) (sym is.run) (HasCome-turn p i h is.middle is.transfer is.region is.route made is.got come is.reached.next leads memory.number is.told);
+      finished = λ f. absurd (not_finished p i h old is.middle is.transfer is.route turn.mine turn.own is.keeps is.reached (sym is.finished ∙ (sym (ap (λ (r : Run). r.finished) is.run ∙ accessed_finished is.transfer is.route.latency is.got is.middle) ∙ f)));
     } in
     record {
       valid = core.valid;
-      sound = subst (IsSound p) (sym same) (sound_grows p h e (no_fourphase p core.valid) core.sound tt (KeepsRequests-turn p i h is.middle is.region is.route made core.sound.requests mine turn.blocking come is.reached.access leads (at_memory p runs h is.route is.region memory) core.count));
+      sound = subst (IsSound p) (sym same) (sound_grows p h e (no_fourphase p core.valid) core.sound tt (KeepsRequests-turn p i h is.middle is.transfer is.region is.route made core.sound.requests mine turn.blocking come is.reached.next leads (at_memory p runs h is.route is.region memory) core.count));
       count = sym (ap length same ∙ (length-append h (e ∷ []) ∙ ap (λ (n : ℕ). n + 1) (sym core.count)));
       run_count = length-set' runs k new ∙ core.run_count;
       region_count = ap length is.memory.now ∙ (length-set' regions is.route.memory is.next ∙ core.region_count);
       each_run = λ j x r at_j run. subst (λ (l : List Entry). IsRunOf p l x r) (sym same) (runs_made p runs h e k i new turn.at (come.counted.number ∙ turn.number) own core.each_run j x r at_j run);
       each_region = λ j m here. subst (λ (l : List Entry). IsMemoryAt p (set runs k new) l j m) (sym same)
           (regions_made j m i memory (subst (λ (x : List LoggedMemory). slice_get x j ≡ Some m) is.memory.now here)
-          (λ x. omega (arith, total_left-set p x 0 (initiators_of p) runs k i old new turn.at at (fewer_asks p i x old is.middle new is.got is.route engine turn.mine is.keeps is.reached)))
+          (λ x. omega (arith, total_left-set p x 0 (initiators_of p) runs k i old new turn.at at (fewer_asks p i x old is.middle new is.got is.transfer is.route engine turn.mine is.keeps is.reached)))
           (total_left-set p is.route.memory 1 (initiators_of p) runs k i old new turn.at at
-          (subst (λ (s : State). asks_left p i is.route.memory s + 1 ≤ asks_left p i is.route.memory old.engine) (sym engine) (one_asked p i old is.middle is.got is.route turn.mine is.keeps is.reached leads))));
+          (subst (λ (s : State). asks_left p i is.route.memory s + 1 ≤ asks_left p i is.route.memory old.engine) (sym engine) (one_asked p i old is.middle is.got is.transfer is.route turn.mine is.keeps is.reached leads))));
     }
   where
     regions_made : (j : ℕ) (m : LoggedMemory) (i : Initiator) → IsMemoryAt p runs (history_of regions) is.route.memory is.region → slice_get (set regions is.route.memory is.next) j ≡ Some m
         → ((x : ℕ) → total_left p x (initiators_of p) (set runs k new) ≤ total_left p x (initiators_of p) runs)
         → total_left p is.route.memory (initiators_of p) (set runs k new) + 1 ≤ total_left p is.route.memory (initiators_of p) runs
-        → IsMemoryAt p (set runs k new) (history_of regions ++ entry_made is.middle is.region is.route made ∷ []) j m
+        → IsMemoryAt p (set runs k new) (history_of regions ++ entry_made is.middle is.transfer is.region is.route made ∷ []) j m
     regions_made j m i memory here less one =
         elim (at_set regions is.route.memory j is.next m here) [
-          | inl same ↦ subst (IsMemoryAt p (set runs k new) (history_of regions ++ entry_made is.middle is.region is.route made ∷ []) j) same.1
-              (subst (λ (n : ℕ). IsMemoryAt p (set runs k new) (history_of regions ++ entry_made is.middle is.region is.route made ∷ []) n is.next) (sym same.0)
-              (memory_made p runs (set runs k new) (history_of regions) (entry_made is.middle is.region is.route made) is.route.memory is.region is.next memory is.logged refl one))
-          | inr other ↦ memory_kept p runs (set runs k new) (history_of regions) (entry_made is.middle is.region is.route made) j is.route.memory m (core.each_region j m other.1) (ap memory_object memory.number) other.0 (less j)
+          | inl same ↦ subst (IsMemoryAt p (set runs k new) (history_of regions ++ entry_made is.middle is.transfer is.region is.route made ∷ []) j) same.1
+              (subst (λ (n : ℕ). IsMemoryAt p (set runs k new) (history_of regions ++ entry_made is.middle is.transfer is.region is.route made ∷ []) n is.next) (sym same.0)
+              (memory_made p runs (set runs k new) (history_of regions) (entry_made is.middle is.transfer is.region is.route made) is.route.memory is.region is.next memory is.logged refl one))
+          | inr other ↦ memory_kept p runs (set runs k new) (history_of regions) (entry_made is.middle is.transfer is.region is.route made) j is.route.memory m (core.each_region j m other.1) (ap memory_object memory.number) other.0 (less j)
         ]
 
 -- the finished flags of the runs

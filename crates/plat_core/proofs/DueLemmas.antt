@@ -11,15 +11,17 @@ use Rattle.tlm_model.specs.Route.{Route, route_of}
 use Rattle.tlm_model.specs.Scripts.{is_settled}
 use Rattle.quantum_keeper.specs.Keeper.{current_time}
 use Rattle.script_engine.specs.declared.op.Op.TheVariants as next
-use Rattle.script_engine.specs.State.{op_of, payload_of}
-use Rattle.script_engine.specs.Asking.{requests_at}
+use Rattle.script_engine.specs.declared.part.Part.TheVariants.{Asks}
+use Rattle.script_engine.specs.declared.part.Transfer.{Transfer}
+use Rattle.script_engine.specs.State.{next_of, op_of, payload_of}
+use Rattle.script_engine.specs.Asking.{request_for, requests_at}
 use Rattle.script_engine.proofs.Steps.{ends}
 use Rattle.initiator_run.specs.Come.{HasCome, rounds_at}
 use Rattle.plat_core.specs.Rounds.{due_round, round_of_first}
-use Rattle.initiator_run.specs.Run.{IsAccessOp, Run, address_of, request_for}
+use Rattle.initiator_run.specs.Run.{Run}
 use Rattle.initiator_run.proofs.AnswerLemmas.{and_left, and_right}
 use Rattle.initiator_run.proofs.EndLemmas.{HasCome-ended, blocking_syncs, request_is_open, requests_now}
-use Rattle.initiator_run.proofs.NextLemmas.{numbers_at, request_is_first, seq_of_request}
+use Rattle.initiator_run.proofs.NextLemmas.{numbers_at, request_is_first, seq_of_next}
 use Rattle.initiator_run.proofs.RoundLemmas.{no_rounds_before}
 
 -- settled requests have no entry to come
@@ -53,23 +55,23 @@ due_after_syncs p i h r blocking come =
     subst (λ (n : ℕ). r.syncs ≤ n) (sym (due_is p i h r come)) low
 
 -- the round of the request that is next
-pub round_at_next : (p : Platform) (i : Initiator) (h : List Entry) (r : Run) → IsAccessOp (op_of r.engine) → HasCome p i h r → round_of p i r.engine.seq ≡ r.syncs
-round_at_next p i h r is come =
+pub round_at_next : (p : Platform) (i : Initiator) (h : List Entry) (r : Run) (x : Transfer) → next_of r.engine ≡ Asks x → HasCome p i h r → round_of p i r.engine.seq ≡ r.syncs
+round_at_next p i h r x is come =
     let n = r.engine.seq in
     let none : n - n ≡ 0 = omega arith in
     sym (come.counted.rounds n (omega arith))
     ∙ (ap (λ (k : ℕ). r.syncs + rounds_at p i r.keeper.last_sync (current_time r.keeper) r.engine k) none
-    ∙ (ap (λ (k : ℕ). r.syncs + k) (no_rounds_before p i r.keeper.last_sync (current_time r.keeper) r.engine is) ∙ add-zero r.syncs))
+    ∙ (ap (λ (k : ℕ). r.syncs + k) (no_rounds_before p i r.keeper.last_sync (current_time r.keeper) r.engine x is) ∙ add-zero r.syncs))
 
--- at an access with a route the due round is that of its last sync
-pub due_at_access : (p : Platform) (i : Initiator) (h : List Entry) (r : Run) (route : Route) → IsAccessOp (op_of r.engine) → route_of p i (address_of (op_of r.engine)) ≡ Some route → HasCome p i h r → due_round p i h ≡ r.syncs
-due_at_access p i h r route is leads come =
-    let q = request_for (op_of r.engine) (payload_of r.engine 0) (current_time r.keeper) come.stage in
-    let first = request_is_first p i h (current_time r.keeper) come.stage 0 r.engine is in
+-- at a transfer with a route the due round is that of its last sync
+pub due_at_access : (p : Platform) (i : Initiator) (h : List Entry) (r : Run) (x : Transfer) (route : Route) → next_of r.engine ≡ Asks x → route_of p i x.address ≡ Some route → HasCome p i h r → due_round p i h ≡ r.syncs
+due_at_access p i h r x route is leads come =
+    let q = request_for x (payload_of r.engine 0) (current_time r.keeper) come.stage in
+    let first = request_is_first p i h (current_time r.keeper) come.stage 0 r.engine x is in
     due_is p i h r come
     ∙ (ap (round_of_first p i h) first.first
-    ∙ (ap (λ (b : Bool). cond b (round_of_first p i h first.more) (round_of p i q.seq)) (request_is_open p i h r route is leads come)
-    ∙ (ap (round_of p i) (seq_of_request (current_time r.keeper) come.stage 0 r.engine is) ∙ round_at_next p i h r is come)))
+    ∙ (ap (λ (b : Bool). cond b (round_of_first p i h first.more) (round_of p i q.seq)) (request_is_open p i h r x route is leads come)
+    ∙ (ap (round_of p i) (seq_of_next r.engine x is) ∙ round_at_next p i h r x is come)))
 
 -- at the end of the script the due round is that of the last sync
 pub due_at_end : (p : Platform) (i : Initiator) (h : List Entry) (r : Run) → i.row.style ≡ blocking_style → HasCome p i h r → op_of r.engine ≡ next.Done → due_round p i h ≡ r.syncs

@@ -59,7 +59,7 @@ pub goes_made : (p : Plan) (runs : List Run) (regions later : List LoggedMemory)
 goes_made p runs regions later members after made k old new core are at going is gone =
     let has = member_of_run p runs regions members after made k old new core are at going gone in
     let one : length (history_of later) ≡ length (history_of regions) + 1 =
-    ap length (history_made p old new regions later made core.sound.requests.numbered core.count is) ∙ length-append (history_of regions) (entry_made is.middle is.region is.route made ∷ []) in
+    ap length (history_made p old new regions later made core.sound.requests.numbered core.count is) ∙ length-append (history_of regions) (entry_made is.middle is.transfer is.region is.route made ∷ []) in
     let made = has_progress p runs regions later members after k old new has gone.more (omega arith) in
     (made.goes, omega (arith, made.exact, gone.more))
 

@@ -6,7 +6,6 @@ use Rattle.tlm_model.specs.Plan.{Plan, Initiator, initiators_of}
 use Rattle.region_object.specs.Region.{LoggedMemory}
 use Rattle.time_board.specs.declared.rounds.Member.{Member}
 use Rattle.time_board.specs.Rounds.{member_of}
-use Rattle.script_engine.specs.State.{op_of}
 use Rattle.script_engine.proofs.Steps.{ends}
 use Rattle.initiator_run.specs.Access.{entry_made, model_route}
 use Rattle.plat_core.specs.Board.{AreInRounds}
@@ -14,12 +13,12 @@ use Rattle.initiator_run.specs.Board.{HasGoneOn}
 use Rattle.plat_core.specs.Core.{CoreView, HasRisen, IsCore, IsStep, are_finished, history_of, member_in}
 use Rattle.plat_core.specs.declared.steps.CoreStep.TheVariants.{Made, Waits, Finished}
 use Rattle.plat_core.specs.Rounds.{due_round, round_at, round_by}
-use Rattle.initiator_run.specs.Run.{Run, arrived, engine_after}
+use Rattle.initiator_run.specs.Run.{Run}
 use Rattle.initiator_run.specs.Turns.{HasMadeAccess, HasMoved, HasMovedToEnd, HasMovedToWait}
 use Rattle.plat_core.proofs.BoardLemmas.{HasMember, has_member, is_held, not_held, not_held_done}
 use Rattle.initiator_run.proofs.BoardLemmas.{at_round, set_own}
 use Rattle.plat_core.proofs.CoreLemmas.{HasTurn, core_made, finished_same, has_turn, history_made, history_moved, route_at, step_of}
-use Rattle.initiator_run.proofs.CountLemmas.{with_sync_finished, with_sync_round}
+use Rattle.initiator_run.proofs.RunLemmas.{accessed_finished, accessed_round}
 use Rattle.plat_core.proofs.DueLemmas.{due_after_syncs, due_at_access, due_at_end, round_at_next}
 use Rattle.initiator_run.proofs.EndLemmas.{HasCome-ended, HasCome-open}
 use Rattle.run_outcome.proofs.ListLemmas.{at_map, map-set, set-same}
@@ -52,17 +51,17 @@ member_now members after k due old new finished has round flag =
     has.set ∙ (ap (λ (n : ℕ). set members k (at_round n new.finished)) (sym round) ∙ ap (λ (f : Bool). set members k (at_round due f)) flag)
 
 made_finished : (p : Plan) (old new : Run) (regions after : List LoggedMemory) (made : ℕ) → (is : HasMadeAccess p old new regions after made) → new.finished ≡ old.finished
-made_finished p old new regions after made is = ap (λ (r : Run). r.finished) is.run ∙ (with_sync_finished (op_of is.middle.engine) (record is.middle { engine = engine_after is.middle.engine is.got; keeper = arrived (op_of is.middle.engine) is.route.latency is.middle.keeper }) ∙ is.finished)
+made_finished p old new regions after made is = ap (λ (r : Run). r.finished) is.run ∙ (accessed_finished is.transfer is.route.latency is.got is.middle ∙ is.finished)
 
 made_round : (p : Plan) (old new : Run) (regions after : List LoggedMemory) (made : ℕ) → (is : HasMadeAccess p old new regions after made) → new.round ≡ is.middle.syncs
-made_round p old new regions after made is = ap (λ (r : Run). r.round) is.run ∙ (with_sync_round (op_of is.middle.engine) (record is.middle { engine = engine_after is.middle.engine is.got; keeper = arrived (op_of is.middle.engine) is.route.latency is.middle.keeper }) ∙ is.through)
+made_round p old new regions after made is = ap (λ (r : Run). r.round) is.run ∙ (accessed_round is.transfer is.route.latency is.got is.middle ∙ is.through)
 
 -- the round of an access that is made
 due_made : (p : Plan) (runs : List Run) (regions after : List LoggedMemory) (made k : ℕ) (old new : Run) → (turn : HasTurn p runs regions made k old) → HasMadeAccess p old new regions after made → due_round p.platform turn.initiator (history_of regions) ≡ new.round
 due_made p runs regions after made k old new turn is =
     let come = is.keeps.come turn.initiator (history_of regions) turn.mine turn.own.come in
-    let leads = route_at p turn.initiator old is.middle is.route turn.mine is.keeps is.reached in
-    due_at_access p.platform turn.initiator (history_of regions) is.middle (model_route is.route) is.reached.access leads.leads come ∙ sym (made_round p old new regions after made is)
+    let leads = route_at p turn.initiator old is.middle is.transfer is.route turn.mine is.keeps is.reached in
+    due_at_access p.platform turn.initiator (history_of regions) is.middle is.transfer (model_route is.route) is.reached.next leads.leads come ∙ sym (made_round p old new regions after made is)
 
 -- the step of an initiator that has made an entry
 pub step_made : (p : Plan) (runs : List Run) (regions later : List LoggedMemory) (members after : List Member) (made k : ℕ) (old new : Run) → IsCore p runs regions made → AreInRounds p (history_of regions) runs members → slice_get runs k ≡ Some old → old.finished ≡ false → HasMadeAccess p old new regions later made → HasGoneOn old new members after
@@ -73,12 +72,12 @@ step_made p runs regions later members after made k old new core are at going is
     let due = due_made p runs regions later made k old new turn is in
     let flag = made_finished p old new regions later made is in
     let come = is.keeps.come turn.initiator (history_of regions) turn.mine turn.own.come in
-    let leads = route_at p turn.initiator old is.middle is.route turn.mine is.keeps is.reached in
+    let leads = route_at p turn.initiator old is.middle is.transfer is.route turn.mine is.keeps is.reached in
     step_of (view p regions runs members) k turn.initiator (view p later (set runs k new) after) (Made made) turn.at (record {
-      unended = HasCome-open p.platform turn.initiator (history_of regions) is.middle (model_route is.route) is.reached.access leads.leads come;
+      unended = HasCome-open p.platform turn.initiator (history_of regions) is.middle is.transfer (model_route is.route) is.reached.next leads.leads come;
       free = not_held members after k (due_round p.platform turn.initiator (history_of regions)) old new taken.has gone due;
-      entry = entry_made is.middle is.region is.route made;
-      after = view_is p (history_of later) (history_of regions ++ entry_made is.middle is.region is.route made ∷ []) (are_finished (set runs k new)) (are_finished runs) after (member_in k members (due_round p.platform turn.initiator (history_of regions)) false)
+      entry = entry_made is.middle is.transfer is.region is.route made;
+      after = view_is p (history_of later) (history_of regions ++ entry_made is.middle is.transfer is.region is.route made ∷ []) (are_finished (set runs k new)) (are_finished runs) after (member_in k members (due_round p.platform turn.initiator (history_of regions)) false)
           (history_made p old new regions later made core.sound.requests.numbered core.count is) (finished_same runs k old new at flag)
           (member_now members after k (due_round p.platform turn.initiator (history_of regions)) old new false taken.has due (flag ∙ going));
       mine = come.counted.number;
@@ -94,11 +93,11 @@ rounds_made p runs regions later members after made k old new core are at going 
     let turn = taken.turn in
     let i = turn.initiator in
     let come = is.keeps.come i (history_of regions) turn.mine turn.own.come in
-    let e = entry_made is.middle is.region is.route made in
+    let e = entry_made is.middle is.transfer is.region is.route made in
     let who : slice_get (initiators_of p) e.txn.initiator ≡ Some i = ap (slice_get (initiators_of p)) is.keeps.initiator ∙ turn.mine in
     let round : round_at p e ≡ new.round =
     ap (λ (o : Option Initiator). round_by p.platform o is.middle.engine.seq) who
-    ∙ (round_at_next p.platform i (history_of regions) is.middle is.reached.access come ∙ sym (made_round p old new regions later made is)) in
+    ∙ (round_at_next p.platform i (history_of regions) is.middle is.transfer is.reached.next come ∙ sym (made_round p old new regions later made is)) in
     subst (λ (h : List Entry). AreInRounds p h (set runs k new) after) (sym (history_made p old new regions later made core.sound.requests.numbered core.count is))
     (rounds_entered p (history_of regions) e runs members after k old new are at taken.mine going (made_finished p old new regions later made is ∙ going) gone round)
 

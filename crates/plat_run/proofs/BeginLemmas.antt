@@ -1,10 +1,9 @@
 -- An initiator before its first turn has the tickets for all that its script asks for.
 use Rattle.std.proofs.Common.{◌≡◌, ℕ, zero, suc, ◌+◌, ◌*◌, ◌<◌, ◌≤◌, ◌&&◌, Bool, true, false, cond, List, [], ◌∷◌, ◌++◌, length, set, Option, Some, None, refl, ap, sym, subst, ◌∙◌, ⊎_elim, arith}
 use Rattle.std.specs.List.{AllByRecursion, flat_map, list_any}
-use Rattle.std.specs.Prelude.{slice_get, sum_by, IsSomeAnd}
+use Rattle.std.specs.Prelude.{slice_get, IsSomeAnd}
 use Rattle.std.proofs.lemmas.Bool.{cases_lt}
 use Rattle.std.proofs.lemmas.List.{get_or_append_left, get_or_push, length_push}
-use Rattle.std.proofs.lemmas.List.Sums.{sum_by-cons}
 use Rattle.atomic_table.specs.Seated.{TableId}
 use Rattle.view_lists.proofs.Members.{has_none}
 use Rattle.one_history.specs.declared.view.View.{View}
@@ -12,19 +11,18 @@ use Rattle.token_book.specs.Purse.{Purse}
 use Rattle.tlm_types.specs.declared.entry.Content.{Content}
 use Rattle.tlm_types.specs.declared.words.ObjectNo.TheVariants.{Memory}
 use Rattle.tlm_model.specs.declared.operation.Operation.{Operation}
-use Rattle.tlm_model.specs.declared.operation.Operation.TheVariants.{Write, Read, Ignore, Debug, Copy, Add, Invalidate}
+use Rattle.tlm_model.specs.declared.operation.Operation.TheVariants.{Invalidate}
 use Rattle.tlm_model.specs.declared.platform.InitiatorRow.{InitiatorRow}
 use Rattle.tlm_model.specs.declared.platform.MemoryRow.{MemoryRow}
 use Rattle.tlm_model.specs.declared.platform.Style.{Style}
 use Rattle.tlm_model.specs.declared.platform.Style.TheVariants.{Blocking}
 use Rattle.tlm_model.specs.declared.platform.Target.TheVariants.{Memory as memory_target}
-use Rattle.tlm_model.specs.declared.ask.Ask.TheVariants.{Access as AnAccess, DebugRead as ADebugRead, Invalidation as AnInvalidation}
 use Rattle.tlm_model.specs.Actions.{asks_of}
 use Rattle.tlm_model.specs.Plan.{Plan, Initiator, initiators_from, initiators_of}
 use Rattle.generic_payload.specs.Payload.{PayloadView}
 use Rattle.route_plan.specs.Counted.{logged_share_at, logged_share_by, share_at, share_by}
 use Rattle.route_plan.specs.Paths.{has_path, once}
-use Rattle.route_plan.specs.Planned.{asks_in, gates_by, invalidates, is_direct, logged_at, logged_share, share_of}
+use Rattle.route_plan.specs.Planned.{asks_in, gates_by, invalidates, is_direct, logged_share, share_of}
 use Rattle.script_engine.specs.State.{State, begun_engine}
 use Rattle.script_engine.proofs.Remaining.{few_numbers}
 use Rattle.script_engine.proofs.Steps.{begins}
@@ -34,7 +32,7 @@ use Rattle.route_plan.specs.Valid.{IsValid}
 use Rattle.traffic_script.specs.Proper.{IsProper}
 use Rattle.initiator_run.specs.Left.{asked_in, logged_in}
 use Rattle.initiator_run.specs.Run.{Run, fresh_run}
-use Rattle.initiator_run.proofs.BeginLemmas.{asked_planned, proper_at, syncs_bound}
+use Rattle.initiator_run.proofs.BeginLemmas.{proper_at, syncs_bound}
 use Rattle.run_outcome.proofs.PlanLemmas.{blocking_at, initiator_number}
 use Rattle.route_plan.proofs.ShareLemmas.{count_initiators}
 use Rattle.initiator_run.proofs.EndLemmas.{HasCome-begun}
@@ -67,23 +65,12 @@ no_gates p i m (Some row) blocking proper = by_cases row.traits.dmi
 -- it may add as many entries as its script asks for
 asks_shared : (p : Plan) (i : Initiator) (m : ℕ) → i.row.style ≡ Blocking → AllByRecursion IsProper i.script → asked_in p i m i.script ≡ share_of p i (Memory m)
 unfolding share_of
-asks_shared p i m blocking proper = omega (arith, asked_planned p i m i.script, no_gates p i m (slice_get p.platform.memories m) blocking proper)
+asks_shared p i m blocking proper = omega (arith, no_gates p i m (slice_get p.platform.memories m) blocking proper)
 
 -- and log as many bytes
-logged_planned : (p : Plan) (i : Initiator) (m : ℕ) (ops : List Operation) → logged_in p i m ops ≡ sum_by (logged_at p i m) (flat_map asks_of ops)
-logged_planned p i m [] = refl
-logged_planned p i m (Write a bytes enables width ∷ ops) = omega (arith, logged_planned p i m ops, sum_by-cons (logged_at p i m) (AnAccess a (length bytes + length enables)) (flat_map asks_of ops))
-logged_planned p i m (Read a n enables width ∷ ops) = omega (arith, logged_planned p i m ops, sum_by-cons (logged_at p i m) (AnAccess a (n + length enables)) (flat_map asks_of ops))
-logged_planned p i m (Ignore a ∷ ops) = omega (arith, logged_planned p i m ops, sum_by-cons (logged_at p i m) (AnAccess a 0) (flat_map asks_of ops))
-logged_planned p i m (Debug a n ∷ ops) = omega (arith, logged_planned p i m ops, sum_by-cons (logged_at p i m) (ADebugRead a n) (flat_map asks_of ops))
-logged_planned p i m (Copy from to n ∷ ops) = omega (arith, logged_planned p i m ops, sum_by-cons (logged_at p i m) (AnAccess to n) (flat_map asks_of ops), sum_by-cons (logged_at p i m) (AnAccess from n) ((AnAccess to n) ∷ flat_map asks_of ops))
-logged_planned p i m (Add a n ∷ ops) = omega (arith, logged_planned p i m ops, sum_by-cons (logged_at p i m) (AnAccess a 4) (flat_map asks_of ops), sum_by-cons (logged_at p i m) (AnAccess a 4) ((AnAccess a 4) ∷ flat_map asks_of ops))
-logged_planned p i m (Invalidate a n ∷ ops) = omega (arith, logged_planned p i m ops, sum_by-cons (logged_at p i m) (AnInvalidation a) (flat_map asks_of ops))
-logged_planned p i m (op ∷ ops) = omega (arith, logged_planned p i m ops)
-
 bytes_shared : (p : Plan) (i : Initiator) (m : ℕ) → logged_in p i m i.script ≡ logged_share p i m
 unfolding logged_share
-bytes_shared p i m = logged_planned p i m i.script
+bytes_shared p i m = refl
 
 module _ (p : Plan) (valid : IsValid p) (n : ℕ) (i : Initiator) (at : slice_get (initiators_of p) n ≡ Some i) (w : Purse) where
   tickets_begun : (tokens : TableId) → HasShares tokens p n w → (m : ℕ) → m < length p.platform.memories → HasTickets p i (fresh_run n i.script p.platform.quantum (2 * length i.script)) w [] m

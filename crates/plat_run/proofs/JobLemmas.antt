@@ -25,16 +25,18 @@ use Rattle.region_object.specs.Region.{region_entry, reply_of}
 use Rattle.region_object.specs.Written.{written_from}
 use Rattle.route_plan.specs.declared.step.Route.{Route}
 use Rattle.route_plan.specs.Counted.{share_at}
-use Rattle.script_engine.specs.State.{State, op_of, is_fenced, length_of}
+use Rattle.script_engine.specs.declared.part.Transfer.{Transfer}
+use Rattle.script_engine.specs.Part.{is_fenced_kind}
+use Rattle.script_engine.specs.State.{State, op_of}
 use Rattle.initiator_run.specs.Access.{IsRouteOf, bytes_back, entry_made, next_call, payload_in_reply, model_route}
 use Rattle.initiator_run.specs.Left.{asks_left, bytes_at, bytes_left, leads}
 use Rattle.initiator_run.specs.Moves.{HasReached}
-use Rattle.initiator_run.specs.Run.{Run, IsAccessOp, accessed, address_of, arrived, engine_after}
+use Rattle.initiator_run.specs.Run.{Run, accessed, engine_after}
+use Rattle.initiator_run.proofs.AccessLemmas.{transfer_is_not_done}
 use Rattle.run_outcome.proofs.PlanLemmas.{blocking_at, initiator_number}
 use Rattle.initiator_run.proofs.EntryLemmas.{entries_at-push, HasCome-turn, goes_on_with}
-use Rattle.initiator_run.proofs.CountLemmas.{with_sync_finished}
 use Rattle.initiator_run.proofs.LeftLemmas.{bytes_after, cost_at, leads_elsewhere, leads_there, left_after}
-use Rattle.initiator_run.proofs.RunLemmas.{accessed_initiator, accessed_step}
+use Rattle.initiator_run.proofs.RunLemmas.{accessed_finished, accessed_initiator, accessed_step}
 use Rattle.initiator_run.proofs.SendLemmas.{bytes_come_back, entry_is_made, whole_comes_back}
 use Rattle.plat_build.specs.Calls.{IsCalled, OneTicketLess, returned}
 use Rattle.plat_run.specs.Entries.{entries_read, entry_read}
@@ -61,20 +63,20 @@ same_reply (Accessed payload) = refl
 same_reply (Moved payload moved) = refl
 
 -- an access of a run along its route: what it did to the note and the wallet
-pub record HasSent (p : Plan) (r : Run) (route : Route) (note back : View Content Plan) (old new : Purse) (payload : PayloadView) : Type 0 where
-  pub called : IsCalled p route.memory (next_call r route) note back payload
+pub record HasSent (p : Plan) (r : Run) (x : Transfer) (route : Route) (note back : View Content Plan) (old new : Purse) (payload : PayloadView) : Type 0 where
+  pub called : IsCalled p route.memory (next_call r x route) note back payload
   pub ticket : OneTicketLess route.memory (cost_at 4096 r.engine.due r.engine.remaining) old new
   pub paid : 0 < left_of old route.memory
 
-module _ (p : Plan) (r : Run) (route : Route) (note back : View Content Plan) (old new : Purse) (payload : PayloadView) (job : IsInitiator p r note old) (reached : HasReached p r route) (sent : HasSent p r route note back old new payload) where
+module _ (p : Plan) (r : Run) (x : Transfer) (route : Route) (note back : View Content Plan) (old new : Purse) (payload : PayloadView) (job : IsInitiator p r note old) (reached : HasReached p r x route) (sent : HasSent p r x route note back old new payload) where
   abbrev next_run : Run
-  next_run = accessed (op_of r.engine) route.latency payload.bytes r
+  next_run = accessed x route.latency payload.bytes r
 
   abbrev the_entry : Entry
-  the_entry = entry_made r sent.called.memory route sent.called.position
+  the_entry = entry_made r x sent.called.memory route sent.called.position
 
-  leads_to : IsRouteOf p job.initiator (address_of (op_of r.engine)) route
-  leads_to = route_of_next p r note old route job reached
+  leads_to : IsRouteOf p job.initiator x.address route
+  leads_to = route_of_next p r note old x route job reached
 
   own_number : slice_get (initiators_of p) job.initiator.number ≡ Some job.initiator
   own_number = ap (slice_get (initiators_of p)) (initiator_number p r.engine.initiator job.initiator job.is) ∙ job.is
@@ -85,18 +87,18 @@ module _ (p : Plan) (r : Run) (route : Route) (note back : View Content Plan) (o
   object_is : (the_entry).object ≡ Memory route.memory
   object_is = ap Memory sent.called.number
 
-  pub told : is_fenced (op_of r.engine) ≡ true → payload.bytes ≡ bytes_back r sent.called.memory route
-  told fenced =
-      ap (λ (x : PayloadView). x.bytes) (sent.called.answer ∙ same_reply (reply_of sent.called.memory (next_call r route)))
-      ∙ bytes_come_back r sent.called.memory route fenced
+  pub told : is_fenced_kind x.kind ≡ true → payload.bytes ≡ bytes_back r x sent.called.memory route
+  told waits =
+      ap (λ (y : PayloadView). y.bytes) (sent.called.answer ∙ same_reply (reply_of sent.called.memory (next_call r x route)))
+      ∙ bytes_come_back r x sent.called.memory route waits
 
-  pub whole : is_fenced (op_of r.engine) ≡ true → length payload.bytes ≡ length_of (op_of r.engine)
-  whole fenced = ap length (told fenced) ∙ whole_comes_back r sent.called.memory route fenced
+  pub whole : is_fenced_kind x.kind ≡ true → length payload.bytes ≡ x.length
+  whole waits = ap length (told waits) ∙ whole_comes_back r x sent.called.memory route reached.next waits
 
   entry_known : Has (entries_read back.known) the_entry
   entry_known =
       let m = sent.called.memory in
-      let same : region_entry m sent.called.position (next_call r route) ≡ the_entry = entry_is_made r m route sent.called.position reached.access in
+      let same : region_entry m sent.called.position (next_call r x route) ≡ the_entry = entry_is_made r x m route sent.called.position reached.next in
       knows_last route.memory m.log.entries the_entry back.known object_is
       (subst (λ (e : Entry). Within (map (placed route.memory) (written_from 0 (m.log.entries ++ e ∷ []))) back.known) same sent.called.knows)
 
@@ -110,8 +112,8 @@ module _ (p : Plan) (r : Run) (route : Route) (note back : View Content Plan) (o
 
   made_more : HasMade p job.initiator next_run back (job.mine ++ the_entry ∷ [])
   made_more =
-      let goes = goes_on_with p job.initiator job.mine r sent.called.memory route sent.called.position own_number blocking job.made.come reached.access leads_to sent.called.number in
-      let same = accessed_initiator (op_of r.engine) route.latency payload.bytes r in
+      let goes = goes_on_with p job.initiator job.mine r x sent.called.memory route sent.called.position own_number blocking job.made.come reached.next leads_to sent.called.number in
+      let same = accessed_initiator x route.latency payload.bytes r in
       record {
         rising = IsRising-push position_of job.mine the_entry job.made.rising old_early;
         known = λ e has. ⊎_elim
@@ -120,13 +122,13 @@ module _ (p : Plan) (r : Run) (route : Route) (note back : View Content Plan) (o
             (has_either job.mine (the_entry ∷ []) e has);
         below = λ e has. ⊎_elim
             (λ (before : Has job.mine e). let b = old_early e before in let s = sent.called.seen in omega arith)
-            (λ (last : Has (the_entry ∷ []) e). subst (λ (x : Entry). x.position < back.seen) (has_one the_entry e last) sent.called.seen)
+            (λ (last : Has (the_entry ∷ []) e). subst (λ (y : Entry). y.position < back.seen) (has_one the_entry e last) sent.called.seen)
             (has_either job.mine (the_entry ∷ []) e has);
         own = λ e has. ⊎_elim
             (λ (before : Has job.mine e). job.made.own e before ∙ sym same)
             (λ (last : Has (the_entry ∷ []) e). ap owner_of (sym (has_one the_entry e last)) ∙ sym same)
             (has_either job.mine (the_entry ∷ []) e has);
-        come = HasCome-turn p job.initiator job.mine r sent.called.memory route sent.called.position payload.bytes job.made.come reached.access leads_to sent.called.number told;
+        come = HasCome-turn p job.initiator job.mine r x sent.called.memory route sent.called.position payload.bytes job.made.come reached.next leads_to sent.called.number told;
         keeps = record { scripts = goes.scripts job.made.keeps.scripts; times = goes.times job.made.keeps.times };
         decoupled = AllByRecursion-push (λ (e : Entry). IsDecoupled e.object e.what) job.mine the_entry job.made.decoupled tt;
       }
@@ -159,10 +161,10 @@ module _ (p : Plan) (r : Run) (route : Route) (note back : View Content Plan) (o
   tickets_here : (m : ℕ) → m ≡ route.memory → HasTickets p job.initiator r old job.mine m → (left_of new m ≡ asks_left p job.initiator m later_engine) × (bytes_left p job.initiator m later_engine ≤ bytes_of new m) × (length (entries_at (Memory m) (job.mine ++ the_entry ∷ [])) + left_of new m ≡ length (entries_at (Memory m) job.mine) + left_of old m)
   tickets_here m here has =
       let i = job.initiator in
-      let a = address_of (op_of r.engine) in
+      let a = x.address in
       let cost = cost_at 4096 r.engine.due r.engine.remaining in
-      let asks = left_after p i m r.engine payload.bytes reached.access in
-      let bytes = bytes_after p i m 4096 r.engine payload.bytes reached.access whole in
+      let asks = left_after p i m r.engine payload.bytes x reached.next in
+      let bytes = bytes_after p i m 4096 r.engine payload.bytes x reached.next whole in
       let one : leads p i m a ≡ 1 = ap (λ (k : ℕ). leads p i k a) here ∙ leads_there p i a (model_route route) leads_to.leads in
       let cost_is : bytes_at p i m a cost ≡ cost * 1 = ap (λ (k : ℕ). cost * k) one in
       let enough = has.left in
@@ -176,11 +178,11 @@ module _ (p : Plan) (r : Run) (route : Route) (note back : View Content Plan) (o
   tickets_there : (m : ℕ) → (m ≡ route.memory → ⊥) → HasTickets p job.initiator r old job.mine m → (left_of new m ≡ asks_left p job.initiator m later_engine) × (bytes_left p job.initiator m later_engine ≤ bytes_of new m) × (length (entries_at (Memory m) (job.mine ++ the_entry ∷ [])) + left_of new m ≡ length (entries_at (Memory m) job.mine) + left_of old m)
   tickets_there m other has =
       let i = job.initiator in
-      let asks = left_after p i m r.engine payload.bytes reached.access in
-      let bytes = bytes_after p i m 4096 r.engine payload.bytes reached.access whole in
+      let asks = left_after p i m r.engine payload.bytes x reached.next in
+      let bytes = bytes_after p i m 4096 r.engine payload.bytes x reached.next whole in
       let enough = has.left in
       let fits = has.bytes in
-      let none = leads_elsewhere p i m (address_of (op_of r.engine)) (model_route route) leads_to.leads other in
+      let none = leads_elsewhere p i m x.address (model_route route) leads_to.leads other in
       let left = left_stays m other in
       let rest = bytes_stay m other in
       let same = entries_there m other in
@@ -188,8 +190,8 @@ module _ (p : Plan) (r : Run) (route : Route) (note back : View Content Plan) (o
 
   tickets_left : (m : ℕ) → HasTickets p job.initiator r old job.mine m → HasTickets p job.initiator next_run new (job.mine ++ the_entry ∷ []) m
   tickets_left m has =
-      let engine : (next_run).engine ≡ later_engine = accessed_step (op_of r.engine) route.latency payload.bytes r in
-      let same = accessed_initiator (op_of r.engine) route.latency payload.bytes r in
+      let engine : (next_run).engine ≡ later_engine = accessed_step x route.latency payload.bytes r in
+      let same = accessed_initiator x route.latency payload.bytes r in
       let t = ⊎_elim (λ (here : m ≡ route.memory). tickets_here m here has) (λ (other : m ≡ route.memory → ⊥). tickets_there m other has) (cases_eq m route.memory) in
       record {
         left = subst (λ (e : State). left_of new m ≡ asks_left p job.initiator m e) (sym engine) t.0;
@@ -203,10 +205,10 @@ module _ (p : Plan) (r : Run) (route : Route) (note back : View Content Plan) (o
     valid = job.valid;
     initiator = job.initiator;
     mine = job.mine ++ the_entry ∷ [];
-    is = ap (slice_get (initiators_of p)) (accessed_initiator (op_of r.engine) route.latency payload.bytes r) ∙ job.is;
+    is = ap (slice_get (initiators_of p)) (accessed_initiator x route.latency payload.bytes r) ∙ job.is;
     made = made_more;
     tickets = λ m below. tickets_left m (job.tickets m below);
     finished = λ f.
-        let was = sym (with_sync_finished (op_of r.engine) (record r { engine = later_engine; keeper = arrived (op_of r.engine) route.latency r.keeper })) ∙ f in
-        absurd (subst IsAccessOp (job.finished was) reached.access);
+        let was = sym (accessed_finished x route.latency payload.bytes r) ∙ f in
+        absurd (transfer_is_not_done (op_of r.engine) x reached.next (job.finished was));
   }

@@ -1,6 +1,7 @@
 -- A job after moves without an entry.
-use Rattle.std.proofs.Common.{◌≡◌, ◌⊎◌, ℕ, ◌+◌, ◌*◌, ◌<◌, inl, inr, true, List, [], ◌∷◌, length, Option, Some, None, refl, ap, sym, subst, ◌∙◌, arith}
+use Rattle.std.proofs.Common.{◌≡◌, ◌⊎◌, ℕ, ◌+◌, ◌*◌, ◌<◌, inl, inr, true, List, length, Option, Some, refl, ap, sym, subst, ◌∙◌, arith}
 use Rattle.std.specs.Prelude.{slice_get}
+use Rattle.std.proofs.lemmas.Grind.{common_steps}
 use Rattle.atomic_table.specs.Seated.{TableId}
 use Rattle.one_history.specs.declared.view.View.{View}
 use Rattle.one_history.specs.Held.{Held}
@@ -8,7 +9,6 @@ use Rattle.token_book.specs.Purse.{Purse}
 use Rattle.tlm_types.specs.declared.entry.Content.{Content}
 use Rattle.tlm_types.specs.declared.words.ObjectNo.TheVariants.{Memory}
 use Rattle.tlm_model.specs.declared.operation.Operation.{Operation}
-use Rattle.tlm_model.specs.declared.operation.Operation.TheVariants.{Write}
 use Rattle.tlm_model.specs.Plan.{Plan, initiators_of}
 use Rattle.generic_payload.specs.Payload.{PayloadView}
 use Rattle.route_plan.specs.Counted.{share_at}
@@ -24,10 +24,7 @@ use Rattle.run_outcome.proofs.PlanLemmas.{initiator_within}
 use Rattle.plat_run.specs.Job.{IsInitiator, IsJob}
 
 no_steps_at : (s : ℕ) (due : Option Due) (ops : List Operation) → op_at s due ops ≡ next.Done → 2 * length ops + numbers_due due ≡ 0
-no_steps_at s (Some w) ops done = cc
-no_steps_at s None [] done = refl
-no_steps_at s None (Write a bytes enables width ∷ ops) done = cc
-no_steps_at s None (op ∷ ops) done = cc
+no_steps_at s due ops done = grind (arith, common_steps)
 
 -- a script that has ended takes no more steps
 pub no_steps : (e : State) → op_of e ≡ next.Done → steps_left e ≡ 0

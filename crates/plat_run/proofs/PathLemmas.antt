@@ -1,11 +1,9 @@
 -- What a run needs for the access or debug read that is next, whose address has a route.
-use Rattle.std.proofs.Common.{◌≡◌, ℕ, ◌*◌, ◌<◌, List, [], ◌∷◌, length, Option, Some, None, refl, ap, sym, ◌∙◌, arith}
+use Rattle.std.proofs.Common.{◌≡◌, ℕ, ◌*◌, ◌<◌, [], length, Option, Some, None, refl, ap, sym, ◌∙◌, arith}
 use Rattle.std.specs.Prelude.{slice_get}
 use Rattle.std.proofs.lemmas.Option.{MatchOption-at_some}
 use Rattle.token_book.specs.Purse.{Purse}
 use Rattle.tlm_types.specs.declared.words.TxnId.{TxnId}
-use Rattle.tlm_model.specs.declared.operation.Operation.{Operation}
-use Rattle.tlm_model.specs.declared.operation.Operation.TheVariants.{Wait, Sync, Fence, Invalidate}
 use Rattle.tlm_model.specs.Plan.{Plan, Initiator, initiators_of}
 use Rattle.tlm_model.specs.Route.{Route as RouteOfModel, route_of}
 use Rattle.generic_payload.specs.Payload.{PayloadView}
@@ -15,42 +13,31 @@ use Rattle.region_object.specs.Call.{IsFit}
 use Rattle.route_plan.specs.declared.step.Route.{Route}
 use Rattle.route_plan.specs.Plans.{walk_at}
 use Rattle.route_plan.specs.Routes.{route_by}
-use Rattle.script_engine.specs.declared.op.Op.{Op}
-use Rattle.script_engine.specs.declared.op.Op.TheVariants as next
-use Rattle.script_engine.specs.State.{Due, State, op_at, op_of, payload_at, payload_of}
+use Rattle.script_engine.specs.declared.part.Part.TheVariants.{Asks}
+use Rattle.script_engine.specs.declared.part.Transfer.{Transfer}
+use Rattle.script_engine.specs.declared.part.TransferKind.{TransferKind}
+use Rattle.script_engine.specs.declared.part.TransferKind.TheVariants as transfer
+use Rattle.script_engine.specs.State.{State, next_of, payload_of}
+use Rattle.script_engine.proofs.Steps.{fills}
 use Rattle.initiator_run.specs.Access.{IsRouteOf, call_at, model_route}
 use Rattle.initiator_run.specs.Left.{bytes_at}
 use Rattle.initiator_run.specs.Moves.{HasReached}
-use Rattle.initiator_run.specs.Run.{Run, IsAccessOp, address_of}
+use Rattle.initiator_run.specs.Run.{Run}
 use Rattle.run_outcome.proofs.ListLemmas.{is_within}
 use Rattle.initiator_run.proofs.RouteLemmas.{walk_memory, routed, unrouted}
-use Rattle.initiator_run.proofs.LeftLemmas.{bytes_after, cost_at, leads_there, left_after, whole_payload_of}
-use Rattle.initiator_run.proofs.SendLemmas.{fit_at}
+use Rattle.initiator_run.proofs.LeftLemmas.{bytes_after, cost_at, leads_there, left_after}
+use Rattle.initiator_run.proofs.SendLemmas.{payload_fits}
 use Rattle.plat_build.specs.Calls.{CanPay, route_at}
 use Rattle.plat_run.specs.Job.{IsInitiator}
 use Rattle.plat_run.specs.Sent.{IsSentBy}
 
-sent_at : (op : Op) (txn : TxnId) (t before offset : ℕ) (payload : PayloadView) → IsAccessOp op → IsFit (call_at op txn t before (record payload { address = offset })) → IsSentBy op payload
-sent_at (next.Access s a n command plain fenced) txn t before offset payload is fit = fit.1
-sent_at (next.Debug s a n) txn t before offset payload is fit = fit
-sent_at op txn t before offset payload is fit = absurd is
+sent_by : (kind : TransferKind) (txn : TxnId) (t before offset : ℕ) (payload : PayloadView) → IsFit (call_at kind txn t before (record payload { address = offset })) → IsSentBy kind payload
+sent_by (transfer.Access command plain fenced) txn t before offset payload fit = fit.1
+sent_by transfer.DebugRead txn t before offset payload fit = fit
 
--- the payload of what is next carries it
-pub payload_carries : (e : State) → IsAccessOp (op_of e) → IsSentBy (op_of e) (payload_of e 4096)
-payload_carries e is = sent_at (op_of e) (record { initiator = 0; seq = 0 }) 0 0 0 (payload_of e 4096) is (fit_at (record { initiator = 0; seq = 0 }) e.seq 0 0 0 e.due e.remaining is)
-
-address_at : (s room : ℕ) (due : Option Due) (ops : List Operation) → IsAccessOp (op_at s due ops) → (payload_at room due ops).address ≡ address_of (op_at s due ops)
-address_at s room (Some w) ops is = refl
-address_at s room None [] is = absurd is
-address_at s room None (Wait n ∷ ops) is = absurd is
-address_at s room None (Sync ∷ ops) is = absurd is
-address_at s room None (Fence ∷ ops) is = absurd is
-address_at s room None (Invalidate a n ∷ ops) is = absurd is
-address_at s room None (op ∷ ops) is = refl
-
--- and has its address
-pub payload_address : (e : State) → IsAccessOp (op_of e) → (payload_of e 4096).address ≡ address_of (op_of e)
-payload_address e is = address_at e.seq 4096 e.due e.remaining is
+-- the payload of a transfer that is next carries it
+pub payload_carries : (e : State) (x : Transfer) → next_of e ≡ Asks x → IsSentBy x.kind (payload_of e 4096)
+payload_carries e x is = sent_by x.kind (record { initiator = 0; seq = 0 }) 0 0 0 (payload_of e 4096) (payload_fits e x 4096 (record { initiator = 0; seq = 0 }) 0 0 0 is)
 
 abbrev route_with : ℕ → ℕ → RouteOfModel → Route
 route_with before latency end = record { memory = end.memory; offset = end.offset; before = before; latency = latency }
@@ -77,30 +64,30 @@ found_at p n m a b i route (Some found) who place mine is seen =
     let here = MatchOption-at_some ⊥ (λ (x : Initiator). IsRouteOf p x b found) i mine (routed p n m a b i found who place mine seen) in
     ap (λ (x : Route). Some x) (one_route p i b found route here is)
 
-module _ (p : Plan) (r : Run) (note : View Content Plan) (w : Purse) (route : Route) (job : IsInitiator p r note w) (reached : HasReached p r route) where
+module _ (p : Plan) (r : Run) (note : View Content Plan) (w : Purse) (x : Transfer) (route : Route) (job : IsInitiator p r note w) (reached : HasReached p r x route) where
   -- the route of what is next
-  pub route_of_next : IsRouteOf p job.initiator (address_of (op_of r.engine)) route
-  route_of_next = MatchOption-at_some ⊥ (λ (i : Initiator). IsRouteOf p i (address_of (op_of r.engine)) route) job.initiator job.is reached.leads
+  pub route_of_next : IsRouteOf p job.initiator x.address route
+  route_of_next = MatchOption-at_some ⊥ (λ (i : Initiator). IsRouteOf p i x.address route) job.initiator job.is reached.leads
 
   -- the route that is found for its payload
   pub route_found : (n : ℕ) (payload : PayloadView) → n ≡ r.engine.initiator → payload ≡ payload_of r.engine 4096 → route_at p n payload.address ≡ Some route
   route_found n payload who filled =
-      found_at p n r.engine.initiator payload.address (address_of (op_of r.engine)) job.initiator route (route_at p n payload.address) who
-      (ap (λ (x : PayloadView). x.address) filled ∙ payload_address r.engine reached.access) job.is route_of_next refl
+      found_at p n r.engine.initiator payload.address x.address job.initiator route (route_at p n payload.address) who
+      (ap (λ (y : PayloadView). y.address) filled ∙ (fills.transfer r.engine 4096 x reached.next).1.address) job.is route_of_next refl
 
   memory_below : route.memory < length p.platform.memories
-  memory_below = is_within p.platform.memories route.memory (walk_memory p 9 job.initiator.row.bind (address_of (op_of r.engine)) 0 (model_route route) route_of_next.leads)
+  memory_below = is_within p.platform.memories route.memory (walk_memory p 9 job.initiator.row.bind x.address 0 (model_route route) route_of_next.leads)
 
   -- its ticket is in the wallet
   pub can_pay_next : CanPay (payload_of r.engine 4096) w route
   can_pay_next =
       let i = job.initiator in
-      let a = address_of (op_of r.engine) in
+      let a = x.address in
       let t = job.tickets route.memory memory_below in
       let one = leads_there p i a (model_route route) route_of_next.leads in
       let cost_is : bytes_at p i route.memory a (cost_at 4096 r.engine.due r.engine.remaining) ≡ cost_at 4096 r.engine.due r.engine.remaining * 1 = ap (λ (k : ℕ). cost_at 4096 r.engine.due r.engine.remaining * k) one in
       let enough = t.left in
       let fits = t.bytes in
-      let asks = left_after p i route.memory r.engine [] reached.access in
-      let bytes = bytes_after p i route.memory 4096 r.engine (payload_of r.engine 4096).bytes reached.access (λ fenced. whole_payload_of r.engine 4096 fenced) in
+      let asks = left_after p i route.memory r.engine [] x reached.next in
+      let bytes = bytes_after p i route.memory 4096 r.engine (payload_of r.engine 4096).bytes x reached.next (λ waits. (fills.transfer r.engine 4096 x reached.next).1.sized) in
       record { left = omega arith; bytes = omega arith }

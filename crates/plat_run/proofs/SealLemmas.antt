@@ -1,8 +1,9 @@
 -- From what the jobs and the memories leave to the whole history.
-use Rattle.std.proofs.Common.{◌≡◌, ℕ, suc, ◌+◌, ◌==◌, Bool, true, false, cond, List, [], ◌∷◌, length, map, Option, Some, None, refl, ap, sym, subst, ◌∙◌, arith}
+use Rattle.std.proofs.Common.{◌≡◌, ℕ, suc, ◌+◌, ◌==◌, Bool, true, false, cond, List, [], ◌∷◌, length, map, Option, refl, ap, sym, subst, ◌∙◌, arith}
 use Rattle.std.specs.Prelude.{slice_get, All}
 use mathlib.Core.Option.{some}
 use lib.ListN.{get_elem?}
+use Rattle.std.proofs.lemmas.Grind.{common_steps}
 use Rattle.view_lists.specs.Lists.{Has, Within}
 use Rattle.view_lists.proofs.Members.{has_map, has_mapped}
 use Rattle.one_history.specs.declared.entry.Entry.{Entry as HistoryEntry}
@@ -14,7 +15,6 @@ use Rattle.tlm_types.specs.declared.entry.Content.{Content}
 use Rattle.tlm_types.specs.declared.entry.Entry.{Entry}
 use Rattle.tlm_types.specs.declared.words.ObjectNo.TheVariants.{Memory}
 use Rattle.tlm_model.specs.declared.operation.Operation.{Operation}
-use Rattle.tlm_model.specs.declared.operation.Operation.TheVariants.{Write}
 use Rattle.tlm_model.specs.History.{IsNumberedFrom, entries_at}
 use Rattle.tlm_model.specs.Plan.{Plan, Initiator, initiators_of}
 use Rattle.region_object.specs.Written.{written_from}
@@ -54,10 +54,7 @@ log_read m n (e ∷ log) own =
 
 -- a script that has ended asks for nothing more
 none_left_at : (p : Plan) (i : Initiator) (m s : ℕ) (due : Option Due) (ops : List Operation) → op_at s due ops ≡ next.Done → asked_due p i m due + asked_in p i m ops ≡ 0
-none_left_at p i m s (Some w) ops done = cc
-none_left_at p i m s None [] done = refl
-none_left_at p i m s None (Write a bytes enables width ∷ ops) done = cc
-none_left_at p i m s None (op ∷ ops) done = cc
+none_left_at p i m s due ops done = grind (arith, common_steps)
 
 pub none_left : (p : Plan) (i : Initiator) (m : ℕ) (e : State) → op_of e ≡ next.Done → asks_left p i m e ≡ 0
 none_left p i m e done = none_left_at p i m e.seq e.due e.remaining done

@@ -3,11 +3,10 @@ use Rattle.std.specs.Prelude.{◌≡◌, length}
 use Rattle.tlm_types.specs.declared.words.Command.TheVariants.{Read}
 use Rattle.tlm_model.specs.Store.{zeros}
 use Rattle.generic_payload.specs.Payload.{PayloadView}
-use Rattle.script_engine.specs.declared.op.Op.{Op}
-use Rattle.script_engine.specs.declared.op.Op.TheVariants as next
+use Rattle.script_engine.specs.declared.part.TransferKind.{TransferKind}
+use Rattle.script_engine.specs.declared.part.TransferKind.TheVariants as transfer
 
 -- a debug read reads, and what an access reads into are zeros
-abbrev pub IsSentBy : Op → PayloadView → Type 0
-IsSentBy (next.Access s a n command plain fenced) payload = payload.command ≡ Read → payload.bytes ≡ zeros (length payload.bytes)
-IsSentBy (next.Debug s a n) payload = payload.command ≡ Read
-IsSentBy op payload = ⊥
+abbrev pub IsSentBy : TransferKind → PayloadView → Type 0
+IsSentBy (transfer.Access command plain fenced) payload = payload.command ≡ Read → payload.bytes ≡ zeros (length payload.bytes)
+IsSentBy transfer.DebugRead payload = payload.command ≡ Read

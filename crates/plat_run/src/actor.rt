@@ -1,11 +1,12 @@
 // The kinds of jobs.
-ghost use Rattle.std.specs.Prelude.{◌≡◌, ◌≢◌, ◌↔◌, IsTrue};
+ghost use Rattle.std.specs.Prelude.{◌≡◌, ◌≢◌, ◌↔◌, true};
 ghost use Rattle.initiator_run.specs.Steps.{StepsOnce};
 ghost use Rattle.plat_run.specs.Actors.{is_done, number_of};
 ghost use Rattle.plat_run.specs.Run.{HandsIn};
-ghost use Rattle.plat_run.specs.Turn.{engine_of, run_of};
+ghost use Rattle.plat_run.specs.Turn.{is_held_back, run_of};
 
 use crate::initiator::BlockingInitiator;
+use crate::turn::Turn;
 use initiator_run::InitiatorRun;
 use outside::Pace;
 use plat_build::{PlatNote, Reach, TlmLaw};
@@ -51,21 +52,13 @@ impl<N: Naming<Plan, TlmLaw>> Actor<N> {
         reach: &mut B,
         board: &Board,
         pace: &P,
-    )
+    ) -> Turn
         ensures number { number_of self.new ≡ number_of self.old }
-        ensures once { StepsOnce (engine_of self.old) (engine_of self.new) }
+        ensures once { StepsOnce (run_of self.old).engine (run_of self.new).engine }
+        ensures held { (is_held_back result ≡ true) ↔ ((run_of self.new).round ≢ (run_of self.new).syncs) }
     {
         match self {
             Actor::Blocking(job) => job.turn(rt, reach, board, pace),
-        }
-    }
-
-    /// Whether the board holds the job back: its next turn begins with a sync that was not let through.
-    pub fn is_held_back(&self) -> bool
-        ensures { IsTrue result ↔ ((run_of self.now).round ≢ (run_of self.now).syncs) }
-    {
-        match self {
-            Actor::Blocking(job) => job.is_held_back(),
         }
     }
 

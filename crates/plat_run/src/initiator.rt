@@ -1,12 +1,13 @@
 // A blocking initiator as a job.
-ghost use Rattle.std.specs.Prelude.{◌≡◌, ◌≢◌, ◌↔◌, IsTrue, length};
+ghost use Rattle.std.specs.Prelude.{◌≡◌, ◌≢◌, ◌↔◌, true, length};
 ghost use Rattle.shared_object.specs.Steps.{IsNote};
-ghost use Rattle.script_engine.specs.State.{op_of};
 ghost use Rattle.initiator_run.specs.Moves.{HasReached};
 ghost use Rattle.initiator_run.specs.Steps.{StepsOnce};
 ghost use Rattle.plat_run.specs.Job.{IsInitiator, IsJob};
+ghost use Rattle.plat_run.specs.Turn.{is_held_back};
 
 use crate::send::send;
+use crate::turn::Turn;
 use generic_payload::Payload;
 use initiator_run::{InitiatorRun, Move, NextAccess};
 use outside::Pace;
@@ -100,37 +101,37 @@ impl<N: Naming<Plan, TlmLaw>> BlockingInitiator<N> {
         reach: &mut B,
         board: &Board,
         pace: &P,
-    )
+    ) -> Turn
         ensures number { self.new.engine.initiator ≡ self.old.engine.initiator }
         ensures once { StepsOnce self.old.engine self.new.engine }
+        ensures held { (is_held_back result ≡ true) ↔ (self.new.round ≢ self.new.syncs) }
     {
-        if self.is_let_through(rt, board) {
-            self.go_on(rt, reach, pace);
-            let _ = self.is_let_through(rt, board);
+        let first = self.sync(rt, board);
+        if first.is_held_back() {
+            return first;
         }
+        self.go_on(rt, reach, pace);
+        self.sync(rt, board).after(first)
     }
 
-    /// Whether the board holds it back: its last sync was not let through yet.
-    pub fn is_held_back(&self) -> bool
-        ensures { IsTrue result ↔ (self.now.round ≢ self.now.syncs) }
-    {
-        self.run.owes_sync()
-    }
-
-    // Whether its last sync is let through the board, now or earlier.
+    // Makes its last sync at the board, if that was not let through yet.
     #[inline(always)]
-    fn is_let_through<R: Wait>(&mut self, rt: &R, board: &Board) -> bool
-        ensures { self.new.engine ≡ self.old.engine }
+    fn sync<R: Wait>(&mut self, rt: &R, board: &Board) -> Turn
+        ensures engine { self.new.engine ≡ self.old.engine }
+        ensures held { (is_held_back result ≡ true) ↔ (self.new.round ≢ self.new.syncs) }
     {
         if !self.run.owes_sync() {
-            return true;
+            return Turn::WentOn;
         }
-        match board.advance(rt, self.run.initiator()) {
-            Advance::Advanced { .. } => {
-                self.run.pass_sync();
-                true
-            }
-            Advance::NotYet { .. } => false,
+        let (answer, reached) = board.advance_and_look(rt, self.run.initiator());
+        let Advance::Advanced { round } = answer else {
+            return Turn::HeldBack { reached };
+        };
+        self.run.pass_sync();
+        if reached == round {
+            Turn::Opened { round }
+        } else {
+            Turn::WentOn
         }
     }
 
@@ -150,8 +151,7 @@ impl<N: Naming<Plan, TlmLaw>> BlockingInitiator<N> {
 
     // Makes the access or debug read that is next, which has a route.
     fn access<B: Reach<N>, R: Wait>(&mut self, rt: &R, reach: &mut B, next: &NextAccess)
-        requires reached { HasReached N.frame.world self.old next.now.route }
-        requires next { next.now.op ≡ op_of self.old.engine }
+        requires { HasReached N.frame.world self.old next.now.transfer next.now.route }
         ensures number { self.new.engine.initiator ≡ self.old.engine.initiator }
         ensures once { StepsOnce self.old.engine self.new.engine }
     {
@@ -168,7 +168,8 @@ impl<N: Naming<Plan, TlmLaw>> BlockingInitiator<N> {
             note,
             at: _,
         } = sent;
-        self.run.complete(&next.op, next.route.latency, &payload);
+        self.run
+            .complete(next.transfer, next.route.latency, &payload);
         self.payload = Some(payload);
         self.note = Some(note);
     }

@@ -88,7 +88,9 @@ fn finish_jobs<N: Naming<Plan, TlmLaw> + Send + Sync, P: Pace + Sync, R: Threads
     ensures count { IfOk result (λ done. length done.items ≡ length jobs.items) }
     ensures done { IfOk result (λ jobs. All (λ job. is_done job ≡ true) jobs.items) }
 {
-    if workers == 1 {
+    // More workers than jobs would find nothing to do.
+    let workers = workers.min(count);
+    if workers <= 1 {
         work_alone(rt, net, board, pace, &mut jobs);
         return Ok(jobs);
     }

@@ -2,9 +2,9 @@
 ghost use Rattle.std.specs.Prelude.{◌≡◌, ◌+◌, ◌<◌, length, Some};
 ghost use Rattle.shared_object.specs.Steps.{IsNote};
 ghost use Rattle.token_book.specs.Purse.{IsOf};
+ghost use Rattle.region_object.specs.Call.{payload_cost};
 ghost use Rattle.plat_build.specs.Calls.{CanPay, IsCalled, OneTicketLess, route_at};
 ghost use Rattle.initiator_run.specs.Access.{call_at};
-ghost use Rattle.initiator_run.specs.Run.{IsAccessOp};
 ghost use Rattle.plat_run.specs.Sent.{IsSentBy};
 
 use blocking_path::{b_transport_along, transport_dbg};
@@ -12,7 +12,7 @@ use generic_payload::Payload;
 use initiator_run::NextAccess;
 use plat_build::{Carried, PlatNote, Reach, TlmLaw};
 use route_plan::Plan;
-use script_engine::Op;
+use script_engine::TransferKind;
 use shared_object::Naming;
 use std::sync::Wait;
 use tlm_types::{Ps, TxnId};
@@ -32,25 +32,26 @@ pub(crate) fn send<N: Naming<Plan, TlmLaw>, B: Reach<N>, R: Wait>(
     at: Ps,
 ) -> Carried
     requires who { who < length N.frame.world.platform.initiators }
-    requires access { IsAccessOp next.now.op }
     requires route { route_at N.frame.world who payload.address ≡ Some next.now.route }
-    requires carries { IsSentBy next.now.op payload }
+    requires carries { IsSentBy next.now.transfer.kind payload }
     requires note { IsNote N.table note }
     requires wallet { IsOf N.tokens wallet.old }
     requires ticket { CanPay payload wallet.old next.now.route }
     ensures entry { let route = next.now.route in IsCalled N.frame.world route.memory
-        (call_at next.now.op txn at route.before (record payload { address = route.offset })) note.knows result.note.knows result.payload }
+        (call_at next.now.transfer.kind txn at route.before (record payload { address = route.offset })) note.knows result.note.knows result.payload }
     ensures room { result.payload.room ≡ payload.room }
     ensures note { IsNote N.table result.note }
     ensures wallet { IsOf N.tokens wallet.new }
-    ensures ticket { OneTicketLess next.now.route.memory (length payload.bytes + length payload.enables) wallet.old wallet.new }
+    ensures ticket { OneTicketLess next.now.route.memory (payload_cost payload) wallet.old wallet.new }
 {
-    match next.op {
-        Op::Debug { .. } => {
+    match next.transfer.kind {
+        TransferKind::DebugRead => {
             let net = reach.net();
             let _ = net.plan();
             transport_dbg(net, rt, who, payload, note, wallet, txn, at)
         }
-        _ => b_transport_along(reach, rt, &next.route, payload, note, wallet, txn, at),
+        TransferKind::Access { .. } => {
+            b_transport_along(reach, rt, &next.route, payload, note, wallet, txn, at)
+        }
     }
 }

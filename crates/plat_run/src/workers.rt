@@ -3,6 +3,7 @@ ghost use Rattle.std.specs.Prelude.{◌≡◌, true, false, map, All};
 ghost use Rattle.plat_run.specs.Actors.{is_done, number_of};
 
 use crate::actor::Actor;
+use crate::turn::Turn;
 use outside::Pace;
 use plat_build::{Net, Reach, TlmLaw};
 use route_plan::Plan;
@@ -13,9 +14,9 @@ use std::thread;
 use std::thread::Threads;
 use time_board::Board;
 
-/// Takes a job, gives it some turns, and takes the next one as it gives it back, until none waits: enough have
-/// finished, or each of the others is out with a worker of its own, which goes on with it. One that has
-/// finished no longer holds others back.
+/// Takes a job, gives it its share of turns, and takes the next one as it hands it in, until none is in line: enough
+/// have finished, or each of the others is out with another worker, or parked until one that is out lets it go
+/// on. So a worker that isn't needed leaves: where rounds are short, waking it would cost more than its work.
 fn work<N: Naming<Plan, TlmLaw>, P: Pace, R: Wait>(
     rt: &R,
     net: &Net<N>,
@@ -33,49 +34,31 @@ fn work<N: Naming<Plan, TlmLaw>, P: Pace, R: Wait>(
     }
 }
 
-// Gives a job a turn, and answers whether it has finished. One that has no longer holds others back.
-fn turn_finishes<N: Naming<Plan, TlmLaw>, B: Reach<N>, P: Pace, R: Wait>(
-    rt: &R,
-    reach: &mut B,
-    board: &Board,
-    pace: &P,
-    job: &mut Actor<N>,
-) -> bool
-    ensures number { number_of job.new ≡ number_of job.old }
-    ensures done { result ≡ is_done job.new }
-{
-    job.turn(rt, reach, board, pace);
-    let done = job.done();
-    if done {
-        board.finish(rt, job.number());
-    }
-    done
-}
-
 // How many turns a job has at most before others that wait have theirs: the queue's lock, which is taken
 // once for all of them, costs a small part of what they do.
 const TURNS: u32 = 64;
 
-// Gives a job turns until it has finished, or the board holds it back, or it has had its share, and answers
-// whether it has finished.
-fn turns_finish<N: Naming<Plan, TlmLaw>, B: Reach<N>, P: Pace, R: Wait>(
+// Gives a job turns until it has finished, or is held back, or lets others go on, or has had its share.
+fn give_share<N: Naming<Plan, TlmLaw>, B: Reach<N>, P: Pace, R: Wait>(
     rt: &R,
     reach: &mut B,
     board: &Board,
     pace: &P,
     job: &mut Actor<N>,
-) -> bool
-    ensures number { number_of job.new ≡ number_of job.old }
-    ensures done { result ≡ is_done job.new }
+) -> Turn
+    ensures { number_of job.new ≡ number_of job.old }
 {
     for _turn in 0..TURNS {
-        if turn_finishes(rt, reach, board, pace, job) || job.is_held_back() {
-            break;
+        let turn = job.turn(rt, reach, board, pace);
+        if job.done() || !matches!(turn, Turn::WentOn) {
+            return turn;
         }
     }
-    job.done()
+    Turn::WentOn
 }
 
+// Gives a job its share of turns, hands it in, and takes the next one. Who hands in a job tells the queue which
+// round all have reached, so that none stays parked that can go on.
 fn give_turns<N: Naming<Plan, TlmLaw>, B: Reach<N>, P: Pace, R: Wait>(
     rt: &R,
     reach: &mut B,
@@ -84,15 +67,20 @@ fn give_turns<N: Naming<Plan, TlmLaw>, B: Reach<N>, P: Pace, R: Wait>(
     pace: &P,
     mut job: Actor<N>,
 ) -> Taken<Actor<N>> {
-    if turns_finish(rt, reach, board, pace, &mut job) {
-        queue.finish_and_take(rt, job)
-    } else {
-        queue.give_back_and_take(rt, job)
+    let turn = give_share(rt, reach, board, pace, &mut job);
+    if job.done() {
+        let reached = board.finish_and_look(rt, job.number());
+        return queue.finish_and_take(rt, job, reached);
+    }
+    match turn {
+        Turn::WentOn => queue.give_back_and_take(rt, job, 0),
+        Turn::Opened { round } => queue.give_back_and_take(rt, job, round),
+        Turn::HeldBack { reached } => queue.park_and_take(rt, job, reached),
     }
 }
 
-/// The same by so many workers at once, each in a thread of its own but for one, which is the caller's.
-/// Where a thread can't be started, the others do its work. It takes no memory.
+/// Lets so many workers work at once, each in a thread of its own but for one, which is the caller's. Where a
+/// thread can't be started, the others do its work. It takes no memory.
 pub(crate) fn work_all<
     N: Naming<Plan, TlmLaw> + Send + Sync,
     P: Pace + Sync,
@@ -107,6 +95,25 @@ pub(crate) fn work_all<
         }
         work(rt, net, board, queue, pace);
     });
+}
+
+// Gives a job a turn, and answers whether it has finished. One that has no longer holds others back.
+fn turn_finishes<N: Naming<Plan, TlmLaw>, B: Reach<N>, P: Pace, R: Wait>(
+    rt: &R,
+    reach: &mut B,
+    board: &Board,
+    pace: &P,
+    job: &mut Actor<N>,
+) -> bool
+    ensures number { number_of job.new ≡ number_of job.old }
+    ensures done { result ≡ is_done job.new }
+{
+    let _ = job.turn(rt, reach, board, pace);
+    let done = job.done();
+    if done {
+        board.finish(rt, job.number());
+    }
+    done
 }
 
 // Gives a job a turn if it hasn't finished, and answers whether it needs more.

@@ -34,7 +34,7 @@ use Rattle.platform_model.specs.Name.{is_name}
 use Rattle.platform_file.specs.Kinds.{number, truth, name, text, sized_text, word, tables}
 use Rattle.platform_file.specs.Words.{styles, responses, router_modes, memory_modes}
 use Rattle.platform_file.specs.Names.{Names, Bearer, find_name, named_after, with_name, with_names, initiator_bears, router_bears, memory_bears, names_of, found_target, target_of}
-use Rattle.platform_file.specs.Tables.{initiator_key_names, router_key_names, memory_key_names, top_key_names, initiator_keys, window_keys, router_keys, memory_traits, memory_row, platform_keys}
+use Rattle.platform_file.specs.Tables.{initiator_key_names, router_key_names, memory_key_names, top_key_names, initiator_keys, window_keys, router_keys, fetch_add_key, memory_traits, memory_row, platform_keys}
 use Rattle.platform_model.specs.Windows.{windows_of}
 use Rattle.platform_file.specs.Platform.{bound_initiator, bound_window, bound_router, refused_windows, checked_windows, checked_sums, platform_of_table}
 use Rattle.platform_model.specs.Bounded.{is_there, is_router_mode, names_in, IsBoundedInitiator, IsBoundedRouter, IsBoundedMemory, IsBounded}
@@ -49,31 +49,32 @@ record TraitsAreBounded (t : MemoryTraits) : Type 0 where
   some_gates : 1 ≤ t.gates
   gates : t.gates ≤ 256
 
-traits_are_bounded : (at : Place) (t : Members) (traits : MemoryTraits) → memory_traits at t ≡ Ok traits → TraitsAreBounded traits
+traits_are_bounded : (version : ℕ) (at : Place) (t : Members) (traits : MemoryTraits) → memory_traits version at t ≡ Ok traits → TraitsAreBounded traits
 unfolding memory_traits
-traits_are_bounded at t traits h =
+traits_are_bounded version at t traits h =
     bind_ok (required_key (number 1 16777216) at (codes "size") t) _ _ h (λ size size_read h1.
     bind_ok (optional_key (number 0 (10 ^ 12)) 0 at (codes "latency") t) _ _ h1 (λ latency latency_read h2.
     bind_ok (optional_key truth true at (codes "read") t) _ _ h2 (λ read read_read h3.
     bind_ok (optional_key truth true at (codes "write") t) _ _ h3 (λ write write_read h4.
-    bind_ok (optional_key truth true at (codes "byte_enables") t) _ _ h4 (λ enables enables_read h5.
-    bind_ok (optional_key truth true at (codes "streaming") t) _ _ h5 (λ streaming streaming_read h6.
-    bind_ok (optional_key truth true at (codes "dmi") t) _ _ h6 (λ dmi dmi_read h7.
-    bind_ok (optional_key (number 1 256) 16 at (codes "gates") t) _ _ h7 (λ gates gates_read h8.
+    bind_ok (fetch_add_key version at t) _ _ h4 (λ fetch fetch_read h5.
+    bind_ok (optional_key truth true at (codes "byte_enables") t) _ _ h5 (λ enables enables_read h6.
+    bind_ok (optional_key truth true at (codes "streaming") t) _ _ h6 (λ streaming streaming_read h7.
+    bind_ok (optional_key truth true at (codes "dmi") t) _ _ h7 (λ dmi dmi_read h8.
+    bind_ok (optional_key (number 1 256) 16 at (codes "gates") t) _ _ h8 (λ gates gates_read h9.
     let s = required_number 1 16777216 at (codes "size") (get_member (codes "size") t) size size_read in
     let l = optional_number 0 (10 ^ 12) 0 at (codes "latency") (get_member (codes "latency") t) latency (lit≤ tt) (lit≤ tt) latency_read in
     let g = optional_number 1 256 16 at (codes "gates") (get_member (codes "gates") t) gates (lit≤ tt) (lit≤ tt) gates_read in
-    subst TraitsAreBounded (ok_same (record { size = size; latency = latency; readable = read; writable = write; enables = enables; streaming = streaming; dmi = dmi; gates = gates }) traits h8) (record { some_bytes = s.0; size = s.1; latency = l.1; some_gates = g.0; gates = g.1 })))))))))
+    subst TraitsAreBounded (ok_same (record { size = size; latency = latency; readable = read; writable = write; fetch_add = fetch; enables = enables; streaming = streaming; dmi = dmi; gates = gates }) traits h9) (record { some_bytes = s.0; size = s.1; latency = l.1; some_gates = g.0; gates = g.1 }))))))))))
 
-memory_is_bounded : (i : ℕ) (t : Members) (m : MemoryRow) → memory_row i t ≡ Ok m → IsBoundedMemory m
+memory_is_bounded : (version i : ℕ) (t : Members) (m : MemoryRow) → memory_row version i t ≡ Ok m → IsBoundedMemory m
 unfolding memory_row
-memory_is_bounded i t m h =
-    bind_ok (known_keys memory_key_names (place.Memory i) t) _ _ h (λ known known_read h1.
+memory_is_bounded version i t m h =
+    bind_ok (known_keys (memory_key_names version) (place.Memory i) t) _ _ h (λ known known_read h1.
     bind_ok (required_key name (place.Memory i) (codes "name") t) _ _ h1 (λ n name_read h2.
-    bind_ok (memory_traits (place.Memory i) t) _ _ h2 (λ traits traits_read h3.
+    bind_ok (memory_traits version (place.Memory i) t) _ _ h2 (λ traits traits_read h3.
     bind_ok (optional_key (word memory_modes) req.Accept (place.Memory i) (codes "reply") t) _ _ h3 (λ reply reply_read h4.
     bind_ok (optional_key (number 1 16) 4 (place.Memory i) (codes "lanes") t) _ _ h4 (λ lanes lanes_read h5.
-    let b = traits_are_bounded (place.Memory i) t traits traits_read in
+    let b = traits_are_bounded version (place.Memory i) t traits traits_read in
     let l = optional_number 1 16 4 (place.Memory i) (codes "lanes") (get_member (codes "lanes") t) lanes (lit≤ tt) (lit≤ tt) lanes_read in
     let p = if_ok (traits.readable || traits.writable) (record { name = n; traits = traits; reply = reply; lanes = lanes }) _ m h5 in
     let named = required_name (place.Memory i) (codes "name") (get_member (codes "name") t) n name_read in
@@ -139,22 +140,22 @@ keys_are_bounded : (t : Members) (k : PlatformKeys) → platform_keys t ≡ Ok k
 unfolding platform_keys
 keys_are_bounded t k h =
     bind_ok (known_keys top_key_names place.Top t) _ _ h (λ known known_read h1.
-    bind_ok (required_key (number 1 1) place.Top (codes "version") t) _ _ h1 (λ version version_read h2.
+    bind_ok (required_key (number 1 2) place.Top (codes "version") t) _ _ h1 (λ version version_read h2.
     bind_ok (optional_key (number 0 (10 ^ 15)) 0 place.Top (codes "quantum") t) _ _ h2 (λ quantum quantum_read h3.
     bind_ok (required_key (tables 1 32) place.Top (codes "initiator") t) _ _ h3 (λ is is_read h4.
     bind_ok (optional_key (tables 0 16) [] place.Top (codes "router") t) _ _ h4 (λ rs rs_read h5.
     bind_ok (required_key (tables 1 16) place.Top (codes "memory") t) _ _ h5 (λ ms ms_read h6.
     bind_ok (rows_from initiator_keys 0 is) _ _ h6 (λ initiators initiators_read h7.
     bind_ok (rows_from router_keys 0 rs) _ _ h7 (λ routers routers_read h8.
-    bind_ok (rows_from memory_row 0 ms) _ _ h8 (λ memories memories_read h9.
+    bind_ok (rows_from (memory_row version) 0 ms) _ _ h8 (λ memories memories_read h9.
     let q = optional_number 0 (10 ^ 15) 0 place.Top (codes "quantum") (get_member (codes "quantum") t) quantum (lit≤ tt) (lit≤ tt) quantum_read in
     let i = required_tables 1 32 place.Top (codes "initiator") (get_member (codes "initiator") t) is is_read in
     let r = optional_tables 16 place.Top (codes "router") (get_member (codes "router") t) rs rs_read in
     let m = required_tables 1 16 place.Top (codes "memory") (get_member (codes "memory") t) ms ms_read in
     let ni = rows_count initiator_keys 0 is initiators initiators_read in
     let nr = rows_count router_keys 0 rs routers routers_read in
-    let nm = rows_count memory_row 0 ms memories memories_read in
-    subst KeysAreBounded (ok_same (record { quantum = quantum; initiators = initiators; routers = routers; memories = memories }) k h9) (record {
+    let nm = rows_count (memory_row version) 0 ms memories memories_read in
+    subst KeysAreBounded (ok_same (record { version = version; quantum = quantum; initiators = initiators; routers = routers; memories = memories }) k h9) (record {
       quantum = q.1;
       some_initiator = omega arith;
       initiator_count = omega arith;
@@ -163,7 +164,7 @@ keys_are_bounded t k h =
       memory_count = omega arith;
       initiators = rows_all InitiatorKeysAreBounded initiator_keys initiator_keys_are_bounded 0 is initiators initiators_read;
       routers = rows_all RouterKeysAreBounded router_keys router_keys_are_bounded 0 rs routers routers_read;
-      memories = rows_all IsBoundedMemory memory_row memory_is_bounded 0 ms memories memories_read;
+      memories = rows_all IsBoundedMemory (memory_row version) (memory_is_bounded version) 0 ms memories memories_read;
     }))))))))))
 
 -- a target is one of so many routers and memories
@@ -332,7 +333,7 @@ both P Q R h xs p q k d below = h (get_or xs k d) (p k d below) (q k d below)
 -- a platform has the names of its keys
 same_names : (k : PlatformKeys) (names : Names) (initiators : List InitiatorRow) (routers : List RouterRow) → All (NameIsThere (length k.routers) (length k.memories)) names
     → rows_from (bound_initiator names) 0 k.initiators ≡ Ok initiators → rows_from (bound_router names) 0 k.routers ≡ Ok routers
-    → names_in (record { quantum = k.quantum; initiators = initiators; routers = routers; memories = k.memories }) ≡ key_names k
+    → names_in (record { version = k.version; quantum = k.quantum; initiators = initiators; routers = routers; memories = k.memories }) ≡ key_names k
 unfolding key_names
 same_names k names initiators routers all initiators_read routers_read =
     let rs : ℕ = length k.routers in
@@ -348,11 +349,11 @@ platform_is_bounded : (k : PlatformKeys) (names : Names) (initiators : List Init
     → All (λ (r : RouterRow). IsValid (windows_of r)) routers
     → (sum_by (λ (m : MemoryRow). m.traits.size) k.memories ≤ 67108864) × (sum_by (λ (m : MemoryRow). m.traits.gates) k.memories ≤ 1024)
     → AllPairs (λ x y. x ≢ y) (key_names k)
-    → IsBounded (record { quantum = k.quantum; initiators = initiators; routers = routers; memories = k.memories })
+    → IsBounded (record { version = k.version; quantum = k.quantum; initiators = initiators; routers = routers; memories = k.memories })
 platform_is_bounded k names initiators routers keys all initiators_read routers_read valid sums own =
     let rs : ℕ = length k.routers in
     let ms : ℕ = length k.memories in
-    let p : Platform = record { quantum = k.quantum; initiators = initiators; routers = routers; memories = k.memories } in
+    let p : Platform = record { version = k.version; quantum = k.quantum; initiators = initiators; routers = routers; memories = k.memories } in
     let ni : length initiators ≡ length k.initiators = rows_count (bound_initiator names) 0 k.initiators initiators initiators_read in
     let nr : length routers ≡ rs = rows_count (bound_router names) 0 k.routers routers routers_read in
     let reach : (t : Target) → there rs ms t ≡ true → is_there p t ≡ true = λ t h. is_there_by_counts p rs ms t nr refl h in
@@ -395,7 +396,7 @@ table_is_bounded t p h =
     bind_ok (rows_from (bound_router names) 0 keys.routers) _ _ h3 (λ routers routers_read h4.
     bind_ok (rows_from checked_windows 0 routers) _ _ h4 (λ done done_read h5.
     bind_ok (checked_sums keys.memories) _ _ h5 (λ u sums_read h6.
-    subst IsBounded (ok_same (record { quantum = keys.quantum; initiators = initiators; routers = routers; memories = keys.memories }) p h6)
+    subst IsBounded (ok_same (record { version = keys.version; quantum = keys.quantum; initiators = initiators; routers = routers; memories = keys.memories }) p h6)
     (platform_is_bounded keys names initiators routers (keys_are_bounded t keys keys_read) (names_are_there keys names names_read) initiators_read routers_read
     (rows_passed (λ (r : RouterRow). IsValid (windows_of r)) checked_windows windows_are_valid 0 routers done done_read)
     (sums_are_bounded keys.memories u sums_read) (own_key_names keys names names_read))))))))

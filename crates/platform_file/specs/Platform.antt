@@ -69,7 +69,7 @@ platform_of_table t = do
   routers ← rows_from (bound_router names) 0 keys.routers
   _ ← rows_from checked_windows 0 routers
   _ ← checked_sums keys.memories
-  Ok (record { quantum = keys.quantum; initiators = initiators; routers = routers; memories = keys.memories })
+  Ok (record { version = keys.version; quantum = keys.quantum; initiators = initiators; routers = routers; memories = keys.memories })
 
 -- the table of the document that some bytes are
 unfoldable pub document_of : List ℕ → Option Members

@@ -50,6 +50,7 @@ example =
 -- the platform of the example
 unfoldable pub example_platform : Platform
 example_platform = record {
+  version = 1;
   quantum = 1000;
   initiators = record { name = codes "cpu"; style = style.Blocking; script = codes "cpu.txt"; bind = target.Router 0; pool = 4; response = resp.Accept } ∷ [];
   routers = record {
@@ -64,16 +65,54 @@ example_platform = record {
   } ∷ [];
   memories = record {
     name = codes "ram";
-    traits = record { size = 65536; latency = 20; readable = true; writable = true; enables = true; streaming = true; dmi = true; gates = 16 };
+    traits = record { size = 65536; latency = 20; readable = true; writable = true; fetch_add = false; enables = true; streaming = true; dmi = true; gates = 16 };
     reply = req.Accept;
     lanes = 4;
   } ∷ record {
     name = codes "rom";
-    traits = record { size = 512; latency = 30; readable = true; writable = false; enables = true; streaming = true; dmi = true; gates = 16 };
+    traits = record { size = 512; latency = 30; readable = true; writable = false; fetch_add = false; enables = true; streaming = true; dmi = true; gates = 16 };
     reply = req.Accept;
     lanes = 4;
   } ∷ [];
 }
+
+-- a platform of version 2, one of whose memories allows no fetch_add
+unfoldable pub version_2 : List ℕ
+version_2 =
+    codes "version = 2\n"
+    ++ codes "[[initiator]]\nname = 'cpu'\nstyle = 'blocking'\nscript = 'a.txt'\nbind = 'ram'\n"
+    ++ codes "[[memory]]\nname = 'ram'\nsize = 16\n"
+    ++ codes "[[memory]]\nname = 'rom'\nsize = 16\nfetch_add = false\n"
+
+unfoldable pub version_2_platform : Platform
+version_2_platform = record {
+  version = 2;
+  quantum = 0;
+  initiators = record { name = codes "cpu"; style = style.Blocking; script = codes "a.txt"; bind = target.Memory 0; pool = 4; response = resp.Accept } ∷ [];
+  routers = [];
+  memories = record {
+    name = codes "ram";
+    traits = record { size = 16; latency = 0; readable = true; writable = true; fetch_add = true; enables = true; streaming = true; dmi = true; gates = 16 };
+    reply = req.Accept;
+    lanes = 4;
+  } ∷ record {
+    name = codes "rom";
+    traits = record { size = 16; latency = 0; readable = true; writable = true; fetch_add = false; enables = true; streaming = true; dmi = true; gates = 16 };
+    reply = req.Accept;
+    lanes = 4;
+  } ∷ [];
+}
+
+-- the key of version 2 in version 1
+unfoldable pub key_of_version_2 : List ℕ
+key_of_version_2 =
+    codes "version = 1\n"
+    ++ codes "[[initiator]]\nname = 'cpu'\nstyle = 'blocking'\nscript = 'a.txt'\nbind = 'ram'\n"
+    ++ codes "[[memory]]\nname = 'ram'\nsize = 16\nfetch_add = true\n"
+
+-- its refusal
+abbrev pub unknown_in_version_1 : PlatformRefusal
+unknown_in_version_1 = record { code = UnknownKey; table = codes "memory[0]"; key = codes "fetch_add" }
 
 -- two unknown keys
 unfoldable pub unknown_keys : List ℕ

@@ -76,7 +76,7 @@ impl<'a> Kind<'a> for Number {
     }
 }
 
-/// An integer from `least` to `most`, as a count of parts.
+/// An integer from `least` to `most`, as a count of parts or a version.
 #[derive(Drop)]
 pub struct PartCount {
     pub least: u32,

@@ -31,6 +31,7 @@ fn platform(alloc: Global, table: &Table) -> Result<Platform, PlatformFault>
     rows(alloc, &RouterWindows, routers.as_slice())?;
     check_sums(alloc, keys.memories.as_slice())?;
     Ok(Platform {
+        version: keys.version,
         quantum: keys.quantum,
         initiators,
         routers,

@@ -6,7 +6,7 @@ ghost use Rattle.platform_file.specs.Tables.{platform_keys};
 
 use crate::initiators::{InitiatorKeys, Initiators};
 use crate::keys::Keys;
-use crate::kinds::Number;
+use crate::kinds::{Number, PartCount};
 use crate::memories::Memories;
 use crate::reading::table_rows;
 use crate::routers::{RouterKeys, Routers};
@@ -17,7 +17,7 @@ use tlm_types::Ps;
 use toml::Table;
 
 /// The version of the format.
-const VERSION: Number = Number { least: 1, most: 1 };
+const VERSION: PartCount = PartCount { least: 1, most: 2 };
 
 /// A global quantum in picoseconds, at most 1,000 seconds.
 const QUANTUM: Number = Number {
@@ -28,6 +28,7 @@ const QUANTUM: Number = Number {
 /// A platform as its keys say it: targets are names yet.
 #[derive(Drop)]
 pub struct PlatformKeys {
+    pub version: u32,
     pub quantum: Ps,
     pub initiators: Rows<InitiatorKeys>,
     pub routers: Rows<RouterKeys>,
@@ -50,15 +51,16 @@ pub fn platform_keys(alloc: Global, table: &Table) -> Result<PlatformKeys, Platf
         table,
     };
     keys.known(&["version", "quantum", "initiator", "router", "memory"])?;
-    let _version = keys.required("version", VERSION)?;
+    let version = keys.required("version", VERSION)?;
     let quantum = keys.optional("quantum", QUANTUM, 0)?;
     let initiators = keys.required_tables("initiator", 1, 32)?;
     let routers = keys.optional_tables("router", 16)?;
     let memories = keys.required_tables("memory", 1, 16)?;
     let initiators = table_rows(alloc, &Initiators, initiators.as_slice())?;
     let routers = table_rows(alloc, &Routers, routers.as_slice())?;
-    let memories = table_rows(alloc, &Memories, memories.as_slice())?;
+    let memories = table_rows(alloc, &Memories { version }, memories.as_slice())?;
     Ok(PlatformKeys {
+        version,
         quantum,
         initiators,
         routers,

@@ -46,12 +46,14 @@ use Rattle.port_model.specs.Stages.{made_at, made_by, price, price_of}
 use Rattle.port_model.specs.Way.{HasReturned, IsUnderWay, Port}
 use Rattle.script_engine.specs.declared.op.Op.{Op}
 use Rattle.script_engine.specs.declared.op.Op.TheVariants as next
+use Rattle.script_engine.specs.declared.part.Transfer.{Transfer}
+use Rattle.script_engine.specs.declared.part.TransferKind.TheVariants as transfer
+use Rattle.script_engine.specs.Part.{part_of}
 use Rattle.script_engine.specs.State.{length_of, op_of, payload_of}
-use Rattle.script_engine.specs.Asking.{IsAnswered, asked_access}
-use Rattle.port_model.specs.Laws.{AreBelow, HasBytes, IsReplyTo, Knows, next_request, replies_of, request_of}
+use Rattle.script_engine.specs.Asking.{IsAnswered, asked_access, request_for}
+use Rattle.port_model.specs.Laws.{AreBelow, HasBytes, IsReplyTo, Knows, replies_of}
 use Rattle.port_model.proofs.Answering.{replies_answer}
 use Rattle.port_model.proofs.NextAsks.{next_asked, passes_its_way, price_at, priced}
-use Rattle.port_model.proofs.Ops.{IsAsk}
 use Rattle.port_model.proofs.Origins.{address_by, origin}
 use Rattle.port_model.proofs.Returns.{fenced_returned, plain_returned}
 use Rattle.port_end.proofs.ReadLemmas.{AsksRead, kept_by, kept_is, next_read, read_by, same_read}
@@ -80,6 +82,10 @@ same_entry a b e = cc
 
 no_entry : (e : Entry) → None ≡ Some e → ⊥
 no_entry e q = cc
+
+-- the transfer of a read
+abbrev a_read : ℕ → ℕ → ℕ → Bool → Bool → Transfer
+a_read q c n plain fenced = record { seq = q; address = c; length = n; kind = transfer.Access Read plain fenced }
 
 module _ (s : Case) (i : Initiator) (port : Port) (known : List Event) (seen : ℕ) (left rest : ObjectNo → ℕ) (u : IsUnderWay s.p i port known seen left) (free : HasNoCycle s.p.platform)
     (is : slice_get (initiators_of s.p) i.number ≡ Some i) (style : i.row.style ≡ FourPhase) (seq : ℕ) (its : s.x ≡ txn_of i.number seq) (z : Purse) (v : PayloadView) (a : HasArrived s z v)
@@ -167,15 +173,15 @@ module _ (s : Case) (i : Initiator) (port : Port) (known : List Event) (seen : �
 
   -- what is next is a read
   module _ (q c n : ℕ) (plain fenced : Bool) (next_is : op_of port.engine ≡ next.Access q c n Read plain fenced) (at : seq ≡ port.engine.seq) where
-    abbrev next_asked_for : Request
-    next_asked_for = request_of (op_of port.engine) (payload_of port.engine 4096) u.asking.blocking u.step
-
     abbrev payload : PayloadView
     payload = payload_of port.engine 4096
 
+    abbrev next_asked_for : Request
+    next_asked_for = request_for (a_read q c n plain fenced) payload u.asking.blocking u.step
+
     next_at : slice_get (requests_of s.p.platform i (u.mine ++ [])) seq ≡ Some next_asked_for
     next_at = subst (λ (k : ℕ). slice_get (requests_of s.p.platform i (u.mine ++ [])) k ≡ Some next_asked_for) (sym at)
-        (next_asked s.p i port known seen left u (subst IsAsk (sym next_is) tt))
+        (next_asked s.p i port known seen left u (a_read q c n plain fenced) (ap part_of next_is))
 
     read : AsksRead payload n
     read = next_read port.engine.seq q c n plain fenced port.engine.due port.engine.remaining next_is
@@ -184,17 +190,15 @@ module _ (s : Case) (i : Initiator) (port : Port) (known : List Event) (seen : �
     is_that = kept_is a.asked.access.command a.asked.access (asked_access payload)
         (sym (ap read_by a.asked.transport)
         ∙ (sym (same_read s.p.platform i (u.mine ++ []) a.asked.replies next_asked_for a.asked.request seq next_at asked)
-        ∙ (ap (λ (o : Op). read_by (request_of o payload u.asking.blocking u.step).asked) next_is
-        ∙ ap (λ (d : Command). kept_by d (asked_access payload)) read.command)))
+        ∙ ap (λ (d : Command). kept_by d (asked_access payload)) read.command))
 
-    sent : a.asked.access.sent ≡ zeros (length_of (op_of port.engine))
-    sent = ap (λ (d : Access). d.sent) is_that.1 ∙ (read.bytes ∙ ap zeros (sym (ap length_of next_is)))
+    sent : a.asked.access.sent ≡ zeros n
+    sent = ap (λ (d : Access). d.sent) is_that.1 ∙ read.bytes
 
     same_address : c ≡ a.asked.request.address
     same_address = same c a.asked.request.address
-        (sym (ap (λ (o : Op). address_by (request_of o payload u.asking.blocking u.step).asked (request_of o payload u.asking.blocking u.step).address) next_is)
-        ∙ (option_same _ _ (sym (origin s.p.platform i (u.mine ++ []) next_asked_for seq next_at) ∙ origin s.p.platform i a.asked.replies a.asked.request seq asked)
-        ∙ ap (λ (d : AskedFor). address_by d a.asked.request.address) a.asked.transport))
+        (option_same _ _ (sym (origin s.p.platform i (u.mine ++ []) next_asked_for seq next_at) ∙ origin s.p.platform i a.asked.replies a.asked.request seq asked)
+        ∙ ap (λ (d : AskedFor). address_by d a.asked.request.address) a.asked.transport)
       where
         same : (m n : ℕ) → Some m ≡ Some n → m ≡ n
         same m n e = cc
@@ -202,20 +206,19 @@ module _ (s : Case) (i : Initiator) (port : Port) (known : List Event) (seen : �
         option_same : (m n : Option ℕ) → Some m ≡ Some n → m ≡ n
         option_same m n e = cc
 
-    next_route : route_of s.p.platform i (next_request port).address ≡ route s a.asked
-    next_route = ap (route_of s.p.platform i) (ap (λ (o : Op). (request_of o payload 0 0).address) next_is ∙ same_address)
-        ∙ ap (λ (j : Initiator). route_of s.p.platform j a.asked.request.address) (sym own)
+    next_route : route_of s.p.platform i c ≡ route s a.asked
+    next_route = ap (route_of s.p.platform i) same_address ∙ ap (λ (j : Initiator). route_of s.p.platform j a.asked.request.address) (sym own)
 
   -- the payload's bytes are the answer, where it is so for a read
   told_next : (reply : Option Entry) → port.waiting ≡ true →
-      ((q c n : ℕ) (plain fenced : Bool) → op_of port.engine ≡ next.Access q c n Read plain fenced → HasBytes s.p i port reply v.bytes) →
+      ((q c n : ℕ) (plain fenced : Bool) → op_of port.engine ≡ next.Access q c n Read plain fenced → HasBytes s.p i port (a_read q c n plain fenced) reply v.bytes) →
       (m : List Entry) → IsAnswered s.p.platform i ((u.mine ++ replies_of reply) ++ m) (op_of port.engine) v.bytes
   told_next reply waits has m = by_op (op_of port.engine) refl
     where
       by_op : (o : Op) → op_of port.engine ≡ o → IsAnswered s.p.platform i ((u.mine ++ replies_of reply) ++ m) o v.bytes
       by_op (next.Access q c n Read plain fenced) e =
           subst (λ (o : Op). IsAnswered s.p.platform i ((u.mine ++ replies_of reply) ++ m) o v.bytes) e
-          (replies_answer s.p i port known seen left reply v.bytes u waits (has q c n plain fenced e) m)
+          (replies_answer s.p i port known seen left reply v.bytes u waits (a_read q c n plain fenced) (ap part_of e) (has q c n plain fenced e) m)
       by_op op e = tt
 
   taken_back : (t : Option Route) → route s a.asked ≡ t → IsTakenBack s i port known seen left rest u seq a.ended.time z v
@@ -230,7 +233,7 @@ module _ (s : Case) (i : Initiator) (port : Port) (known : List Event) (seen : �
       pays = pays [] (subst (λ (t : Option Route). AreReplies t []) (sym q) refl);
     };
     told = λ waits at long. told_next None waits (λ k c n plain fenced e. record {
-      long = long;
+      long = long ∙ ap length_of e;
       with_route = λ d f. absurd (no_entry d f);
       without = λ f. (
         next_route k c n plain fenced e at ∙ q,
@@ -252,8 +255,8 @@ module _ (s : Case) (i : Initiator) (port : Port) (known : List Event) (seen : �
       pays = pays (f.event.entry ∷ []) (subst (λ (t : Option Route). AreReplies t (f.event.entry ∷ [])) (sym q) (f.event.entry, refl, f.is.object));
     };
     told = λ waits at long. told_next (Some f.event.entry) waits (λ k c n plain fenced e. record {
-      long = long;
-      with_route = λ d m. subst (λ (d : Entry). (d.txn ≡ txn_of i.number port.engine.seq) × (got_in d.what ≡ Some v.bytes) × IsSome (route_of s.p.platform i (next_request port).address)) (same_entry f.event.entry d m) (
+      long = long ∙ ap length_of e;
+      with_route = λ d m. subst (λ (d : Entry). (d.txn ≡ txn_of i.number port.engine.seq) × (got_in d.what ≡ Some v.bytes) × IsSome (route_of s.p.platform i c)) (same_entry f.event.entry d m) (
         f.is.txn ∙ (its ∙ ap (txn_of i.number) at),
         f.is.read (is_that k c n plain fenced e at).0,
         subst (λ (t : Option Route). IsSome t) (sym (next_route k c n plain fenced e at ∙ q)) refl,

@@ -22,6 +22,7 @@ abbrev pub kept_by : Command → Access → Option Access
 kept_by Commands.Read a = Some a
 kept_by Commands.Write a = None
 kept_by Commands.Ignore a = None
+kept_by Commands.FetchAdd a = None
 
 abbrev pub read_by : Asked → Option Access
 read_by (Transport a) = kept_by a.command a
@@ -35,6 +36,7 @@ kept_is Commands.Read a b e = (refl, same a b e)
     same a b e = cc
 kept_is Commands.Write a b e = cc
 kept_is Commands.Ignore a b e = cc
+kept_is Commands.FetchAdd a b e = cc
 
 -- the reads of a script, at the numbers of its requests
 abbrev reads_by : Action → List (Option Access)

@@ -23,19 +23,23 @@ use Rattle.flow_model.specs.Platform.{passage_of}
 use Rattle.report_model.specs.Ends.{refused_at}
 use Rattle.joined_traffic.specs.Accesses.{sum_below, txn_of}
 use Rattle.script_engine.specs.declared.op.Op.{Op}
-use Rattle.script_engine.specs.State.{is_fenced, op_of, passed_by, payload_of, told_by}
-use Rattle.script_engine.specs.Asking.{asked_by, requests_at, stage_after, time_after_op}
+use Rattle.script_engine.specs.declared.part.Part.TheVariants.{Asks}
+use Rattle.script_engine.specs.declared.part.Transfer.{Transfer}
+use Rattle.script_engine.specs.declared.part.TransferKind.TheVariants as transfer
+use Rattle.script_engine.specs.Part.{part_of}
+use Rattle.script_engine.specs.State.{is_fenced, next_of, op_of, passed_by, payload_of, told_by}
+use Rattle.script_engine.specs.Asking.{asked_by, request_for, requests_at, stage_after, time_after_op}
 use Rattle.script_engine.proofs.Steps.{passes}
 use Rattle.port_model.specs.Stages.{HasTickets, IsBack, Stage, ahead, charged, count_of, end_by, moved, outstanding_by, price, under_by}
 use Rattle.port_model.specs.Stages.Stage.{Ahead, Under, Back}
 use Rattle.port_model.specs.Issues.{IsWaitingOp, current_at, issues_at}
 use Rattle.port_model.specs.Way.{Agrees, HasAccesses, HasEntries, IsReading, IsTimeOf, IsUnderWay, Port, Replied, pending, refused_in, top}
-use Rattle.port_model.specs.Laws.{AreBelow, Knows, next_request, refused_for, request_of}
+use Rattle.port_model.specs.Laws.{AreBelow, Knows, next_request, refused_for}
 use Rattle.port_model.proofs.IssueSteps.{in_order}
 use Rattle.port_model.proofs.Kept.{Grows, agrees_less, begun_more, get_kept, get_last, get_new, reading_more, returned_more, waited_more}
 use Rattle.port_model.proofs.Sums.{ends_moved, more_differs, moved_here, moved_other, same_or_not, sum_moved}
-use Rattle.port_model.proofs.Ops.{IsAsk, asks_one, more_numbers, refused_same, seq_of}
-use Rattle.port_model.specs.Issues.{issue_of, time_after, engine_after}
+use Rattle.port_model.proofs.Ops.{asks_one, more_numbers, refused_same, seq_of}
+use Rattle.port_model.specs.Issues.{time_after, engine_after}
 use Rattle.port_model.specs.Laws.{HasSettled}
 use Rattle.port_model.proofs.Takes.{all_back, low_made, made_count, made_passed}
 use Rattle.view_lists.specs.Lists.{AreDistinct}
@@ -47,33 +51,21 @@ use Rattle.port_model.specs.Way.{IsReply}
 use Rattle.port_model.specs.Laws.{replies_of}
 use Rattle.port_model.proofs.Kept.{served_more}
 use Rattle.port_model.proofs.PlainTakes.{false_is_true, get_tail}
-use Rattle.port_model.specs.Laws.{HasRead, IsDebugOp, ReadsDebug, HasSettled}
-use Rattle.port_model.proofs.PlainTakes.{next_time, settled_here}
+use Rattle.port_model.specs.Laws.{HasRead, ReadsDebug, HasSettled}
+use Rattle.port_model.proofs.PlainTakes.{next_time, settled_here, transfer_issue, transfer_time}
 use Rattle.port_model.proofs.Takes.{waited_at}
 
-debug_asks : (op : Op) → IsDebugOp op → IsAsk op
-debug_asks op o = grind (arith, common_steps)
+debug_free : (op : Op) (x : Transfer) → part_of op ≡ Asks x → x.kind ≡ transfer.DebugRead → is_fenced op ≡ false
+debug_free op x next_is o = grind (arith, common_steps)
 
-debug_free : (op : Op) → IsDebugOp op → is_fenced op ≡ false
-debug_free op o = grind (arith, common_steps)
+debug_waits : (op : Op) (x : Transfer) → part_of op ≡ Asks x → x.kind ≡ transfer.DebugRead → IsWaitingOp op
+debug_waits op x next_is o = grind (arith, common_steps)
 
-debug_waits : (op : Op) → IsDebugOp op → IsWaitingOp op
-debug_waits op o = grind (arith, common_steps)
+debug_stage : (x : Transfer) (payload : PayloadView) (t g : ℕ) → x.kind ≡ transfer.DebugRead → (request_for x payload t g).stage ≡ g + 1
+debug_stage x payload t g o = grind (arith, common_steps)
 
-debug_stage : (op : Op) (payload : PayloadView) (t g : ℕ) → IsDebugOp op → (request_of op payload t g).stage ≡ g + 1
-debug_stage op payload t g o = grind (arith, common_steps)
-
-debug_after : (op : Op) (g : ℕ) → IsDebugOp op → g + 1 ≤ stage_after op g
-debug_after op g o = grind (arith, common_steps)
-
-debug_issue : (op : Op) (t : ℕ) → IsDebugOp op → issue_of op t ≡ t ∷ []
-debug_issue op t o = grind (arith, common_steps)
-
-debug_time : (op : Op) (t : ℕ) → IsDebugOp op → time_after op t ≡ t
-debug_time op t o = grind (arith, common_steps)
-
-address_same : (op : Op) (payload : PayloadView) (t g : ℕ) → IsDebugOp op → (request_of op payload t g).address ≡ (request_of op payload 0 0).address
-address_same op payload t g o = grind (arith, common_steps)
+debug_after : (op : Op) (x : Transfer) (g : ℕ) → part_of op ≡ Asks x → x.kind ≡ transfer.DebugRead → g + 1 ≤ stage_after op g
+debug_after op x g next_is o = grind (arith, common_steps)
 
 new_one : (reply : Option Entry) (e : Entry) → Has (replies_of reply) e → reply ≡ Some e
 new_one None e h = absurd (has_none e h)
@@ -119,7 +111,7 @@ made_none p o x (Some pass) q n = cc
 
 module _ (p : Plan) (i : Initiator) (port : Port) (known more : List Event) (seen after : ℕ) (left rest : ObjectNo → ℕ) (reply : Option Entry)
     (u : IsUnderWay p i port known seen left) (knows : Knows known more) (below : AreBelow more after) (quiet : HasSettled port)
-    (o : IsDebugOp (op_of port.engine)) (c : HasRead p i port more seen reply left rest) where
+    (x : Transfer) (next_is : next_of port.engine ≡ Asks x) (o : x.kind ≡ transfer.DebugRead) (c : HasRead p i port x more seen reply left rest) where
   abbrev s : ℕ
   s = port.engine.seq
 
@@ -127,7 +119,7 @@ module _ (p : Plan) (i : Initiator) (port : Port) (known more : List Event) (see
   op = op_of port.engine
 
   abbrev q : Request
-  q = request_of (op_of port.engine) (payload_of port.engine 4096) u.asking.blocking u.step
+  q = request_for x (payload_of port.engine 4096) u.asking.blocking u.step
 
   abbrev made_d : List Request
   made_d = u.made ++ q ∷ []
@@ -145,10 +137,10 @@ module _ (p : Plan) (i : Initiator) (port : Port) (known more : List Event) (see
   ahead_now = u.staged.ahead s (let c = count in omega arith)
 
   within : s < count_of i
-  within = let l = more_numbers port.engine (debug_asks op o) in let c = u.asking.numbers in omega arith
+  within = let l = more_numbers port.engine x next_is in let c = u.asking.numbers in omega arith
 
   stage_is : q.stage ≡ u.step + 1
-  stage_is = debug_stage (op_of port.engine) (payload_of port.engine 4096) u.asking.blocking u.step o
+  stage_is = debug_stage x (payload_of port.engine 4096) u.asking.blocking u.step o
 
   back_kept : (k : ℕ) → IsBack (u.stage k) → stage_d k ≡ u.stage k
   back_kept k b = elim (same_or_not k s) [
@@ -171,16 +163,16 @@ module _ (p : Plan) (i : Initiator) (port : Port) (known more : List Event) (see
 
   issues_d : (end : ℕ → ℕ) → Agrees u.stage end → issues_at end port.time port.engine ≡ port.time ∷ issues_at end port.time (passed_by port.engine)
   issues_d end a =
-      in_order.waiting end port.time port.engine [] (debug_waits op o) (settled_here p i port known seen left u quiet.none quiet.free quiet.settled end a)
-      ∙ (ap (λ (l : List ℕ). l ++ issues_at end (time_after op port.time) (engine_after port.engine [])) (debug_issue op port.time o)
-      ∙ (ap (λ (t : ℕ). port.time ∷ issues_at end t (engine_after port.engine [])) (debug_time op port.time o)
-      ∙ ap (λ (b : Bool). port.time ∷ issues_at end port.time (cond b (told_by port.engine []) (passed_by port.engine))) (debug_free op o)))
+      in_order.waiting end port.time port.engine [] (debug_waits op x next_is o) (settled_here p i port known seen left u quiet.none quiet.free quiet.settled end a)
+      ∙ (ap (λ (l : List ℕ). l ++ issues_at end (time_after op port.time) (engine_after port.engine [])) (transfer_issue op x port.time next_is)
+      ∙ (ap (λ (t : ℕ). port.time ∷ issues_at end t (engine_after port.engine [])) (transfer_time op x port.time next_is)
+      ∙ ap (λ (b : Bool). port.time ∷ issues_at end port.time (cond b (told_by port.engine []) (passed_by port.engine))) (debug_free op x next_is o)))
 
   current_d : (end : ℕ → ℕ) → Agrees u.stage end → current_at end port.time port.engine ≡ current_at end port.time (passed_by port.engine)
   current_d end a =
-      in_order.waiting_current end port.time port.engine [] (debug_waits op o) (settled_here p i port known seen left u quiet.none quiet.free quiet.settled end a)
-      ∙ (ap (λ (t : ℕ). current_at end t (engine_after port.engine [])) (debug_time op port.time o)
-      ∙ ap (λ (b : Bool). current_at end port.time (cond b (told_by port.engine []) (passed_by port.engine))) (debug_free op o))
+      in_order.waiting_current end port.time port.engine [] (debug_waits op x next_is o) (settled_here p i port known seen left u quiet.none quiet.free quiet.settled end a)
+      ∙ (ap (λ (t : ℕ). current_at end t (engine_after port.engine [])) (transfer_time op x port.time next_is)
+      ∙ ap (λ (b : Bool). current_at end port.time (cond b (told_by port.engine []) (passed_by port.engine))) (debug_free op x next_is o))
 
   is_time : IsTimeOf i u.stage s port.time
   is_time end a = next_time p i port known seen left u port.time end a (issues_at end port.time (passed_by port.engine)) (issues_d end a)
@@ -257,7 +249,7 @@ module _ (p : Plan) (i : Initiator) (port : Port) (known more : List Event) (see
 
   reply_here : IsSome (route_of p.platform i q.address) → Replied mine_d (txn_of i.number s)
   reply_here some =
-      let f = some_of reply (c.routed (subst (λ (a : ℕ). IsSome (route_of p.platform i a)) (address_same (op_of port.engine) (payload_of port.engine 4096) u.asking.blocking u.step o) some)) in
+      let f = some_of reply (c.routed some) in
       record { entry = f.0; has = has_right u.mine (replies_of reply) f.0 (has_reply reply f.0 f.1); of = (c.entry f.0 f.1).txn }
 
   accesses_d : HasAccesses p i more made_d mine_d stage_d
@@ -334,13 +326,13 @@ module _ (p : Plan) (i : Initiator) (port : Port) (known more : List Event) (see
       let l = u.issuing.latest in
       omega arith
 
-  refused_d : (end : ℕ → ℕ) → Agrees stage_d end → port.refused ++ refused_for p i (next_request port) port.time ≡ refused_in p i end made_d
+  refused_d : (end : ℕ → ℕ) → Agrees stage_d end → port.refused ++ refused_for p i (next_request port x) port.time ≡ refused_in p i end made_d
   refused_d end a =
       let old : port.refused ≡ map (λ (r : Request). refused_at r (get_or (issues_from end 0 0 i.script) r.seq 0)) (filter (λ (r : Request). has_no_route p.platform i r r.asked) u.made) = u.refused end (agrees_d end a) in
       let when : get_or (issues_from end 0 0 i.script) q.seq 0 ≡ port.time =
-      ap (λ (n : ℕ). get_or (issues_from end 0 0 i.script) n 0) (seq_of port.engine (payload_of port.engine 4096) u.asking.blocking u.step (debug_asks (op_of port.engine) o)) ∙ is_time end (agrees_d end a) in
-      let same : refused_for p i (next_request port) port.time ≡ refused_for p i q port.time = refused_same p i (op_of port.engine) (payload_of port.engine 4096) u.asking.blocking u.step port.time (debug_asks (op_of port.engine) o) in
-      ap (λ (l : List RefusedItem). l ++ refused_for p i (next_request port) port.time) old
+      ap (λ (n : ℕ). get_or (issues_from end 0 0 i.script) n 0) (seq_of port.engine x next_is) ∙ is_time end (agrees_d end a) in
+      let same : refused_for p i (next_request port x) port.time ≡ refused_for p i q port.time = refused_same p i x (payload_of port.engine 4096) u.asking.blocking u.step port.time in
+      ap (λ (l : List RefusedItem). l ++ refused_for p i (next_request port x) port.time) old
       ∙ (ap (λ (l : List RefusedItem). map (λ (r : Request). refused_at r (get_or (issues_from end 0 0 i.script) r.seq 0)) (filter (λ (r : Request). has_no_route p.platform i r r.asked) u.made) ++ l) (same ∙ one (has_no_route p.platform i q q.asked) port.time (sym when))
       ∙ (sym (map-append (λ (r : Request). refused_at r (get_or (issues_from end 0 0 i.script) r.seq 0)) (filter (λ (r : Request). has_no_route p.platform i r r.asked) u.made) (filter (λ (r : Request). has_no_route p.platform i r r.asked) (q ∷ [])))
       ∙ ap (map (λ (r : Request). refused_at r (get_or (issues_from end 0 0 i.script) r.seq 0))) (sym (filter-append (λ (r : Request). has_no_route p.platform i r r.asked) u.made (q ∷ [])))))
@@ -350,10 +342,10 @@ module _ (p : Plan) (i : Initiator) (port : Port) (known more : List Event) (see
       one true x e = ap (λ (n : ℕ). refused_at q n ∷ []) e
 
   asks_d : asked_by op (payload_of port.engine 4096) u.asking.blocking u.step ≡ q ∷ []
-  asks_d = asks_one (op_of port.engine) (payload_of port.engine 4096) u.asking.blocking u.step (debug_asks op o)
+  asks_d = asks_one (op_of port.engine) x (payload_of port.engine 4096) u.asking.blocking u.step next_is
 
   seq_d : (passed_by port.engine).seq ≡ port.engine.seq + 1
-  seq_d = passes.seq port.engine 4096 u.asking.blocking u.step (debug_free op o) ∙ ap (λ (l : List Request). port.engine.seq + length l) asks_d
+  seq_d = passes.seq port.engine 4096 u.asking.blocking u.step (debug_free op x next_is o) ∙ ap (λ (l : List Request). port.engine.seq + length l) asks_d
 
   all_back_d : (j : ℕ) (r : Request) → slice_get made_d j ≡ Some r → IsBack (stage_d j)
   all_back_d j r e = elim (get_new u.made q j r e) [
@@ -361,7 +353,7 @@ module _ (p : Plan) (i : Initiator) (port : Port) (known more : List Event) (see
     | inr f ↦ subst (λ (m : ℕ). IsBack (stage_d m)) (sym (f.0 ∙ count)) back_now
   ]
 
-  reads_debug : IsUnderWay p i (record port { engine = passed_by port.engine; refused = port.refused ++ refused_for p i (next_request port) port.time }) more after rest
+  reads_debug : IsUnderWay p i (record port { engine = passed_by port.engine; refused = port.refused ++ refused_for p i (next_request port x) port.time }) more after rest
   reads_debug = record {
     made = made_d;
     mine = mine_d;
@@ -376,15 +368,15 @@ module _ (p : Plan) (i : Initiator) (port : Port) (known more : List Event) (see
       asked = λ m. ap (requests_of p.platform i) (append_assoc u.mine (replies_of reply) m)
           ∙ (u.asking.asked (replies_of reply ++ m)
           ∙ (ap (λ (l : List Entry). u.asking.passed ++ requests_at p.platform i l u.asking.blocking u.step port.engine) (sym (append_assoc u.mine (replies_of reply) m))
-          ∙ (ap (λ (l : List Request). u.asking.passed ++ l) (passes.requests p.platform i ((u.mine ++ replies_of reply) ++ m) u.asking.blocking u.step 4096 port.engine (debug_free op o)
+          ∙ (ap (λ (l : List Request). u.asking.passed ++ l) (passes.requests p.platform i ((u.mine ++ replies_of reply) ++ m) u.asking.blocking u.step 4096 port.engine (debug_free op x next_is o)
           ∙ ap (λ (l : List Request). l ++ requests_at p.platform i ((u.mine ++ replies_of reply) ++ m) (time_after_op p.platform i u.asking.blocking (op_of port.engine)) (stage_after (op_of port.engine) u.step) (passed_by port.engine)) asks_d)
           ∙ sym (append_assoc u.asking.passed (q ∷ []) (requests_at p.platform i ((u.mine ++ replies_of reply) ++ m) (time_after_op p.platform i u.asking.blocking (op_of port.engine)) (stage_after (op_of port.engine) u.step) (passed_by port.engine))))));
       count = length-append u.asking.passed (q ∷ []) ∙ (ap (λ (n : ℕ). n + 1) u.asking.count ∙ sym seq_d);
       fenced = λ w. false_is_true port.waiting quiet.free w;
-      numbers = passes.numbers port.engine (debug_free op o) ∙ u.asking.numbers;
+      numbers = passes.numbers port.engine (debug_free op x next_is o) ∙ u.asking.numbers;
       low = λ j r e. (
           let z : top port.waiting (stage_after (op_of port.engine) u.step) ≡ stage_after (op_of port.engine) u.step = ap (λ (b : Bool). top b (stage_after (op_of port.engine) u.step)) quiet.free in
-          let f = debug_after op u.step o in
+          let f = debug_after op x u.step next_is o in
           elim (get_new u.made q j r e) [
             | inl a ↦ (let l = low_made p i port known seen left u quiet.free j r a in omega arith)
             | inr b ↦ (let d : q.stage ≡ r.stage = ap (λ (g : Request). g.stage) b.1 in let st = stage_is in omega arith)
@@ -417,4 +409,4 @@ module _ (p : Plan) (i : Initiator) (port : Port) (known more : List Event) (see
   }
 
 pub debug_read : ReadsDebug
-debug_read p i port known more seen after left rest reply u knows below quiet o c = reads_debug p i port known more seen after left rest reply u knows below quiet o c
+debug_read p i port known more seen after left rest reply u knows below quiet x next_is o c = reads_debug p i port known more seen after left rest reply u knows below quiet x next_is o c

@@ -8,7 +8,7 @@ use Rattle.tlm_model.specs.declared.ask.Ask.{Ask}
 use Rattle.tlm_model.specs.declared.ask.Ask.TheVariants.{Access as AnAccess, DebugRead as ADebugRead, Invalidation as AnInvalidation}
 use Rattle.tlm_model.specs.Actions.{ask_for, asks_of}
 use Rattle.tlm_model.specs.Plan.{Plan, Initiator}
-use Rattle.tlm_model.specs.Requests.{Asked, Transport, DebugRead, Invalidation, Request, requests_of}
+use Rattle.tlm_model.specs.Requests.{Asked, Transport, DebugRead, Invalidation, Request, data_logged, requests_of}
 use Rattle.tlm_model.specs.Route.{hops_of, route_of}
 use Rattle.tlm_model.proofs.RequestLemmas.{ask_at}
 use Rattle.std.proofs.lemmas.Grind.{common_steps}
@@ -19,23 +19,25 @@ use Rattle.tlm_types.specs.declared.words.ObjectNo.{ObjectNo}
 use Rattle.tlm_types.specs.declared.words.ObjectNo.TheVariants.{Memory, Hop, Pool}
 use Rattle.generic_payload.specs.Payload.{PayloadView}
 use Rattle.flow_model.specs.Events.{Event}
-use Rattle.script_engine.specs.declared.op.Op.{Op}
-use Rattle.script_engine.specs.State.{Due, op_at, op_of, payload_at, payload_of}
-use Rattle.script_engine.specs.Asking.{requests_after, requests_at}
+use Rattle.script_engine.specs.declared.part.Part.TheVariants.{Asks}
+use Rattle.script_engine.specs.declared.part.Transfer.{Transfer}
+use Rattle.script_engine.specs.Part.{part_of}
+use Rattle.script_engine.specs.State.{Due, next_of, op_at, op_of, payload_at, payload_of}
+use Rattle.script_engine.specs.Asking.{request_for, requests_after, requests_at}
 use Rattle.port_model.specs.Stages.{price_by, price_of}
 use Rattle.port_model.specs.Way.{IsUnderWay, Port, pending}
-use Rattle.port_model.specs.Laws.{IsAskOp, IsPriced, PassesItsWay, price_for, request_of}
+use Rattle.port_model.specs.Laws.{IsPriced, PassesItsWay, price_for}
 use Rattle.port_model.proofs.Kept.{get_kept, get_new}
-use Rattle.port_model.proofs.Ops.{IsAsk, access_asks, asks_one, fenced_access}
+use Rattle.port_model.proofs.Ops.{asks_one, fenced_transfer}
 use Rattle.port_model.proofs.Origins.{address_by, has_address, origin}
 
 zeros_long : (n : ℕ) → length (zeros n) ≡ n
 zeros_long n = grind (arith, common_steps)
 
 -- the first of what an engine is to ask for is the request of what is next
-head_after : (p : Platform) (i : Initiator) (h : List Entry) (s t g : ℕ) (due : Option Due) (ops : List Operation) → IsAsk (op_at s due ops) →
-    slice_get (requests_after p i h s t g due ops) 0 ≡ Some (request_of (op_at s due ops) (payload_at 4096 due ops) t g)
-head_after p i h s t g due ops o = grind (arith, common_steps, zeros_long)
+head_after : (p : Platform) (i : Initiator) (h : List Entry) (s t g : ℕ) (due : Option Due) (ops : List Operation) (x : Transfer) → part_of (op_at s due ops) ≡ Asks x →
+    slice_get (requests_after p i h s t g due ops) 0 ≡ Some (request_for x (payload_at 4096 due ops) t g)
+head_after p i h s t g due ops x next_is = grind (arith, common_steps, zeros_long)
 
 get_after : (rs ms : List Request) (r : Request) → slice_get ms 0 ≡ Some r → slice_get (rs ++ ms) (length rs) ≡ Some r
 get_after [] ms r q = q
@@ -59,7 +61,7 @@ module _ (p : Plan) (i : Initiator) (o : ObjectNo) where
   any_read (Pool m) a n = refl
 
   price_asked : (asked : Asked) (a : ℕ) → price_of p i o (ask_for a asked) ≡ priced p i o asked a
-  price_asked (Transport d) a = any_bytes o a (d.length + length d.enables)
+  price_asked (Transport d) a = any_bytes o a (data_logged d.command d.length + length d.enables)
   price_asked (DebugRead d) a = any_read o a d.length
   price_asked (Invalidation n) a = refl
 
@@ -71,22 +73,19 @@ module _ (p : Plan) (i : Initiator) (o : ObjectNo) where
   pub price_at : (h : List Entry) (r : Request) (k : ℕ) → slice_get (requests_of p.platform i h) k ≡ Some r → price_by p i o (slice_get (flat_map asks_of i.script) k) ≡ priced p i o r.asked r.address
   price_at h r k q = price_get (flat_map asks_of i.script) k _ (ask_at (price_of p i o) (any_bytes o) p.platform i h r 0 0 0 i.script k q) ∙ price_asked r.asked r.address
 
-ask_of : (op : Op) → IsAskOp op → IsAsk op
-ask_of op o = grind (arith, common_steps)
-
-price_op : (p : Plan) (i : Initiator) (b : ObjectNo) (op : Op) (payload : PayloadView) (t g : ℕ) → IsAskOp op → priced p i b (request_of op payload t g).asked (request_of op payload t g).address ≡ price_for p i b op
-price_op p i b op payload t g o = grind (arith, common_steps)
+price_of_request : (p : Plan) (i : Initiator) (b : ObjectNo) (x : Transfer) (payload : PayloadView) (t g : ℕ) → priced p i b (request_for x payload t g).asked x.address ≡ price_for p i b x
+price_of_request p i b x payload t g = grind (arith, common_steps)
 
 module _ (p : Plan) (i : Initiator) (port : Port) (known : List Event) (seen : ℕ) (left : ObjectNo → ℕ) (u : IsUnderWay p i port known seen left) where
-  abbrev pub r : Request
-  r = request_of (op_of port.engine) (payload_of port.engine 4096) u.asking.blocking u.step
+  abbrev pub r : Transfer → Request
+  r x = request_for x (payload_of port.engine 4096) u.asking.blocking u.step
 
   -- the request of what is next stands at the next number
-  pub next_asked : IsAsk (op_of port.engine) → slice_get (requests_of p.platform i (u.mine ++ [])) port.engine.seq ≡ Some r
-  next_asked o =
+  pub next_asked : (x : Transfer) → next_of port.engine ≡ Asks x → slice_get (requests_of p.platform i (u.mine ++ [])) port.engine.seq ≡ Some (r x)
+  next_asked x next_is =
       ap (λ (l : List Request). slice_get l port.engine.seq) (u.asking.asked [])
-      ∙ subst (λ (n : ℕ). slice_get (u.asking.passed ++ requests_at p.platform i (u.mine ++ []) u.asking.blocking u.step port.engine) n ≡ Some r) u.asking.count
-      (get_after u.asking.passed (requests_at p.platform i (u.mine ++ []) u.asking.blocking u.step port.engine) r (head_after p.platform i (u.mine ++ []) port.engine.seq u.asking.blocking u.step port.engine.due port.engine.remaining o))
+      ∙ subst (λ (n : ℕ). slice_get (u.asking.passed ++ requests_at p.platform i (u.mine ++ []) u.asking.blocking u.step port.engine) n ≡ Some (r x)) u.asking.count
+      (get_after u.asking.passed (requests_at p.platform i (u.mine ++ []) u.asking.blocking u.step port.engine) (r x) (head_after p.platform i (u.mine ++ []) port.engine.seq u.asking.blocking u.step port.engine.due port.engine.remaining x next_is))
 
   -- each request that was made is what its history asks for
   made_asked : (s : ℕ) (d : Request) → slice_get u.made s ≡ Some d → slice_get (requests_of p.platform i (u.mine ++ [])) s ≡ Some d
@@ -98,16 +97,16 @@ module _ (p : Plan) (i : Initiator) (port : Port) (known : List Event) (seen : �
       go : (b : Bool) → port.waiting ≡ b → slice_get (u.asking.passed ++ pending b port.engine u.asking.blocking u.step) s ≡ Some d → slice_get (requests_of p.platform i (u.mine ++ [])) s ≡ Some d
       go false w e = passed_asked (ap (λ (l : List Request). slice_get l s) (sym (append-nil u.asking.passed)) ∙ e)
       go true w e =
-          let o = access_asks (op_of port.engine) (fenced_access (op_of port.engine) (u.asking.fenced w)) in
-          elim (get_new u.asking.passed r s d (ap (λ (l : List Request). slice_get (u.asking.passed ++ l) s) (sym (asks_one (op_of port.engine) (payload_of port.engine 4096) u.asking.blocking u.step o)) ∙ e)) [
+          let awaited = fenced_transfer (next_of port.engine) (u.asking.fenced w) in
+          elim (get_new u.asking.passed (r awaited.transfer) s d (ap (λ (l : List Request). slice_get (u.asking.passed ++ l) s) (sym (asks_one (op_of port.engine) awaited.transfer (payload_of port.engine 4096) u.asking.blocking u.step awaited.is)) ∙ e)) [
             | inl a ↦ passed_asked a
-            | inr b ↦ ap (slice_get (requests_of p.platform i (u.mine ++ []))) (b.0 ∙ u.asking.count) ∙ (next_asked o ∙ ap (λ (x : Request). Some x) b.1)
+            | inr b ↦ ap (slice_get (requests_of p.platform i (u.mine ++ []))) (b.0 ∙ u.asking.count) ∙ (next_asked awaited.transfer awaited.is ∙ ap (λ (q : Request). Some q) b.1)
           ]
 
 pub is_priced : IsPriced
-is_priced p i port known seen left u a o =
-    price_at p i o (u.mine ++ []) (r p i port known seen left u) port.engine.seq (next_asked p i port known seen left u (ask_of (op_of port.engine) a))
-    ∙ price_op p i o (op_of port.engine) (payload_of port.engine 4096) u.asking.blocking u.step a
+is_priced p i port known seen left u x next_is o =
+    price_at p i o (u.mine ++ []) (r p i port known seen left u x) port.engine.seq (next_asked p i port known seen left u x next_is)
+    ∙ price_of_request p i o x (payload_of port.engine 4096) u.asking.blocking u.step
 
 same_address : (asked : Asked) (a b : ℕ) → ◌≡◌ {A = Option (Option ℕ)} (Some (address_by asked a)) (Some (Some b)) → b ≡ a
 same_address (Transport d) a b e = cc

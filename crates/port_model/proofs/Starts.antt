@@ -1,6 +1,5 @@
 -- A port begins, settles its time, and passes what is no access.
-use Rattle.std.proofs.Common.{◌≡◌, ◌⊎◌, ℕ, zero, suc, ◌+◌, ◌<◌, ◌≤◌, Bool, false, cond, max, List, [], ◌∷◌, ◌++◌, length, Option, Some, None, refl, sym, ap, ◌∙◌, inl, inr, arith, get_or}
-use Rattle.std.proofs.lemmas.Grind.{common_steps}
+use Rattle.std.proofs.Common.{subst, ◌≡◌, ◌⊎◌, ℕ, zero, suc, ◌+◌, ◌<◌, ◌≤◌, Bool, false, cond, max, List, [], ◌∷◌, ◌++◌, length, Option, Some, None, refl, sym, ap, ◌∙◌, inl, inr, arith, get_or}
 use Rattle.std.specs.Prelude.{slice_get}
 use Rattle.std.proofs.lemmas.List.{append-nil, length-map}
 use Rattle.std.proofs.lemmas.Option.{slice_get_within}
@@ -12,17 +11,21 @@ use Rattle.flow_model.specs.Events.{Event}
 use Rattle.flow_model.specs.Issue.{issues_from, settled}
 use Rattle.joined_traffic.specs.Accesses.{sum_below}
 use Rattle.script_engine.specs.declared.op.Op.{Op}
-use Rattle.script_engine.specs.State.{is_fenced, op_of, passed_by, payload_of, told_by}
-use Rattle.script_engine.specs.Asking.{asked_by, requests_at, stage_after, time_after_op}
+use Rattle.script_engine.specs.declared.part.Part.{Part}
+use Rattle.script_engine.specs.declared.part.Part.TheVariants.{Pauses}
+use Rattle.script_engine.specs.declared.part.Pause.{Pause}
+use Rattle.script_engine.specs.Part.{is_fenced_part, part_of}
+use Rattle.script_engine.specs.State.{is_fenced, next_of, op_of, passed_by, payload_of, told_by}
+use Rattle.script_engine.specs.Asking.{asked_by, asked_by_part, requests_at, stage_after, stage_by, time_after_op, time_past_pause}
 use Rattle.script_engine.proofs.Steps.{passes}
 use Rattle.port_model.specs.Stages.{ahead, count_of, price}
 use Rattle.port_model.specs.Stages.Stage.{Ahead, Back}
-use Rattle.port_model.specs.Issues.{IsWaitingOp, current_at, issues_at}
+use Rattle.port_model.specs.Issues.{IsWaitingOp, IsWaitingPart, current_at, issues_at}
 use Rattle.port_model.specs.Way.{Agrees, IsUnderWay, Port, pending, top}
 use Rattle.port_model.specs.Laws.{HasPlanned}
 use Rattle.port_model.proofs.IssueSteps.{in_order}
 use Rattle.port_model.proofs.Sums.{part}
-use Rattle.port_model.specs.Issues.{issue_of, time_after, engine_after}
+use Rattle.port_model.specs.Issues.{issue_by, issue_of, time_after, time_by, engine_after}
 use Rattle.port_model.specs.Laws.{HasSettled}
 use Rattle.port_model.proofs.Takes.{all_back, low_made, made_count, made_passed, q}
 use Rattle.view_lists.proofs.Members.{has_none}
@@ -44,7 +47,7 @@ use Rattle.route_plan.specs.Planned.{asks_in, share_of}
 use Rattle.script_engine.specs.State.{begun_engine}
 use Rattle.script_engine.proofs.Steps.{begins}
 use Rattle.port_model.specs.Stages.{price_by}
-use Rattle.port_model.specs.Laws.{Begins, HasPlanned, HasSettled, IsQuiet, PassesQuiet, Settles}
+use Rattle.port_model.specs.Laws.{Begins, HasPlanned, HasSettled, PassesPause, Settles}
 use Rattle.port_model.proofs.PlainTakes.{settled_here, settles_to}
 
 module _ (p : Plan) (i : Initiator) (port : Port) (known : List Event) (seen : ℕ) (left : ObjectNo → ℕ)
@@ -75,41 +78,44 @@ module _ (p : Plan) (i : Initiator) (port : Port) (known : List Event) (seen : �
 pub settles_law : Settles
 settles_law p i port known seen left u quiet none o = settles_p p i port known seen left u quiet none o
 
-quiet_waits : (op : Op) → IsQuiet op → IsWaitingOp op
-quiet_waits op o = grind (arith, common_steps)
+pause_waits : (op : Op) (pause : Pause) → part_of op ≡ Pauses pause → IsWaitingOp op
+pause_waits op pause is = subst IsWaitingPart (sym is) tt
 
-quiet_free : (op : Op) → IsQuiet op → is_fenced op ≡ false
-quiet_free op o = grind (arith, common_steps)
+pause_free : (op : Op) (pause : Pause) → part_of op ≡ Pauses pause → is_fenced op ≡ false
+pause_free op pause is = ap is_fenced_part is
 
-quiet_asks : (op : Op) (payload : PayloadView) (t g : ℕ) → IsQuiet op → asked_by op payload t g ≡ []
-quiet_asks op payload t g o = grind (arith, common_steps)
+pause_asks : (op : Op) (pause : Pause) (payload : PayloadView) (t g : ℕ) → part_of op ≡ Pauses pause → asked_by op payload t g ≡ []
+pause_asks op pause payload t g is = ap (λ (part : Part). asked_by_part part payload t g) is
 
-quiet_issues : (op : Op) (t : ℕ) → IsQuiet op → issue_of op t ≡ []
-quiet_issues op t o = grind (arith, common_steps)
+pause_issues : (op : Op) (pause : Pause) (t : ℕ) → part_of op ≡ Pauses pause → issue_of op t ≡ []
+pause_issues op pause t is = ap (λ (part : Part). issue_by part t) is
 
-quiet_stage : (op : Op) (g : ℕ) → IsQuiet op → g ≤ stage_after op g
-quiet_stage op g o = grind (arith, common_steps)
+pause_time : (op : Op) (pause : Pause) (t : ℕ) → part_of op ≡ Pauses pause → time_after op t ≡ time_past_pause pause t
+pause_time op pause t is = ap (λ (part : Part). time_by part t) is
+
+pause_stage : (op : Op) (pause : Pause) (g : ℕ) → part_of op ≡ Pauses pause → g ≤ stage_after op g
+pause_stage op pause g is = subst (λ (part : Part). g ≤ stage_by part g) (sym is) (omega arith)
 
 module _ (p : Plan) (i : Initiator) (port : Port) (known : List Event) (seen : ℕ) (left : ObjectNo → ℕ)
-    (u : IsUnderWay p i port known seen left) (quiet : HasSettled port) (o : IsQuiet (op_of port.engine)) where
+    (u : IsUnderWay p i port known seen left) (quiet : HasSettled port) (pause : Pause) (o : next_of port.engine ≡ Pauses pause) where
   seq_q : (passed_by port.engine).seq ≡ port.engine.seq
   seq_q =
       let z : port.engine.seq + 0 ≡ port.engine.seq = omega arith in
-      passes.seq port.engine 4096 u.asking.blocking u.step (quiet_free (op_of port.engine) o) ∙ (ap (λ (l : List Request). port.engine.seq + length l) (quiet_asks (op_of port.engine) (payload_of port.engine 4096) u.asking.blocking u.step o) ∙ z)
+      passes.seq port.engine 4096 u.asking.blocking u.step (pause_free (op_of port.engine) pause o) ∙ (ap (λ (l : List Request). port.engine.seq + length l) (pause_asks (op_of port.engine) pause (payload_of port.engine 4096) u.asking.blocking u.step o) ∙ z)
 
   issues_q : (end : ℕ → ℕ) → Agrees u.stage end → issues_at end port.time port.engine ≡ issues_at end (time_after (op_of port.engine) port.time) (passed_by port.engine)
   issues_q end a =
-      in_order.waiting end port.time port.engine [] (quiet_waits (op_of port.engine) o) (settled_here p i port known seen left u quiet.none quiet.free quiet.settled end a)
-      ∙ (ap (λ (l : List ℕ). l ++ issues_at end (time_after (op_of port.engine) port.time) (engine_after port.engine [])) (quiet_issues (op_of port.engine) port.time o)
-      ∙ ap (λ (b : Bool). issues_at end (time_after (op_of port.engine) port.time) (cond b (told_by port.engine []) (passed_by port.engine))) (quiet_free (op_of port.engine) o))
+      in_order.waiting end port.time port.engine [] (pause_waits (op_of port.engine) pause o) (settled_here p i port known seen left u quiet.none quiet.free quiet.settled end a)
+      ∙ (ap (λ (l : List ℕ). l ++ issues_at end (time_after (op_of port.engine) port.time) (engine_after port.engine [])) (pause_issues (op_of port.engine) pause port.time o)
+      ∙ ap (λ (b : Bool). issues_at end (time_after (op_of port.engine) port.time) (cond b (told_by port.engine []) (passed_by port.engine))) (pause_free (op_of port.engine) pause o))
 
   current_q : (end : ℕ → ℕ) → Agrees u.stage end → current_at end port.time port.engine ≡ current_at end (time_after (op_of port.engine) port.time) (passed_by port.engine)
   current_q end a =
-      in_order.waiting_current end port.time port.engine [] (quiet_waits (op_of port.engine) o) (settled_here p i port known seen left u quiet.none quiet.free quiet.settled end a)
-      ∙ ap (λ (b : Bool). current_at end (time_after (op_of port.engine) port.time) (cond b (told_by port.engine []) (passed_by port.engine))) (quiet_free (op_of port.engine) o)
+      in_order.waiting_current end port.time port.engine [] (pause_waits (op_of port.engine) pause o) (settled_here p i port known seen left u quiet.none quiet.free quiet.settled end a)
+      ∙ ap (λ (b : Bool). current_at end (time_after (op_of port.engine) port.time) (cond b (told_by port.engine []) (passed_by port.engine))) (pause_free (op_of port.engine) pause o)
 
-  passes_q : IsUnderWay p i (record port { engine = passed_by port.engine; time = time_after (op_of port.engine) port.time }) known seen left
-  passes_q = record {
+  passes_then : IsUnderWay p i (record port { engine = passed_by port.engine; time = time_after (op_of port.engine) port.time }) known seen left
+  passes_then = record {
     made = u.made;
     mine = u.mine;
     stage = u.stage;
@@ -121,14 +127,14 @@ module _ (p : Plan) (i : Initiator) (port : Port) (known : List Event) (seen : �
       is_made = made_passed p i port known seen left u quiet.free ∙ (sym (append-nil u.asking.passed)
           ∙ ap (λ (l : List Request). u.asking.passed ++ l) (sym (ap (λ (b : Bool). pending b (passed_by port.engine) (time_after_op p.platform i u.asking.blocking (op_of port.engine)) (stage_after (op_of port.engine) u.step)) quiet.free)));
       asked = λ m. u.asking.asked m ∙ ap (λ (l : List Request). u.asking.passed ++ l) (
-          passes.requests p.platform i (u.mine ++ m) u.asking.blocking u.step 4096 port.engine (quiet_free (op_of port.engine) o)
-          ∙ ap (λ (l : List Request). l ++ requests_at p.platform i (u.mine ++ m) (time_after_op p.platform i u.asking.blocking (op_of port.engine)) (stage_after (op_of port.engine) u.step) (passed_by port.engine)) (quiet_asks (op_of port.engine) (payload_of port.engine 4096) u.asking.blocking u.step o));
+          passes.requests p.platform i (u.mine ++ m) u.asking.blocking u.step 4096 port.engine (pause_free (op_of port.engine) pause o)
+          ∙ ap (λ (l : List Request). l ++ requests_at p.platform i (u.mine ++ m) (time_after_op p.platform i u.asking.blocking (op_of port.engine)) (stage_after (op_of port.engine) u.step) (passed_by port.engine)) (pause_asks (op_of port.engine) pause (payload_of port.engine 4096) u.asking.blocking u.step o));
       count = u.asking.count ∙ sym seq_q;
       fenced = λ w. false_is_true port.waiting quiet.free w;
-      numbers = passes.numbers port.engine (quiet_free (op_of port.engine) o) ∙ u.asking.numbers;
+      numbers = passes.numbers port.engine (pause_free (op_of port.engine) pause o) ∙ u.asking.numbers;
       low = λ j r e. (
           let l = low_made p i port known seen left u quiet.free j r e in
-          let s = quiet_stage (op_of port.engine) u.step o in
+          let s = pause_stage (op_of port.engine) pause u.step o in
           let z : top port.waiting (stage_after (op_of port.engine) u.step) ≡ stage_after (op_of port.engine) u.step = ap (λ (b : Bool). top b (stage_after (op_of port.engine) u.step)) quiet.free in
           omega arith);
     };
@@ -153,8 +159,10 @@ module _ (p : Plan) (i : Initiator) (port : Port) (known : List Event) (seen : �
     refused = u.refused;
   }
 
-pub quiet_passed : PassesQuiet
-quiet_passed p i port known seen left u quiet o = passes_q p i port known seen left u quiet o
+pub pause_passed : PassesPause
+pause_passed p i port known seen left u quiet pause o =
+    subst (λ (t : ℕ). IsUnderWay p i (record port { engine = passed_by port.engine; time = t }) known seen left) (pause_time (op_of port.engine) pause port.time o)
+    (passes_then p i port known seen left u quiet pause o)
 
 -- each sequence number has its address and its ask
 pub numbers_count : (ops : List Operation) → numbers_in ops ≡ length (addresses_of ops)

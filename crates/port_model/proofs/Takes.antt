@@ -16,15 +16,17 @@ use Rattle.flow_law.proofs.More.{end_more}
 use Rattle.report_model.specs.Ends.{refused_at}
 use Rattle.joined_traffic.specs.Accesses.{sum_below, txn_of}
 use Rattle.joined_traffic.specs.Issued.{Before, EndsBefore, HasReply}
-use Rattle.script_engine.specs.State.{State, op_of, payload_of}
-use Rattle.script_engine.specs.Asking.{numbers_at}
+use Rattle.script_engine.specs.declared.part.Part.TheVariants.{Asks}
+use Rattle.script_engine.specs.declared.part.Transfer.{Transfer}
+use Rattle.script_engine.specs.State.{State, next_of, payload_of}
+use Rattle.script_engine.specs.Asking.{numbers_at, request_for}
 use Rattle.port_model.specs.Stages.{HasTickets, IsBack, Stage, ahead, charged, count_of, end_by, moved, outstanding_by, price, under_by}
 use Rattle.port_model.specs.Stages.Stage.{Ahead, Under, Back}
 use Rattle.port_model.specs.Way.{Agrees, HasAccesses, HasEntries, HasWaitedFor, IsBegun, IsTimeOf, IsUnderWay, Port, Replied, pending, refused_in, top}
-use Rattle.port_model.specs.Laws.{AreBelow, HasTaken, Knows, next_request, refused_for, request_of}
+use Rattle.port_model.specs.Laws.{AreBelow, HasTaken, Knows, next_request, refused_for}
 use Rattle.port_model.proofs.Kept.{Grows, agrees_less, get_kept, get_last, get_new, returned_more}
 use Rattle.port_model.proofs.Sums.{more_differs, moved_here, moved_other, part, same_or_not, settled_same, sum_moved}
-use Rattle.port_model.proofs.Ops.{IsAccessOp, access_asks, more_numbers, refused_same, seq_of, transports}
+use Rattle.port_model.proofs.Ops.{IsAccessKind, more_numbers, refused_same, seq_of, transports}
 use Rattle.port_model.proofs.Begins.{entries_more, old_accesses}
 
 back_ahead : (v : Stage) → v ≡ Ahead → IsBack v → ⊥
@@ -110,12 +112,12 @@ module _ (p : Plan) (i : Initiator) (port : Port) (known : List Event) (seen : �
 
 module _ (p : Plan) (i : Initiator) (port : Port) (known more : List Event) (seen after : ℕ) (left rest : ObjectNo → ℕ)
     (u : IsUnderWay p i port known seen left) (knows : Knows known more) (below : AreBelow more after) (quiet : port.waiting ≡ false)
-    (o : IsAccessOp (op_of port.engine)) (t : HasTaken p i port more seen left rest) where
+    (x : Transfer) (next_is : next_of port.engine ≡ Asks x) (o : IsAccessKind x.kind) (t : HasTaken p i port more seen left rest) where
   abbrev pub s : ℕ
   s = port.engine.seq
 
   abbrev pub q : Request
-  q = request_of (op_of port.engine) (payload_of port.engine 4096) u.asking.blocking u.step
+  q = request_for x (payload_of port.engine 4096) u.asking.blocking u.step
 
   abbrev pub made2 : List Request
   made2 = u.made ++ q ∷ []
@@ -130,7 +132,7 @@ module _ (p : Plan) (i : Initiator) (port : Port) (known more : List Event) (see
   ahead_now = u.staged.ahead s (let c = count in omega arith)
 
   within : s < count_of i
-  within = let l = more_numbers port.engine (access_asks (op_of port.engine) o) in let c = u.asking.numbers in omega arith
+  within = let l = more_numbers port.engine x next_is in let c = u.asking.numbers in omega arith
 
   pub asked_here : slice_get made2 s ≡ Some q
   asked_here = subst (λ (n : ℕ). slice_get made2 n ≡ Some q) count (get_last u.made q)
@@ -160,7 +162,7 @@ module _ (p : Plan) (i : Initiator) (port : Port) (known more : List Event) (see
       request = q;
       asked = asked_here;
       access = _;
-      transport = transports (op_of port.engine) (payload_of port.engine 4096) u.asking.blocking u.step o;
+      transport = transports x (payload_of port.engine 4096) u.asking.blocking u.step o;
       issued = port.time;
       is_issued = λ end a. is_time end (less_agrees end a);
       take = t.take;
@@ -282,13 +284,13 @@ module _ (p : Plan) (i : Initiator) (port : Port) (known more : List Event) (see
           | inr d ↦ ap end_by (sym (moved_other u.stage s Under j d))
         ]
 
-    pub refused2 : (end : ℕ → ℕ) → Agrees stage2 end → port.refused ++ refused_for p i (next_request port) port.time ≡ refused_in p i end made2
+    pub refused2 : (end : ℕ → ℕ) → Agrees stage2 end → port.refused ++ refused_for p i (next_request port x) port.time ≡ refused_in p i end made2
     refused2 end a =
         let old : port.refused ≡ map (λ (r : Request). refused_at r (get_or (issues_from end 0 0 i.script) r.seq 0)) (filter (λ (r : Request). has_no_route p.platform i r r.asked) u.made) = u.refused end (less_agrees end a) in
         let when : get_or (issues_from end 0 0 i.script) q.seq 0 ≡ port.time =
-        ap (λ (n : ℕ). get_or (issues_from end 0 0 i.script) n 0) (seq_of port.engine (payload_of port.engine 4096) u.asking.blocking u.step (access_asks (op_of port.engine) o)) ∙ is_time end (less_agrees end a) in
-        let same : refused_for p i (next_request port) port.time ≡ refused_for p i q port.time = refused_same p i (op_of port.engine) (payload_of port.engine 4096) u.asking.blocking u.step port.time (access_asks (op_of port.engine) o) in
-        ap (λ (l : List RefusedItem). l ++ refused_for p i (next_request port) port.time) old
+        ap (λ (n : ℕ). get_or (issues_from end 0 0 i.script) n 0) (seq_of port.engine x next_is) ∙ is_time end (less_agrees end a) in
+        let same : refused_for p i (next_request port x) port.time ≡ refused_for p i q port.time = refused_same p i x (payload_of port.engine 4096) u.asking.blocking u.step port.time in
+        ap (λ (l : List RefusedItem). l ++ refused_for p i (next_request port x) port.time) old
         ∙ (ap (λ (l : List RefusedItem). map (λ (r : Request). refused_at r (get_or (issues_from end 0 0 i.script) r.seq 0)) (filter (λ (r : Request). has_no_route p.platform i r r.asked) u.made) ++ l) (same ∙ one (has_no_route p.platform i q q.asked) port.time 0 (sym when))
         ∙ (sym (map-append (λ (r : Request). refused_at r (get_or (issues_from end 0 0 i.script) r.seq 0)) (filter (λ (r : Request). has_no_route p.platform i r r.asked) u.made) (filter (λ (r : Request). has_no_route p.platform i r r.asked) (q ∷ [])))
         ∙ ap (map (λ (r : Request). refused_at r (get_or (issues_from end 0 0 i.script) r.seq 0))) (sym (filter-append (λ (r : Request). has_no_route p.platform i r r.asked) u.made (q ∷ [])))))

@@ -5,30 +5,27 @@ use Rattle.tlm_types.specs.declared.words.ObjectNo.{ObjectNo}
 use Rattle.tlm_types.specs.declared.entry.Entry.{Entry}
 use Rattle.tlm_model.specs.History.{entries_at}
 use Rattle.tlm_model.specs.Plan.{Plan, Initiator, initiators_of}
-use Rattle.tlm_model.specs.Requests.{DebugRead, Invalidation, Request, Transport, debug_of, got_in, has_no_route}
+use Rattle.tlm_model.specs.Requests.{Request, got_in, has_no_route}
 use Rattle.tlm_model.specs.Store.{zeros}
 use Rattle.tlm_model.specs.Route.{hops_of, route_of}
 use Rattle.tlm_model.specs.declared.ask.Ask.TheVariants.{Access as AnAccess, DebugRead as ADebugRead}
-use Rattle.generic_payload.specs.Payload.{PayloadView}
 use Rattle.flow_model.specs.World.{Passage}
 use Rattle.flow_model.specs.Events.{Among, Event, Finds, FindsAt, IsTake}
 use Rattle.flow_model.specs.Platform.{passage_of}
 use Rattle.report_model.specs.Ends.{refused_at}
 use Rattle.joined_traffic.specs.Accesses.{txn_of}
 use Rattle.route_plan.specs.Counted.{share_at}
-use Rattle.script_engine.specs.declared.op.Op.{Op}
-use Rattle.script_engine.specs.declared.op.Op.TheVariants as next
-use Rattle.script_engine.specs.State.{begun_engine, is_fenced, length_of, op_of, passed_by, payload_of, told_by}
-use Rattle.script_engine.specs.Asking.{IsAnswered, asked_access, stage_of}
+use Rattle.script_engine.specs.declared.part.Part.TheVariants.{Asks, Pauses}
+use Rattle.script_engine.specs.declared.part.Pause.{Pause}
+use Rattle.script_engine.specs.declared.part.Transfer.{Transfer}
+use Rattle.script_engine.specs.declared.part.TransferKind.{TransferKind}
+use Rattle.script_engine.specs.declared.part.TransferKind.TheVariants as transfer
+use Rattle.script_engine.specs.Part.{is_fenced_kind}
+use Rattle.script_engine.specs.State.{begun_engine, next_of, op_of, passed_by, payload_of, told_by}
+use Rattle.script_engine.specs.Asking.{IsAnswered, request_for, time_past_pause}
 use Rattle.port_model.specs.Stages.{made_at, price, price_of}
-use Rattle.port_model.specs.Issues.{IsPlainOp, IsWaitingOp, time_after}
+use Rattle.port_model.specs.Issues.{IsPlainKind, IsWaitingOp}
 use Rattle.port_model.specs.Way.{HasReturned, IsReply, IsUnderWay, Port}
-
--- the request of an access or a debug read, at this time and stage
-abbrev pub request_of : Op → PayloadView → ℕ → ℕ → Request
-request_of (next.Access s a n command plain fenced) payload t g = record { seq = s; address = a; asked = Transport (asked_access payload); time = t; stage = stage_of fenced g }
-request_of (next.Debug s a n) payload t g = record { seq = s; address = a; asked = DebugRead (debug_of n); time = t; stage = g + 1 }
-request_of _ payload t g = record { seq = 0; address = 0; asked = Invalidation 0; time = t; stage = g }
 
 -- a request without a route is told as refused, with its time of issue
 abbrev pub refused_for : Plan → Initiator → Request → ℕ → List RefusedItem
@@ -58,16 +55,16 @@ pub record HasTaken (p : Plan) (i : Initiator) (port : Port) (more : List Event)
   pub later : seen ≤ take.event.position
   pub pays : (o : ObjectNo) → rest o + price p i o port.engine.seq ≡ left o
 
--- the request of what is next, as far as it is told
-abbrev pub next_request : Port → Request
-next_request port = request_of (op_of port.engine) (payload_of port.engine 4096) 0 0
+-- the request of a transfer that is next, as far as it is told
+abbrev pub next_request : Port → Transfer → Request
+next_request port x = request_for x (payload_of port.engine 4096) 0 0
 
 -- A plain access is taken and passed.
 abbrev pub TakesPlain : Type 0
 TakesPlain = (p : Plan) (i : Initiator) (port : Port) (known more : List Event) (seen after : ℕ) (left rest : ObjectNo → ℕ)
-    → IsUnderWay p i port known seen left → Knows known more → AreBelow more after → port.waiting ≡ false → IsPlainOp (op_of port.engine)
-    → HasTaken p i port more seen left rest
-    → IsUnderWay p i (record port { engine = passed_by port.engine; away = port.engine.seq ∷ port.away; refused = port.refused ++ refused_for p i (next_request port) port.time }) more after rest
+    → IsUnderWay p i port known seen left → Knows known more → AreBelow more after → port.waiting ≡ false
+    → (x : Transfer) → next_of port.engine ≡ Asks x → IsPlainKind x.kind → HasTaken p i port more seen left rest
+    → IsUnderWay p i (record port { engine = passed_by port.engine; away = port.engine.seq ∷ port.away; refused = port.refused ++ refused_for p i (next_request port x) port.time }) more after rest
 
 -- nothing is outstanding, and the current time is settled
 pub record HasSettled (port : Port) : Type 0 where
@@ -78,9 +75,9 @@ pub record HasSettled (port : Port) : Type 0 where
 -- An access that the engine waits for is taken: of a copy or an add.
 abbrev pub TakesFenced : Type 0
 TakesFenced = (p : Plan) (i : Initiator) (port : Port) (known more : List Event) (seen after : ℕ) (left rest : ObjectNo → ℕ)
-    → IsUnderWay p i port known seen left → Knows known more → AreBelow more after → HasSettled port → is_fenced (op_of port.engine) ≡ true
-    → HasTaken p i port more seen left rest
-    → IsUnderWay p i (record port { waiting = true; away = port.engine.seq ∷ port.away; refused = port.refused ++ refused_for p i (next_request port) port.time }) more after rest
+    → IsUnderWay p i port known seen left → Knows known more → AreBelow more after → HasSettled port
+    → (x : Transfer) → next_of port.engine ≡ Asks x → is_fenced_kind x.kind ≡ true → HasTaken p i port more seen left rest
+    → IsUnderWay p i (record port { waiting = true; away = port.engine.seq ∷ port.away; refused = port.refused ++ refused_for p i (next_request port x) port.time }) more after rest
 
 -- the number s is taken off a list that has it once
 pub record Removes (away : List ℕ) (s : ℕ) (fewer : List ℕ) : Type 0 where
@@ -135,62 +132,46 @@ Settles = (p : Plan) (i : Initiator) (port : Port) (known : List Event) (seen : 
     → IsUnderWay p i port known seen left → port.waiting ≡ false → length port.away ≡ 0 → IsWaitingOp (op_of port.engine)
     → IsUnderWay p i (record port { time = max port.time port.latest }) known seen left
 
--- a wait, a sync or a fence is next
-abbrev pub IsQuiet : Op → Type 0
-IsQuiet (next.Wait n) = Unit {0}
-IsQuiet next.Sync = Unit {0}
-IsQuiet next.Fence = Unit {0}
-IsQuiet _ = ⊥
-
--- It is passed, once the time is settled.
-abbrev pub PassesQuiet : Type 0
-PassesQuiet = (p : Plan) (i : Initiator) (port : Port) (known : List Event) (seen : ℕ) (left : ObjectNo → ℕ)
-    → IsUnderWay p i port known seen left → HasSettled port → IsQuiet (op_of port.engine)
-    → IsUnderWay p i (record port { engine = passed_by port.engine; time = time_after (op_of port.engine) port.time }) known seen left
-
--- a debug read is next
-abbrev pub IsDebugOp : Op → Type 0
-IsDebugOp (next.Debug s a n) = Unit {0}
-IsDebugOp _ = ⊥
+-- A wait, a sync or a fence is passed, once the time is settled.
+abbrev pub PassesPause : Type 0
+PassesPause = (p : Plan) (i : Initiator) (port : Port) (known : List Event) (seen : ℕ) (left : ObjectNo → ℕ)
+    → IsUnderWay p i port known seen left → HasSettled port → (pause : Pause) → next_of port.engine ≡ Pauses pause
+    → IsUnderWay p i (record port { engine = passed_by port.engine; time = time_past_pause pause port.time }) known seen left
 
 -- a debug read was made, at the current time, by an entry that stands after all that was known; or it has no route, and there is none
-pub record HasRead (p : Plan) (i : Initiator) (port : Port) (more : List Event) (seen : ℕ) (reply : Option Entry) (left rest : ObjectNo → ℕ) : Type 0 where
+pub record HasRead (p : Plan) (i : Initiator) (port : Port) (x : Transfer) (more : List Event) (seen : ℕ) (reply : Option Entry) (left rest : ObjectNo → ℕ) : Type 0 where
   pub no_access : passage_of p (txn_of i.number port.engine.seq) ≡ None
   pub entry : (e : Entry) → reply ≡ Some e → IsReplyTo p i more port.engine.seq e
   pub time : (e : Entry) → reply ≡ Some e → e.time ≡ port.time
   pub later : (e : Entry) → reply ≡ Some e → seen ≤ e.position
-  pub routed : IsSome (route_of p.platform i (next_request port).address) → IsSome reply
+  pub routed : IsSome (route_of p.platform i x.address) → IsSome reply
   pub pays : (o : ObjectNo) → left o ≤ length (entries_at o (replies_of reply)) + rest o
   pub keeps : (o : ObjectNo) → left o ≤ price p i o port.engine.seq + rest o
 
--- It is passed, once the time is settled.
+-- A debug read is passed, once the time is settled.
 abbrev pub ReadsDebug : Type 0
 ReadsDebug = (p : Plan) (i : Initiator) (port : Port) (known more : List Event) (seen after : ℕ) (left rest : ObjectNo → ℕ) (reply : Option Entry)
-    → IsUnderWay p i port known seen left → Knows known more → AreBelow more after → HasSettled port → IsDebugOp (op_of port.engine)
-    → HasRead p i port more seen reply left rest
-    → IsUnderWay p i (record port { engine = passed_by port.engine; refused = port.refused ++ refused_for p i (next_request port) port.time }) more after rest
+    → IsUnderWay p i port known seen left → Knows known more → AreBelow more after → HasSettled port
+    → (x : Transfer) → next_of port.engine ≡ Asks x → x.kind ≡ transfer.DebugRead → HasRead p i port x more seen reply left rest
+    → IsUnderWay p i (record port { engine = passed_by port.engine; refused = port.refused ++ refused_for p i (next_request port x) port.time }) more after rest
 
 -- A port that has its script before it, and all that is planned for it.
 abbrev pub Begins : Type 0
 Begins = (p : Plan) (i : Initiator) (left : ObjectNo → ℕ) → ((o : ObjectNo) → left o ≡ share_at p i.number o) → slice_get (initiators_of p) i.number ≡ Some i
     → IsUnderWay p i (record { engine = begun_engine i.number i.script; waiting = false; time = 0; latest = 0; away = []; refused = [] }) [] 0 left
 
--- how many entries what is next may add to an object, by its address
-abbrev pub price_for : Plan → Initiator → ObjectNo → Op → ℕ
-price_for p i o (next.Access s a n command plain fenced) = price_of p i o (AnAccess a 0)
-price_for p i o (next.Debug s a n) = price_of p i o (ADebugRead a 0)
-price_for p i o _ = 0
+abbrev pub price_by_kind : Plan → Initiator → ObjectNo → ℕ → TransferKind → ℕ
+price_by_kind p i o a (transfer.Access command plain fenced) = price_of p i o (AnAccess a 0)
+price_by_kind p i o a transfer.DebugRead = price_of p i o (ADebugRead a 0)
 
--- an access or a debug read is next
-abbrev pub IsAskOp : Op → Type 0
-IsAskOp (next.Access s a n command plain fenced) = Unit {0}
-IsAskOp (next.Debug s a n) = Unit {0}
-IsAskOp _ = ⊥
+-- how many entries a transfer may add to an object, by its address
+abbrev pub price_for : Plan → Initiator → ObjectNo → Transfer → ℕ
+price_for p i o x = price_by_kind p i o x.address x.kind
 
--- The price of what is next is that of its address.
+-- The price of a transfer that is next is that of its address.
 abbrev pub IsPriced : Type 0
 IsPriced = (p : Plan) (i : Initiator) (port : Port) (known : List Event) (seen : ℕ) (left : ObjectNo → ℕ)
-    → IsUnderWay p i port known seen left → IsAskOp (op_of port.engine) → (o : ObjectNo) → price p i o port.engine.seq ≡ price_for p i o (op_of port.engine)
+    → IsUnderWay p i port known seen left → (x : Transfer) → next_of port.engine ≡ Asks x → (o : ObjectNo) → price p i o port.engine.seq ≡ price_for p i o x
 
 -- An access that was made passes the way of its address.
 abbrev pub PassesItsWay : Type 0
@@ -199,14 +180,14 @@ PassesItsWay = (p : Plan) (i : Initiator) (port : Port) (known : List Event) (se
     → (s : ℕ) (r : Request) (pass : Passage) → slice_get u.made s ≡ Some r → passage_of p (txn_of i.number s) ≡ Some pass
     → pass ≡ record { hops = hops_of p.platform i r.address; routed = is_some (route_of p.platform i r.address) }
 
--- the bytes of a payload that came back are those of the reply: of its entry at the memory, or without a route zeros
-pub record HasBytes (p : Plan) (i : Initiator) (port : Port) (reply : Option Entry) (got : List ℕ) : Type 0 where
-  pub long : length got ≡ length_of (op_of port.engine)
-  pub with_route : (e : Entry) → reply ≡ Some e → (e.txn ≡ txn_of i.number port.engine.seq) × (got_in e.what ≡ Some got) × IsSome (route_of p.platform i (next_request port).address)
-  pub without : reply ≡ None → (route_of p.platform i (next_request port).address ≡ None) × (got ≡ zeros (length_of (op_of port.engine)))
+-- the bytes of the payload of a transfer that came back are those of the reply: of its entry at the memory, or without a route zeros
+pub record HasBytes (p : Plan) (i : Initiator) (port : Port) (x : Transfer) (reply : Option Entry) (got : List ℕ) : Type 0 where
+  pub long : length got ≡ x.length
+  pub with_route : (e : Entry) → reply ≡ Some e → (e.txn ≡ txn_of i.number port.engine.seq) × (got_in e.what ≡ Some got) × IsSome (route_of p.platform i x.address)
+  pub without : reply ≡ None → (route_of p.platform i x.address ≡ None) × (got ≡ zeros x.length)
 
 -- So the reply answers the access that the engine waits for, whatever comes after it.
 abbrev pub RepliesAnswer : Type 0
 RepliesAnswer = (p : Plan) (i : Initiator) (port : Port) (known : List Event) (seen : ℕ) (left : ObjectNo → ℕ) (reply : Option Entry) (got : List ℕ)
-    → (u : IsUnderWay p i port known seen left) → port.waiting ≡ true → HasBytes p i port reply got
+    → (u : IsUnderWay p i port known seen left) → port.waiting ≡ true → (x : Transfer) → next_of port.engine ≡ Asks x → HasBytes p i port x reply got
     → (m : List Entry) → IsAnswered p.platform i ((u.mine ++ replies_of reply) ++ m) (op_of port.engine) got

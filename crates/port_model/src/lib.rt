@@ -9,7 +9,7 @@
 
 ghost use Rattle.port_model.specs.Issues.{IssuesInOrder};
 ghost use Rattle.port_model.specs.Ends.{EndsAreTheirs, PortsHandIn, RepliesAreOwn};
-ghost use Rattle.port_model.specs.Laws.{Begins, HasPlanned, IsPriced, KeepsStray, KnowsMore, PassesItsWay, PassesQuiet, ReadsDebug, RepliesAnswer, ReturnsFenced, ReturnsPlain, Settles, TakesFenced, TakesPlain};
+ghost use Rattle.port_model.specs.Laws.{Begins, HasPlanned, IsPriced, KeepsStray, KnowsMore, PassesItsWay, PassesPause, ReadsDebug, RepliesAnswer, ReturnsFenced, ReturnsPlain, Settles, TakesFenced, TakesPlain};
 
 /// Issue times go through the script as the engine does.
 pub fn issues_go_in_order()
@@ -67,8 +67,8 @@ pub fn times_are_settled()
 {}
 
 /// A wait, a sync or a fence is passed.
-pub fn quiet_operations_are_passed()
-    ensures { PassesQuiet }
+pub fn pauses_are_passed()
+    ensures { PassesPause }
 {}
 
 /// Once all have finished, the replies that a port went by are its own.

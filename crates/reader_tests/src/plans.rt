@@ -146,8 +146,8 @@ fn shape_of(rt: &impl Abort, alloc: Global, text: &str) -> Shape {
 fn two_scripts(rt: &impl Abort, alloc: Global, first: &str, second: &str) -> Vec<Script>
     ensures { length result.items ≡ 2 }
 {
-    let first = read_script(alloc, first.as_bytes()).expect(rt, "a script");
-    let second = read_script(alloc, second.as_bytes()).expect(rt, "a script");
+    let first = read_script(alloc, first.as_bytes(), 1).expect(rt, "a script");
+    let second = read_script(alloc, second.as_bytes(), 1).expect(rt, "a script");
     vec![in alloc; first, second].expect(rt, "memory")
 }
 

@@ -90,9 +90,19 @@ fn a_platform_is_read(rt: HostRuntime) {
 }
 
 // What is changed in the base, what stands in its place, and the answer behind `platform refused: `.
-static CHANGES: [(&str, &str, &str); 18] = [
+static CHANGES: [(&str, &str, &str); 20] = [
     ("quantum = 7", "b = 1\nB = 2", "unknown_key platform B"),
     ("version = 1", "", "missing_key platform version"),
+    (
+        "version = 1",
+        "version = 3",
+        "out_of_range platform version",
+    ),
+    (
+        "read = true",
+        "read = true\nfetch_add = true",
+        "unknown_key memory[0] fetch_add",
+    ),
     (
         "latency = 5",
         "latency = '5'",

@@ -7,7 +7,7 @@ use traffic_script::{Cursor, Piece, Script, ScriptCode, ScriptFault, read_script
 
 // How a script is answered: how many operations it has, or its refusal.
 fn answer(rt: &impl Abort, alloc: Global, text: &str) -> String {
-    let said = match read_script(alloc, text.as_bytes()) {
+    let said = match read_script(alloc, text.as_bytes(), 1) {
         Ok(script) => format!(in alloc; "{} operations", script.len()),
         Err(fault) => format!(in alloc; "{fault}"),
     };
@@ -58,7 +58,7 @@ fn scripts_are_read_or_refused(rt: HostRuntime) {
 
 // Whether the bytes are refused with this code.
 fn is_refused(alloc: Global, bytes: &[u8], wanted: ScriptCode) -> bool {
-    match read_script(alloc, bytes) {
+    match read_script(alloc, bytes, 1) {
         Err(ScriptFault::Refused { line: _, code }) => code == wanted,
         Ok(_) | Err(ScriptFault::Memory) => false,
     }
@@ -71,7 +71,7 @@ fn scripts_have_at_most_ten_thousand_lines(rt: HostRuntime) {
 }
 
 fn script_of(rt: &impl Abort, alloc: Global, text: &str) -> Script {
-    read_script(alloc, text.as_bytes()).expect(rt, "a script")
+    read_script(alloc, text.as_bytes(), 1).expect(rt, "a script")
 }
 
 // Whether a cursor is at a wait of so many picoseconds.

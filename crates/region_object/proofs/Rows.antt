@@ -1,12 +1,13 @@
 -- Worked answers: the definitions compute what was worked out by hand.
 use Rattle.std.proofs.Common.{◌≡◌, ℕ, List, [], ◌∷◌, length, true, false, refl}
-use Rattle.tlm_types.specs.declared.words.Command.TheVariants.{Read, Write}
+use Rattle.tlm_types.specs.declared.words.Command.TheVariants.{Read, Write, FetchAdd}
 use Rattle.tlm_types.specs.declared.words.MemoryTraits.{MemoryTraits}
 use Rattle.tlm_types.specs.declared.words.Response.TheVariants.{Ok, AddressError, CommandError, ByteEnableError}
 use Rattle.tlm_types.specs.declared.words.TxnId.{TxnId}
 use Rattle.tlm_types.specs.declared.words.Way.TheVariants.{Blocking, Debug as by_debug}
 use Rattle.tlm_types.specs.declared.entry.Entry.{Entry}
 use Rattle.tlm_types.specs.declared.entry.What.TheVariants.{Access as Accessed}
+use Rattle.tlm_model.specs.Numbers.{le_bytes}
 use Rattle.tlm_model.specs.Store.{zeros}
 use Rattle.generic_payload.specs.Payload.{PayloadView, new_payload, access_of}
 use Rattle.region_object.specs.declared.call.RegionCall.{RegionCall}
@@ -17,7 +18,7 @@ use Rattle.region_object.specs.Region.{LoggedMemory, region_entry, reply_of}
 
 -- a memory of 16 bytes that can be read and written, and has no byte enables
 ram : MemoryTraits
-ram = record { size = 16; latency = 10; readable = true; writable = true; enables = false; streaming = true; dmi = true; gates = 16 }
+ram = record { size = 16; latency = 10; readable = true; writable = true; fetch_add = true; enables = false; streaming = true; dmi = true; gates = 16 }
 
 with_log : MemoryTraits → List Entry → LoggedMemory
 with_log m log = record { number = 3; traits = m; first_gate = 0; log = record { entries = log; room = 8; room_bytes = 64 } }
@@ -33,6 +34,9 @@ write_of address bytes = record (new_payload 8) { command = Write; address = add
 
 read_of : ℕ → ℕ → PayloadView
 read_of address n = record (new_payload 8) { command = Read; address = address; bytes = zeros n; width = n }
+
+fetch_of : ℕ → ℕ → PayloadView
+fetch_of address operand = record (new_payload 8) { command = FetchAdd; address = address; bytes = le_bytes operand; width = 4 }
 
 call : PayloadView → RegionCall
 unfolding txn
@@ -66,6 +70,18 @@ enables_are_refused = refl
 no_command_before_enables : reply_of (with_log (record ram { writable = false }) []) (call (record (write_of 0xe aabb) { enables = 0xff ∷ [] })) ≡ AccessedReply (record (write_of 0xe aabb) { enables = 0xff ∷ []; status = CommandError })
 unfolding ram with_log txn aabb write_of call
 no_command_before_enables = refl
+
+fetch_add_answers_what_it_found : reply_of (with_log ram log) (call (fetch_of 0xc 1)) ≡ AccessedReply (record (fetch_of 0xc 1) { bytes = 0 ∷ 0 ∷ 0xaa ∷ 0xbb ∷ []; status = Ok; hint = true })
+unfolding ram with_log txn aabb write_of fetch_of call log
+fetch_add_answers_what_it_found = refl
+
+fetch_add_tells_both : (region_entry (with_log ram log) 1 (call (fetch_of 0xc 1))).what ≡ Accessed Blocking (access_of (fetch_of 0xc 1)) Ok (0 ∷ 0 ∷ 0xaa ∷ 0xbb ∷ [])
+unfolding ram with_log txn aabb write_of fetch_of call log
+fetch_add_tells_both = refl
+
+fetch_add_needs_a_write : reply_of (with_log (record ram { writable = false }) []) (call (fetch_of 0xc 1)) ≡ AccessedReply (record (fetch_of 0xc 1) { status = CommandError })
+unfolding ram with_log txn fetch_of call
+fetch_add_needs_a_write = refl
 
 debug_across_the_end : reply_of (with_log ram log) (debug 0xf 3) ≡ Moved (record (read_of 0xf 3) { bytes = 0xbb ∷ 0 ∷ 0 ∷ []; status = Ok }) 1
 unfolding ram with_log txn aabb write_of read_of call debug log

@@ -2,7 +2,7 @@
 use Rattle.std.proofs.Common.{◌≡◌, ℕ, ◌≤◌, Bool, List, ◌++◌, length, take, drop, refl, sym, ap, ◌∙◌, arith, length-append, length-drop}
 use Rattle.std.proofs.lemmas.List.{take_at, length-take}
 use Rattle.tlm_types.specs.declared.words.Command.{Command}
-use Rattle.tlm_types.specs.declared.words.Command.TheVariants.{Read, Write, Ignore}
+use Rattle.tlm_types.specs.declared.words.Command.TheVariants.{Read, Write, Ignore, FetchAdd}
 use Rattle.tlm_types.specs.declared.words.MemoryTraits.{MemoryTraits}
 use Rattle.tlm_types.specs.declared.words.Response.{Response}
 use Rattle.tlm_types.specs.declared.words.Response.TheVariants.{Ok, Incomplete, GenericError, AddressError, CommandError, BurstError, ByteEnableError}
@@ -46,28 +46,39 @@ length-got_by CommandError a store = refl
 length-got_by BurstError a store = refl
 length-got_by ByteEnableError a store = refl
 
+-- what a fetch_add found is as long as its operand
+pub length-found : (r : Response) (a : Access) (store : List ℕ) → length (got_by FetchAdd r a store) ≡ length a.sent
+length-found Ok a store = length-taken_from a 0 a.sent store
+length-found Incomplete a store = refl
+length-found GenericError a store = refl
+length-found AddressError a store = refl
+length-found CommandError a store = refl
+length-found BurstError a store = refl
+length-found ByteEnableError a store = refl
+
 -- what is told of the data that an access left: what it sent, what it got, and how long it is
-pub record IsTold (c : Command) (sent got left : List ℕ) : Type 0 where
-  pub sends : sent_told c left ≡ sent
+pub record IsTold (c : Command) (operand sent got left : List ℕ) : Type 0 where
+  pub sends : sent_told c operand left ≡ sent
   pub gets : got_told c left ≡ got
   pub size : length left ≡ length sent
 
-pub buffer-told : (c : Command) (r : Response) (a : Access) (store : List ℕ) → (c ≡ Read → a.sent ≡ zeros (length a.sent)) → IsTold c a.sent (got_by c r a store) (buffer_after c (got_by c r a store) a.sent)
-buffer-told Read r a store blank =
+pub buffer-told : (c : Command) (r : Response) (a : Access) (store operand : List ℕ) → (c ≡ Read → a.sent ≡ zeros (length a.sent)) → (c ≡ FetchAdd → operand ≡ a.sent) → IsTold c operand a.sent (got_by c r a store) (buffer_after c (got_by c r a store) a.sent)
+buffer-told Read r a store operand blank word =
     let size = length-got_by r a store in
     record { sends = ap zeros size ∙ sym (blank refl); gets = refl; size = size }
-buffer-told Write r a store blank = record { sends = refl; gets = refl; size = refl }
-buffer-told Ignore r a store blank = record { sends = refl; gets = refl; size = refl }
+buffer-told Write r a store operand blank word = record { sends = refl; gets = refl; size = refl }
+buffer-told Ignore r a store operand blank word = record { sends = refl; gets = refl; size = refl }
+buffer-told FetchAdd r a store operand blank word = record { sends = word refl; gets = refl; size = length-found r a store }
 
 -- the payload after an access that these bytes gave this status
 abbrev pub payload_after : PayloadView → Response → Bool → List ℕ → PayloadView
 payload_after p r hint store = record p { bytes = buffer_after p.command (got_by p.command r (access_of p) store) p.bytes; status = r; hint = hint }
 
-pub told_by-access : (m : MemoryTraits) (log : List Entry) (store : List ℕ) (way : Way) (p : PayloadView) (hint : Bool) → store ≡ log_bytes m log → IsTransport way → (p.command ≡ Read → p.bytes ≡ zeros (length p.bytes)) → told_by way (payload_after p (status_by m (access_of p) p.command) hint store) ≡ answered m log way (access_of p)
-told_by-access m log store way p hint bytes transport blank =
+pub told_by-access : (m : MemoryTraits) (log : List Entry) (store operand : List ℕ) (way : Way) (p : PayloadView) (hint : Bool) → store ≡ log_bytes m log → IsTransport way → (p.command ≡ Read → p.bytes ≡ zeros (length p.bytes)) → (p.command ≡ FetchAdd → operand ≡ p.bytes) → told_by way operand (payload_after p (status_by m (access_of p) p.command) hint store) ≡ answered m log way (access_of p)
+told_by-access m log store operand way p hint bytes transport blank word =
     let a = access_of p in
     let r = status_by m a p.command in
-    let told = buffer-told p.command r a store blank in
+    let told = buffer-told p.command r a store operand blank word in
     rw (told.sends, told.gets, told.size, status_of-transport way m a transport, got_of-transport way r a (log_bytes m log) transport, ← bytes) refl
 
 -- the data after a debug read begins with what was moved, and stays as long as it is

@@ -5,6 +5,7 @@ use Rattle.tlm_types.specs.declared.words.Way.{Way}
 use Rattle.tlm_types.specs.declared.words.Way.TheVariants.{Blocking, FourPhase, Direct, Debug as by_debug}
 use Rattle.tlm_types.specs.declared.words.TxnId.{TxnId}
 use Rattle.tlm_types.specs.declared.entry.Access.{Access as AccessFacts}
+use Rattle.tlm_model.specs.Actions.{data_logged}
 use Rattle.tlm_model.specs.Store.{zeros}
 use Rattle.generic_payload.specs.Payload.{PayloadView, access_of}
 use Rattle.region_object.specs.declared.call.RegionCall.{RegionCall}
@@ -36,7 +37,7 @@ access_asked (Debug txn time p) = debug_access p.address (length p.bytes)
 
 -- how many bytes of the room of its log a call may take
 abbrev pub payload_cost : PayloadView → ℕ
-payload_cost p = length p.bytes + length p.enables
+payload_cost p = data_logged p.command (length p.bytes) + length p.enables
 
 abbrev pub cost_of : RegionCall → ℕ
 cost_of call = payload_cost (payload_of call)

@@ -1,7 +1,7 @@
 -- A memory as its log, and what it answers a call.
 use Rattle.std.specs.Prelude.{ℕ, ◌≡◌, Bool, false, List, [], ◌++◌, length, drop, All}
 use Rattle.tlm_types.specs.declared.words.Command.{Command}
-use Rattle.tlm_types.specs.declared.words.Command.TheVariants.{Read, Write, Ignore}
+use Rattle.tlm_types.specs.declared.words.Command.TheVariants.{Read, Write, Ignore, FetchAdd}
 use Rattle.tlm_types.specs.declared.words.MemoryTraits.{MemoryTraits}
 use Rattle.tlm_types.specs.declared.words.ObjectNo.TheVariants.{Memory}
 use Rattle.tlm_types.specs.declared.words.Response.{Response}
@@ -55,11 +55,12 @@ abbrev pub hint_of : MemoryTraits → Response → Bool
 hint_of m Ok = m.dmi
 hint_of m r = false
 
--- the data bytes of a payload after its access: a read's are those that it got
+-- the data bytes of a payload after its access: a read's are those that it got, and a fetch_add's those that it found
 abbrev pub buffer_after : Command → List ℕ → List ℕ → List ℕ
 buffer_after Read got bytes = got
 buffer_after Write got bytes = bytes
 buffer_after Ignore got bytes = bytes
+buffer_after FetchAdd got bytes = got
 
 -- the payload after an access that came this way
 abbrev pub accessed : LoggedMemory → Way → PayloadView → PayloadView
@@ -79,19 +80,22 @@ abbrev pub reply_of : LoggedMemory → RegionCall → RegionReply
 reply_of m (Access txn time way p) = AccessedReply (accessed m way p)
 reply_of m (Debug txn time p) = debugged m p
 
--- what a payload tells after its access: a read sent zeros, and got its data
-abbrev pub sent_told : Command → List ℕ → List ℕ
-sent_told Read bytes = zeros (length bytes)
-sent_told Write bytes = bytes
-sent_told Ignore bytes = bytes
+-- what a payload tells after its access: a read sent zeros, and got its data; a fetch_add sent its operand, which the
+-- payload has no more
+abbrev pub sent_told : Command → List ℕ → List ℕ → List ℕ
+sent_told Read operand bytes = zeros (length bytes)
+sent_told Write operand bytes = bytes
+sent_told Ignore operand bytes = bytes
+sent_told FetchAdd operand bytes = operand
 
 abbrev pub got_told : Command → List ℕ → List ℕ
 got_told Read bytes = bytes
 got_told Write bytes = []
 got_told Ignore bytes = []
+got_told FetchAdd bytes = bytes
 
-abbrev pub told_by : Way → PayloadView → What
-told_by way p = Accessed way (record (access_of p) { sent = sent_told p.command p.bytes }) p.status (got_told p.command p.bytes)
+abbrev pub told_by : Way → List ℕ → PayloadView → What
+told_by way operand p = Accessed way (record (access_of p) { sent = sent_told p.command operand p.bytes }) p.status (got_told p.command p.bytes)
 
 -- these bytes are those of the log, as many as the memory has, and the log is lawful and of the memory's own entries
 pub record IsConsistent (number : ℕ) (traits : MemoryTraits) (bytes : List ℕ) (log : List Entry) : Type 0 where

@@ -3,7 +3,7 @@ ghost use Rattle.std.specs.Prelude.{◌≡◌};
 ghost use Rattle.region_object.specs.Call.{cost_of, payload_cost, payload_of};
 
 use generic_payload::Payload;
-use tlm_types::{Ps, TxnId, Way};
+use tlm_types::{Command, Ps, TxnId, Way};
 
 /// What can be asked of a memory. The address of the payload is an offset in bytes within the memory,
 /// and the time is in picoseconds.
@@ -53,9 +53,15 @@ impl RegionCall {
     }
 }
 
-/// How many bytes of the room of a memory's log a call with this payload takes at most.
+/// How many bytes of the room of a memory's log a call with this payload takes at most: of a fetch_add the
+/// log keeps the operand and what was found.
 pub fn payload_cost(payload: &Payload) -> u64
     ensures { result ≡ payload_cost payload.now }
 {
-    payload.bytes().len() as u64 + payload.enables().len() as u64
+    let length = payload.bytes().len() as u64;
+    let data = match payload.command() {
+        Command::Read | Command::Write | Command::Ignore => length,
+        Command::FetchAdd => length + length,
+    };
+    data + payload.enables().len() as u64
 }

@@ -7,7 +7,7 @@ ghost use Rattle.tlm_model.specs.Log.{IsLog, log_bytes};
 ghost use Rattle.tlm_model.specs.Store.{zeros, got_by, stored_by};
 ghost use Rattle.generic_payload.specs.Payload.{access_of, HasPlaces};
 ghost use Rattle.region_object.specs.Call.{IsFit, IsTransport, cost_of, debug_access, payload_cost};
-ghost use Rattle.region_object.specs.Region.{accessed, after_call, answered, buffer_after, debugged, got_told, head_at, reply_of, told_by, with_logged};
+ghost use Rattle.region_object.specs.Region.{accessed, after_call, answered, buffer_after, debugged, got_told, sent_told, head_at, reply_of, told_by, with_logged};
 
 use crate::call::{RegionCall, RegionReply, payload_cost};
 use generic_payload::Payload;
@@ -149,7 +149,7 @@ impl Region {
     ///
     /// An access comes by blocking transport or with four phases, and a read into a buffer of zeros. The
     /// payload comes back with the status of `Payload::check`; where that is OK a write has put its
-    /// bytes, and a read has its data. The DMI hint is set exactly where the memory grants direct
+    /// bytes, a read has its data, and a fetch_add has done both in this one step. The DMI hint is set exactly where the memory grants direct
     /// access and the status is OK.
     ///
     /// A debug read moves the bytes from its address on, to the memory's end at most, to the front of
@@ -233,16 +233,17 @@ impl Region {
         requires way { IsTransport way }
         requires zeros { payload.old.command ≡ Read → payload.old.bytes ≡ zeros (length payload.old.bytes) }
         requires room { length self.old.log.entries < self.old.log.room }
-        requires room_bytes { length payload.old.bytes + length payload.old.enables ≤ self.old.log.room_bytes }
+        requires room_bytes { payload_cost payload.old ≤ self.old.log.room_bytes }
         ensures memory { self.new ≡ with_logged self.old
             (entry_at head (answered self.old.traits self.old.log.entries way (access_of payload.old))) }
         ensures payload { payload.new ≡ accessed self.old way payload.old }
     {
+        let operand = operand_of(payload);
         let status = payload.check(&self.traits);
         move_bytes(payload, &mut self.store, status);
         payload.set_status(status);
         payload.set_hint(self.traits.dmi && status == Response::Ok);
-        log_access(&mut self.log, head, way, payload);
+        log_access(&mut self.log, head, way, &operand, payload);
     }
 
     fn debug_read(&mut self, head: Head, payload: &mut Payload) -> u64
@@ -275,16 +276,27 @@ fn move_bytes(payload: &mut Payload, store: &mut [u8], status: Response)
     match payload.command() {
         Command::Write => payload.write_into(store),
         Command::Read => payload.read_from(store),
+        Command::FetchAdd => payload.fetch_into(store),
         Command::Ignore => {}
     }
 }
 
-// Adds the entry of an access, which the payload tells afterwards.
-fn log_access(log: &mut Log, head: Head, way: Way, payload: &Payload)
+// The operand of a fetch_add, and for any other command zeros.
+fn operand_of(payload: &Payload) -> [u8; 4]
+    ensures { payload.now.command ≡ Command.FetchAdd → result ≡ payload.now.bytes }
+{
+    match (payload.command(), payload.bytes()) {
+        (Command::FetchAdd, [a, b, c, d]) => [*a, *b, *c, *d],
+        _ => [0; 4],
+    }
+}
+
+// Adds the entry of an access, which the payload tells afterwards; the operand is that of a fetch_add.
+fn log_access(log: &mut Log, head: Head, way: Way, operand: &[u8; 4], payload: &Payload)
     requires room { length log.old.entries < log.old.room }
-    requires room_bytes { length payload.now.bytes + length payload.now.enables ≤ log.old.room_bytes }
+    requires room_bytes { payload_cost payload.now ≤ log.old.room_bytes }
     requires way { IsTransport way }
-    ensures { log.new ≡ with_entry log.old (entry_at head (told_by way payload.now)) }
+    ensures { log.new ≡ with_entry log.old (entry_at head (told_by way operand.now payload.now)) }
 {
     let facts = Facts {
         way,
@@ -294,20 +306,21 @@ fn log_access(log: &mut Log, head: Head, way: Way, payload: &Payload)
         width: payload.width(),
         status: payload.status(),
     };
-    let (sent, got) = sent_and_got(payload);
+    let (sent, got) = sent_and_got(operand, payload);
     let Ok(()) = log.push_access(head, facts, sent, payload.enables(), got) else {
         unreachable!()
     };
 }
 
-// What the log keeps of the data: for a read what it got, else what was sent.
-fn sent_and_got(payload: &Payload) -> (&[u8], &[u8])
-    ensures sent { result.0.now ≡ kept_sent payload.now.command payload.now.bytes }
+// What the log keeps of the data: for a read what it got, for a fetch_add both, else what was sent.
+fn sent_and_got<'a>(operand: &'a [u8; 4], payload: &'a Payload) -> (&'a [u8], &'a [u8])
+    ensures sent { result.0.now ≡ kept_sent payload.now.command (sent_told payload.now.command operand.now payload.now.bytes) }
     ensures got { result.1.now ≡ got_told payload.now.command payload.now.bytes }
 {
     match payload.command() {
         Command::Read => (&[], payload.bytes()),
         Command::Write | Command::Ignore => (payload.bytes(), &[]),
+        Command::FetchAdd => (operand.as_slice(), payload.bytes()),
     }
 }
 

@@ -5,7 +5,7 @@ use Rattle.std.specs.List.{list_all, concat, filter, flat_map}
 use Rattle.tlm_types.specs.declared.words.ObjectNo.{ObjectNo}
 use Rattle.tlm_types.specs.declared.words.ObjectNo.TheVariants.{Memory as memory_object, Hop, Pool}
 use Rattle.tlm_types.specs.declared.words.Command.{Command}
-use Rattle.tlm_types.specs.declared.words.Command.TheVariants.{Read, Write, Ignore}
+use Rattle.tlm_types.specs.declared.words.Command.TheVariants.{Read, Write, Ignore, FetchAdd}
 use Rattle.tlm_types.specs.declared.words.Kind.{Kind}
 use Rattle.tlm_types.specs.declared.words.Kind.TheVariants.{Read as read_kind, Write as write_kind, Both}
 use Rattle.tlm_types.specs.declared.words.Phase.{Phase}
@@ -44,6 +44,7 @@ abbrev pub command_word : Command → List ℕ
 command_word Read = codes "read"
 command_word Write = codes "write"
 command_word Ignore = codes "ignore"
+command_word FetchAdd = codes "fetch_add"
 
 abbrev pub status_word : Response → List ℕ
 status_word Ok = codes "ok"
@@ -85,11 +86,32 @@ sync_words Completed = codes "COMPLETED" ∷ []
 abbrev pub range_word : ℕ → ℕ → List ℕ
 range_word first last = address_word first ++ (codes "-" ++ address_word last)
 
--- the bytes that the line of an access shows: those that a write sent, or those that a read got
+-- the bytes that the line of an access shows: those that a write sent, or those that a read or a fetch_add got
 abbrev pub shown_by : Command → Access → List ℕ → List ℕ
 shown_by Read a got = got
 shown_by Write a got = a.sent
 shown_by Ignore a got = []
+shown_by FetchAdd a got = got
+
+-- the bytes that it shows before them, of those that were sent: the operand of a fetch_add
+abbrev pub operand_in : Command → List ℕ → List ℕ
+operand_in Read sent = []
+operand_in Write sent = []
+operand_in Ignore sent = []
+operand_in FetchAdd sent = sent
+
+abbrev pub has_operand : Command → Bool
+has_operand Read = false
+has_operand Write = false
+has_operand Ignore = false
+has_operand FetchAdd = true
+
+-- the operand with a colon, where there is one
+abbrev pub operand_text : Command → List ℕ → List ℕ
+operand_text command sent = if has_operand command then data_word sent ++ codes ":" else []
+
+abbrev pub bytes_word : Command → Access → List ℕ → List ℕ
+bytes_word command a got = operand_text command a.sent ++ data_word (shown_by command a got)
 
 abbrev pub freed_words : Bool → List (List ℕ)
 freed_words true = codes "freed" ∷ []
@@ -98,7 +120,7 @@ freed_words false = []
 abbrev pub what_words : What → List (List ℕ)
 what_words (Accessed way a status got) =
     way_word way ∷ command_word a.command ∷ address_word a.offset ∷ decimal a.length ∷ (codes "be=" ++ data_word a.enables) ∷
-    (codes "sw=" ++ decimal a.width) ∷ data_word (shown_by a.command a got) ∷ status_word status ∷ []
+    (codes "sw=" ++ decimal a.width) ∷ bytes_word a.command a got ∷ status_word status ∷ []
 what_words (Granted gate first last kind) = codes "granted" ∷ decimal gate ∷ range_word first last ∷ kind_word kind ∷ []
 what_words (Invalidated first last) = codes "invalidated" ∷ range_word first last ∷ []
 what_words (Closed gate) = codes "closed" ∷ decimal gate ∷ []

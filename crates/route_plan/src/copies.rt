@@ -154,6 +154,7 @@ pub fn copy_platform(alloc: Global, platform: &Platform) -> Result<Platform, Pla
     let routers = rows(alloc, &Copies, platform.routers.as_slice())?;
     let memories = rows(alloc, &Copies, platform.memories.as_slice())?;
     Ok(Platform {
+        version: platform.version,
         quantum: platform.quantum,
         initiators,
         routers,

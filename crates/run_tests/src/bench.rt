@@ -8,7 +8,7 @@ use traffic_script::{Script, read_script};
 fn scripts_of(rt: &impl Abort, alloc: Global, texts: &[&str]) -> Vec<Script> {
     let mut scripts = Vec::new(alloc);
     for text in texts {
-        let script = read_script(alloc, text.as_bytes()).expect(rt, "a script");
+        let script = read_script(alloc, text.as_bytes(), 1).expect(rt, "a script");
         scripts.push(script).expect(rt, "room");
     }
     scripts

@@ -3,6 +3,7 @@ ghost use Rattle.std.specs.Prelude.{◌≡◌, ◌<◌, Some, true, false, lengt
 ghost use Rattle.std.specs.Option.{ForSome};
 ghost use Rattle.tlm_types.specs.declared.words.Command.TheVariants.{Read};
 ghost use Rattle.tlm_model.specs.Store.{zeros};
+ghost use Rattle.region_object.specs.Call.{payload_cost};
 ghost use Rattle.plat_build.specs.Calls.{CanPay, route_at};
 ghost use Rattle.run_tests.specs.Bag.{IsBag};
 
@@ -17,7 +18,7 @@ use std::marker::Brand;
 use std::process::Abort;
 use std::sync::Wait;
 use std::thread::{Threads, join};
-use tlm_types::{Ps, Response, TxnId};
+use tlm_types::{Command, Ps, Response, TxnId};
 use token_book::Wallet;
 
 /// Two initiators before a router of 5 ps with two memories of 10 and 20 ps; nothing is at 0x200.
@@ -43,6 +44,18 @@ struct Bag {
     at: Ps,
 }
 
+// How many bytes an access or a debug read with this payload takes of its memory's log.
+fn cost_of(payload: &Payload) -> u64
+    ensures { result ≡ payload_cost payload.now }
+{
+    let length = payload.bytes().len() as u64;
+    let data = match payload.command() {
+        Command::Read | Command::Write | Command::Ignore => length,
+        Command::FetchAdd => length + length,
+    };
+    data + payload.enables().len() as u64
+}
+
 // The wallet has a ticket for it, where it has a route.
 fn can_pay<N: Naming<Plan, TlmLaw>>(
     rt: &impl Abort,
@@ -55,9 +68,8 @@ fn can_pay<N: Naming<Plan, TlmLaw>>(
     ensures { ForSome (route_at net.now who payload.now.address) (CanPay payload.now wallet.now) }
 {
     if let Some(route) = net.plan().route(who, payload.address()) {
-        let bytes = payload.bytes().len() + payload.enables().len();
         assert!(rt; wallet.left(route.memory) > 0);
-        assert!(rt; wallet.bytes(route.memory) >= bytes as u64);
+        assert!(rt; wallet.bytes(route.memory) >= cost_of(payload));
     }
 }
 

@@ -1,3 +1,4 @@
 pub mod Steps
 pub mod Remaining
 pub mod States
+pub mod Payloads

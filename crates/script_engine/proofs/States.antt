@@ -1,8 +1,7 @@
 -- An engine's steps.
-use Rattle.std.proofs.Common.{◌≡◌, ℕ, ◌+◌, Bool, true, false, List, [], ◌∷◌, length, drop, slice_get, Option, Some, None, is_some, refl, sym, ◌∙◌, arith}
+use Rattle.std.proofs.Common.{◌≡◌, ℕ, ◌+◌, Bool, true, false, List, [], ◌∷◌, length, drop, slice_get, Option, Some, None, is_some, is_none, not, refl, sym, ◌∙◌, arith}
 use Rattle.std.proofs.lemmas.Grind.{common_steps}
 use Rattle.tlm_model.specs.declared.operation.Operation.{Operation}
-use Rattle.tlm_model.specs.declared.operation.Operation.TheVariants.{Write, Read, Ignore, Debug, Copy, Add, Wait, Sync, Fence, Invalidate}
 use Rattle.tlm_model.specs.Requests.{numbers_of}
 use Rattle.traffic_script.specs.Progress.{Progress, advanced}
 use Rattle.traffic_script.specs.Proper.{AreProper, IsProper}
@@ -27,6 +26,13 @@ pub no_due : (due : Option ℕ) (buffer : List ℕ) → is_some due ≡ false �
 no_due None buffer h = refl
 no_due (Some a) buffer h = cc
 
+-- a write is due where it has an address
+pub none_due : (none : Bool) (due : Option ℕ) (buffer : List ℕ) → not none ≡ is_some due → none ≡ is_none (due_at due buffer)
+none_due true None buffer h = refl
+none_due true (Some a) buffer h = cc
+none_due false None buffer h = cc
+none_due false (Some a) buffer h = refl
+
 module _ (n seq : ℕ) (due : Option Due) (p : Progress) (b : Bool) (now : State) (is : state_at n seq due p b ≡ now) where
   pub passed_to : (op : Operation) (q : Progress) (m : ℕ) → IsFirst p op → q ≡ advanced p → m ≡ numbers_of op →
       state_at n (seq + m) due q true ≡ passed_by now
@@ -39,9 +45,9 @@ module _ (n seq : ℕ) (due : Option Due) (p : Progress) (b : Bool) (now : State
   first_whole op got first none whole = whole ∙ rw (← is, none, left p op first) (length_of_op seq op)
 
   pub told_to : (op : Operation) (q : Progress) (later_due : Option Due) (got kept : List ℕ) (ended : Bool) → IsFirst p op → due ≡ None →
-      q ≡ advanced p → kept ≡ got → later_due ≡ due_after op kept → ended ≡ false →
+      q ≡ advanced p → kept ≡ got → later_due ≡ due_after op kept → ended ≡ is_none later_due →
       state_at n (seq + 1) later_due q ended ≡ told_by now got
-  told_to op q later_due got kept ended first none next same gives closed = rw (next, gives, same, closed, ← is, none, left_advanced p op first, left p op first) refl
+  told_to op q later_due got kept ended first none next same gives closed = rw (next, closed, gives, same, ← is, none, left_advanced p op first, left p op first) refl
 
   pub not_fenced : None ≡ slice_get p.operations p.done → due ≡ None → is_fenced (op_of now) ≡ true → ⊥
   not_fenced past none fenced =
@@ -64,9 +70,7 @@ ready_passed e free ready = passed_ready e.initiator e.seq e.due e.remaining e.e
 -- the write that is due after a read
 due_bytes : (seq : ℕ) (op : Operation) (got : List ℕ) → is_fenced (op_for seq op) ≡ true → IsProper op → length got ≡ length_of (op_for seq op) →
     HasBytes (due_after op got)
-due_bytes seq (Copy from to m) got fenced proper whole = (omega (arith, proper.2.some), omega (arith, proper.2.few))
-due_bytes seq (Add a m) got fenced proper whole = (omega arith, omega arith)
-due_bytes seq op got fenced proper whole = tt
+due_bytes seq op got fenced proper whole = grind (arith, common_steps)
 
 -- one of two numbers is taken
 due_numbers : (seq : ℕ) (op : Operation) (got : List ℕ) → is_fenced (op_for seq op) ≡ true → numbers_of op ≡ 1 + numbers_due (due_after op got)

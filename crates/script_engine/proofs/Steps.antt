@@ -2,7 +2,6 @@
 use Rattle.std.proofs.Common.{◌≡◌, ℕ, Bool, false, List, [], ◌∷◌, Option, Some, None, refl, rules, arith}
 use Rattle.std.proofs.lemmas.Grind.{common_steps}
 use Rattle.tlm_model.specs.declared.operation.Operation.{Operation}
-use Rattle.tlm_model.specs.declared.operation.Operation.TheVariants.{Write, Read, Ignore, Debug, Copy, Add, Wait, Sync, Fence, Invalidate}
 use Rattle.tlm_model.specs.declared.platform.Platform.{Platform}
 use Rattle.tlm_model.specs.Plan.{Initiator}
 use Rattle.tlm_model.specs.Rounds.{syncs_from}
@@ -15,9 +14,7 @@ use Rattle.script_engine.specs.Laws.{BeginsAtTheStart, EndsWithNothingLeft, Fill
 syncs_passed : (p : Platform) (i : Initiator) (now t n s : ℕ) (b : Bool) (op : Operation) (ops : List Operation) →
     is_fenced (op_for s op) ≡ false →
     syncs_from p i now t (op ∷ ops) ≡ syncs_then p i now (time_after_op p i t (op_for s op)) (op_for s op) (passed_by (state n s None (op ∷ ops) b))
-syncs_passed p i now t n s b (Copy from to m) ops h = cc
-syncs_passed p i now t n s b (Add a m) ops h = cc
-syncs_passed p i now t n s b op ops h = refl
+syncs_passed p i now t n s b op ops h = grind (arith, common_steps)
 
 syncs_passed_at : (p : Platform) (i : Initiator) (now t n s : ℕ) (b : Bool) (due : Option Due) (ops : List Operation) →
     is_fenced (op_at s due ops) ≡ false → (op_at s due ops ≡ Done → ⊥) →
@@ -52,7 +49,6 @@ ends = grind (arith, common_steps)
 
 pub fills : FillsWhatIsNext
 fills = record {
-  access = grind (arith, common_steps);
-  debug = grind (arith, common_steps);
+  transfer = grind (arith, common_steps);
   plain = grind (arith, common_steps);
 }

@@ -1,15 +1,17 @@
 -- Laws over the definitions: how an engine's steps go through what its script asks for.
-use Rattle.std.specs.Prelude.{◌≡◌, ℕ, ◌+◌, ◌++◌, Bool, List, [], length, true, false}
+use Rattle.std.specs.Prelude.{◌≡◌, ℕ, ◌+◌, ◌++◌, List, [], length, true, false}
 use Rattle.tlm_types.specs.declared.words.Command.{Command}
-use Rattle.tlm_types.specs.declared.words.Command.TheVariants.{Read}
 use Rattle.tlm_types.specs.declared.entry.Entry.{Entry}
 use Rattle.tlm_model.specs.declared.platform.Platform.{Platform}
 use Rattle.tlm_model.specs.Plan.{Initiator}
 use Rattle.tlm_model.specs.Requests.{end_of, numbers_in, requests_of}
 use Rattle.tlm_model.specs.Rounds.{syncs_from}
-use Rattle.script_engine.specs.declared.op.Op.TheVariants.{Access, Debug, Done}
+use Rattle.script_engine.specs.declared.op.Op.TheVariants.{Done}
+use Rattle.script_engine.specs.declared.part.Part.TheVariants.{Asks}
+use Rattle.script_engine.specs.declared.part.Transfer.{Transfer}
+use Rattle.script_engine.specs.Part.{command_in, is_plain_kind}
 use Rattle.generic_payload.specs.Payload.{PayloadView}
-use Rattle.script_engine.specs.State.{State, begun_engine, op_of, is_fenced, payload_of, told_by, passed_by}
+use Rattle.script_engine.specs.State.{State, begun_engine, next_of, op_of, is_fenced, payload_of, told_by, passed_by}
 use Rattle.script_engine.specs.Asking.{IsAnswered, asked_by, end_at, numbers_at, requests_at, stage_after, syncs_at, syncs_then, time_after_op}
 
 -- a new engine is to ask for all that its script asks for
@@ -60,10 +62,7 @@ pub record IsPlainPayload (payload : PayloadView) : Type 0 where
   pub enables : payload.enables ≡ []
   pub width : payload.width ≡ length payload.bytes
 
--- the payload is that of what is next, under the next sequence number
+-- the payload is that of the transfer that is next, under the next sequence number
 pub record FillsWhatIsNext : Type 0 where
-  pub access : (e : State) (room s a n : ℕ) (command : Command) (plain fenced : Bool) → op_of e ≡ Access s a n command plain fenced →
-      (s ≡ e.seq) × IsPayload (payload_of e room) a n command
-  pub debug : (e : State) (room s a n : ℕ) → op_of e ≡ Debug s a n → (s ≡ e.seq) × IsPayload (payload_of e room) a n Read
-  pub plain : (e : State) (room s a n : ℕ) (command : Command) (fenced : Bool) → op_of e ≡ Access s a n command true fenced →
-      IsPlainPayload (payload_of e room)
+  pub transfer : (e : State) (room : ℕ) (x : Transfer) → next_of e ≡ Asks x → (x.seq ≡ e.seq) × IsPayload (payload_of e room) x.address x.length (command_in x.kind)
+  pub plain : (e : State) (room : ℕ) (x : Transfer) → next_of e ≡ Asks x → is_plain_kind x.kind ≡ true → IsPlainPayload (payload_of e room)

@@ -1,3 +1,4 @@
+pub mod Part
 pub mod State
 pub mod Asking
 pub mod Ready

@@ -1,13 +1,16 @@
 -- What is seen of an engine, and its steps.
 use Rattle.std.specs.Prelude.{ℕ, ◌+◌, ◌==◌, ◌&&◌, Bool, true, false, List, [], ◌∷◌, length, Option, Some, None, is_none, unwrap_or}
-use Rattle.tlm_types.specs.declared.words.Command.TheVariants.{Read as read_command, Write as write_command, Ignore as ignore_command}
+use Rattle.tlm_types.specs.declared.words.Command.TheVariants.{Read as read_command, Write as write_command, Ignore as ignore_command, FetchAdd as fetch_add_command}
 use Rattle.tlm_model.specs.declared.operation.Operation.{Operation}
-use Rattle.tlm_model.specs.declared.operation.Operation.TheVariants.{Write, Read, Ignore, Debug, Copy, Add, Wait, Sync, Fence, Invalidate}
-use Rattle.tlm_model.specs.Requests.{numbers_of, added}
+use Rattle.tlm_model.specs.declared.operation.Operation.TheVariants.{Write, Read, Ignore, Debug, Copy, Add, FetchAdd, Wait, Sync, Fence, Invalidate}
+use Rattle.tlm_model.specs.Requests.{numbers_of, added, le_bytes}
 use Rattle.tlm_model.specs.Store.{zeros}
 use Rattle.generic_payload.specs.Payload.{PayloadView, new_payload}
 use Rattle.script_engine.specs.declared.op.Op.{Op}
 use Rattle.script_engine.specs.declared.op.Op.TheVariants as next
+use Rattle.script_engine.specs.declared.part.Part.{Part}
+use Rattle.script_engine.specs.Part.{part_of}
+pub use Rattle.script_engine.specs.Part.{is_fenced, length_of}
 
 -- a write that is due: the second access of a `copy` or an `add`
 pub record Due : Type 0 where
@@ -44,6 +47,7 @@ op_for s (Ignore a) = next.Access s a 0 ignore_command false false
 op_for s (Debug a n) = next.Debug s a n
 op_for s (Copy from to n) = next.Access s from n read_command true true
 op_for s (Add a n) = next.Access s a 4 read_command true true
+op_for s (FetchAdd a n) = next.Access s a 4 fetch_add_command false true
 op_for s (Wait n) = next.Wait n
 op_for s Sync = next.Sync
 op_for s Fence = next.Fence
@@ -61,16 +65,9 @@ op_at s (Some w) ops = next.Access s w.address (length w.bytes) write_command tr
 abbrev pub op_of : State → Op
 op_of e = op_at e.seq e.due e.remaining
 
--- the engine waits for the reply
-abbrev pub is_fenced : Op → Bool
-is_fenced (next.Access s a n command plain fenced) = fenced
-is_fenced op = false
-
--- how many data bytes the payload has
-abbrev pub length_of : Op → ℕ
-length_of (next.Access s a n command plain fenced) = n
-length_of (next.Debug s a n) = n
-length_of op = 0
+-- its part
+abbrev pub next_of : State → Part
+next_of e = part_of (op_of e)
 
 -- a payload with this room that writes these bytes
 abbrev pub writing : ℕ → ℕ → List ℕ → List ℕ → ℕ → PayloadView
@@ -80,6 +77,10 @@ writing room a bytes enables width = record (new_payload room) { command = write
 abbrev pub reading : ℕ → ℕ → ℕ → List ℕ → ℕ → PayloadView
 reading room a n enables width = record (new_payload room) { command = read_command; address = a; bytes = zeros n; enables = enables; width = width }
 
+-- a payload with this room that fetches and adds
+abbrev pub fetching : ℕ → ℕ → ℕ → PayloadView
+fetching room a n = record (new_payload room) { command = fetch_add_command; address = a; bytes = le_bytes n; width = 4 }
+
 -- the payload of an operation's first access, or of its debug read; a new one where it has none
 abbrev pub payload_for : ℕ → Operation → PayloadView
 payload_for room (Write a bytes enables width) = writing room a bytes enables (unwrap_or width (length bytes))
@@ -88,6 +89,7 @@ payload_for room (Ignore a) = record (new_payload room) { address = a }
 payload_for room (Debug a n) = reading room a n [] n
 payload_for room (Copy from to n) = reading room from n [] n
 payload_for room (Add a n) = reading room a 4 [] 4
+payload_for room (FetchAdd a n) = fetching room a n
 payload_for room op = new_payload room
 
 abbrev pub payload_from : ℕ → List Operation → PayloadView
@@ -108,10 +110,10 @@ due_after (Copy from to n) got = Some (record { address = to; bytes = got })
 due_after (Add a n) got = Some (record { address = a; bytes = added got n })
 due_after op got = None
 
--- after the reply to an operation's first access
+-- after the reply to an operation's first access, which ends it where no write is due
 abbrev pub told_first : State → List ℕ → List Operation → State
 told_first e got [] = e
-told_first e got (op ∷ ops) = record e { seq = e.seq + 1; due = due_after op got; remaining = ops; ended = false }
+told_first e got (op ∷ ops) = record e { seq = e.seq + 1; due = due_after op got; remaining = ops; ended = is_none (due_after op got) }
 
 abbrev pub told_at : State → List ℕ → Option Due → State
 told_at e got None = told_first e got e.remaining

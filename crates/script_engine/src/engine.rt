@@ -80,7 +80,8 @@ impl Engine {
         }
     }
 
-    /// Goes on after the reply to a fenced access, whose payload has the bytes that a read got.
+    /// Goes on after the reply to a fenced access, whose payload has the bytes that a read got. It ends
+    /// the operation where no write is due.
     pub fn told(&mut self, payload: &Payload)
         requires fenced { is_fenced (op_of self.old) ≡ true }
         requires whole { length payload.now.bytes ≡ length_of (op_of self.old) }
@@ -92,6 +93,7 @@ impl Engine {
             self.due = None;
         } else if let Some(operation) = self.cursor.current() {
             self.due = due_after(operation, payload.bytes(), &mut self.buffer);
+            self.ended = self.due.is_none();
             self.cursor.advance();
         }
     }

@@ -6,6 +6,8 @@
 //! - `Op` is what is next: an access, a debug read, an invalidation, a wait, a sync or a fence. `fill`
 //!   makes a payload that of the next access, `told` takes the reply of one that the engine waits for,
 //!   and `passed` goes on after anything else.
+//! - `Part` is the part of an `Op`, which `part` gives: a `Transfer` (an access or a debug read), a `Pause`
+//!   (a wait, a sync or a fence), an invalidation, or the end.
 //! - `laws` says that an engine asks for the requests of its script, in their order, and for no others,
 //!   whatever the history answers.
 //!
@@ -19,6 +21,8 @@ mod engine;
 pub mod laws;
 mod op;
 mod operations;
+mod part;
 
 pub use engine::Engine;
 pub use op::Op;
+pub use part::{Part, Pause, Transfer, TransferKind};

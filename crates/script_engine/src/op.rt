@@ -5,9 +5,9 @@ use tlm_types::{Command, Ps};
 /// address that the initiator sees; lengths are in bytes, times in picoseconds.
 #[derive(Clone, Copy, Debug, PartialEq, Eq)]
 pub enum Op {
-    /// An access. A `plain` one has no byte enables and no streaming width of its own, and is no ignore
-    /// command. A `fenced` one is one of the two accesses of a `copy` or an `add`: it is made when
-    /// nothing is outstanding, and the engine waits to be told its reply.
+    /// An access. A `plain` one is a read or a write without byte enables and without a streaming width
+    /// of its own. A `fenced` one is one of the two accesses of a `copy` or an `add`, or that of a
+    /// `fetch_add`: it is made when nothing is outstanding, and the engine waits to be told its reply.
     Access {
         seq: u64,
         address: u64,

@@ -9,9 +9,10 @@ ghost use Rattle.script_engine.specs.State.{due_after, due_at, is_plain, length_
 
 use crate::buffer::Buffer;
 use crate::op::Op;
-use generic_payload::Payload;
-use tlm_model::Operation;
+use generic_payload::{Payload, added};
+use tlm_model::{Asks, Operation};
 use tlm_types::{Bytes, Command};
+use traffic_script::asks_of;
 
 fn is_plain(enables: &Bytes, width: &Option<u64>) -> bool
     ensures { result ≡ is_plain enables.now width.now }
@@ -81,6 +82,14 @@ pub fn op_for(seq: u64, operation: &Operation) -> Op
             fenced_access(seq, *from, *length as u32, Command::Read)
         }
         Operation::Add { address, .. } => fenced_access(seq, *address, 4, Command::Read),
+        Operation::FetchAdd { address, .. } => Op::Access {
+            seq,
+            address: *address,
+            length: 4,
+            command: Command::FetchAdd,
+            plain: false,
+            fenced: true,
+        },
         Operation::Wait { time } => Op::Wait(*time),
         Operation::Sync => Op::Sync,
         Operation::Fence => Op::Fence,
@@ -137,6 +146,7 @@ pub fn fill_for(operation: &Operation, payload: &mut Payload)
         }
         Operation::Copy { from, length, .. } => payload.set_read(*from, *length as u32, *length),
         Operation::Add { address, .. } => payload.set_read(*address, 4, 4),
+        Operation::FetchAdd { address, number } => payload.set_fetch_add(*address, *number),
         Operation::Wait { .. }
         | Operation::Sync
         | Operation::Fence
@@ -146,26 +156,14 @@ pub fn fill_for(operation: &Operation, payload: &mut Payload)
 
 /// How many sequence numbers an operation takes.
 pub fn numbers_of(operation: &Operation) -> u64
+    requires { IsProper operation.now }
     ensures { result ≡ numbers_of operation.now }
 {
-    match operation {
-        Operation::Write { .. }
-        | Operation::Read { .. }
-        | Operation::Ignore { .. }
-        | Operation::Debug { .. }
-        | Operation::Invalidate { .. } => 1,
-        Operation::Copy { .. } | Operation::Add { .. } => 2,
-        Operation::Wait { .. } | Operation::Sync | Operation::Fence => 0,
+    match asks_of(operation) {
+        Asks::Nothing => 0,
+        Asks::One(_) => 1,
+        Asks::Two(_, _) => 2,
     }
-}
-
-// Four bytes as a little-endian number, plus another, modulo 2^32.
-fn added(bytes: &[u8], number: u32) -> [u8; 4]
-    requires { length bytes.now ≡ 4 }
-    ensures { result ≡ added bytes.now number }
-{
-    let sum = u32::from_le_bytes([bytes[0], bytes[1], bytes[2], bytes[3]]).wrapping_add(number);
-    sum.to_le_bytes()
 }
 
 /// The address of the write that a `copy` or an `add` makes once its read was answered with these

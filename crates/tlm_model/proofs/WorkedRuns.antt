@@ -1,8 +1,9 @@
 -- Worked runs, by computing the definitions.
 use Rattle.std.proofs.Common.{◌≡◌, ℕ, List, [], ap, refl}
 use Rattle.std.specs.Prelude.{slice_index}
+use Rattle.tlm_types.specs.declared.entry.Access.{Access}
 use Rattle.tlm_model.specs.Kept.{KeepsRequests, EndsRequests}
-use Rattle.tlm_model.specs.Worked.{IsWorked, cut_short, debug_plan, debugged, doubled, empty_plan, enables, enables_plan, hasty, ignore_plan, ignored, past_end, past_end_plan, quantum_plan, readback, readback_plan, routed, routed_plan, seven_reads, streaming, streaming_plan, sum_plan, summed, swapped, wrong_byte, wrong_status}
+use Rattle.tlm_model.specs.Worked.{IsWorked, cut_short, debug_plan, debugged, doubled, empty_plan, enables, enables_plan, fetch_plan, fetched, fetched_by_two, hasty, ignore_plan, ignored, operand_answered, past_end, past_end_plan, quantum_plan, readback, readback_plan, routed, routed_plan, seven_reads, streaming, streaming_plan, sum_plan, summed, swapped, wrong_byte, wrong_status}
 
 pub readback_is_worked : IsWorked readback_plan readback
 unfolding readback readback_plan
@@ -140,6 +141,23 @@ sum_is_worked = record {
   ended = record { answers = (refl, tt) };
 }
 
+pub fetch_is_worked : IsWorked fetch_plan fetched
+unfolding fetch_plan fetched
+fetch_is_worked = record {
+  kept = record {
+    numbered = (refl, (refl, (refl, (refl, tt))));
+    legal = ((refl, refl), ((refl, refl), ((refl, refl), ((refl, refl), tt))));
+    scripts = record {
+      replies = ((refl, refl), ((refl, refl), ((refl, refl), ((refl, refl), tt))));
+      ways = (refl, (refl, (refl, (refl, tt))));
+      order = ((refl, refl), ((refl, refl), ((refl, refl), ((refl, refl), tt))));
+      places = (tt, (tt, (tt, (tt, tt))));
+    };
+    times = (refl, (refl, (refl, (refl, tt))));
+  };
+  ended = record { answers = (refl, tt) };
+}
+
 pub routed_is_worked : IsWorked routed_plan routed
 unfolding routed routed_plan
 routed_is_worked = record {
@@ -194,6 +212,14 @@ no_quantum_is_worked = record {
 pub wrong_byte_is_not_right : ¬ KeepsRequests readback_plan wrong_byte
 unfolding readback_plan wrong_byte
 wrong_byte_is_not_right k = let first : 0 ≡ 0xde = ap (λ (bytes : List ℕ). slice_index bytes 0) k.legal.1.0.1 in cc
+
+pub fetched_by_two_is_not_right : ¬ KeepsRequests fetch_plan fetched_by_two
+unfolding fetch_plan fetched_by_two
+fetched_by_two_is_not_right k = let wrong = ap (λ (a : Access). a.command) k.scripts.replies.1.0.1 in cc
+
+pub operand_answered_is_not_right : ¬ KeepsRequests fetch_plan operand_answered
+unfolding fetch_plan operand_answered
+operand_answered_is_not_right k = let first : 2 ≡ 0xff = ap (λ (bytes : List ℕ). slice_index bytes 0) k.legal.1.0.1 in cc
 
 pub wrong_status_is_not_right : ¬ KeepsRequests readback_plan wrong_status
 unfolding readback_plan wrong_status

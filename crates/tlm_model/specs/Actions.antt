@@ -1,13 +1,15 @@
 -- The table of operations: what each makes its initiator do. All else that is said of operations is read off it.
-use Rattle.std.specs.Prelude.{ℕ, ◌+◌, ◌*◌, ◌%◌, ◌/◌, ◌^◌, Bool, true, false, List, [], ◌∷◌, length, Option, Some, None, unwrap_or}
-use Rattle.tlm_types.specs.declared.words.Command.TheVariants.{Read as read_command, Write as write_command, Ignore as ignore_command}
+use Rattle.std.specs.Prelude.{ℕ, ◌+◌, Bool, true, false, List, [], ◌∷◌, length, Option, Some, None, unwrap_or}
+use Rattle.tlm_types.specs.declared.words.Command.{Command}
+use Rattle.tlm_types.specs.declared.words.Command.TheVariants.{Read as read_command, Write as write_command, Ignore as ignore_command, FetchAdd as fetch_add_command}
 use Rattle.tlm_types.specs.declared.entry.Access.{Access}
 use Rattle.tlm_model.specs.declared.ask.Ask.{Ask}
 use Rattle.tlm_model.specs.declared.ask.Ask.TheVariants.{Access as AnAccess, DebugRead as ADebugRead, Invalidation as AnInvalidation}
 use Rattle.tlm_model.specs.declared.ask.Asks.{Asks}
 use Rattle.tlm_model.specs.declared.ask.Asks.TheVariants.{Nothing, One, Two}
 use Rattle.tlm_model.specs.declared.operation.Operation.{Operation}
-use Rattle.tlm_model.specs.declared.operation.Operation.TheVariants.{Write, Read, Ignore, Debug, Copy, Add, Wait, Sync, Fence, Invalidate}
+use Rattle.tlm_model.specs.declared.operation.Operation.TheVariants.{Write, Read, Ignore, Debug, Copy, Add, FetchAdd, Wait, Sync, Fence, Invalidate}
+use Rattle.tlm_model.specs.Numbers.{added, le_bytes}
 use Rattle.tlm_model.specs.Store.{zeros}
 
 -- What a request asks for: transport of an access, a debug read, or an invalidation of so many bytes. The
@@ -29,17 +31,9 @@ ignore_of = record { command = ignore_command; offset = 0; length = 0; sent = []
 abbrev pub debug_of : ℕ → Access
 debug_of n = record { command = read_command; offset = 0; length = n; sent = []; enables = []; width = n }
 
--- the number of some bytes, the least first
-abbrev pub le_number : List ℕ → ℕ
-le_number [] = 0
-le_number (b ∷ bs) = b + 256 * le_number bs
-
--- a number as four bytes, the least first
-abbrev pub le_bytes : ℕ → List ℕ
-le_bytes x = x % 256 ∷ (x / 256) % 256 ∷ (x / 65536) % 256 ∷ (x / 16777216) % 256 ∷ []
-
-abbrev pub added : List ℕ → ℕ → List ℕ
-added bytes n = le_bytes ((le_number bytes + n) % 2 ^ 32)
+-- its operand's four bytes are what it sends
+abbrev pub fetch_add_of : ℕ → Access
+fetch_add_of n = record { command = fetch_add_command; offset = 0; length = 4; sent = le_bytes n; enables = []; width = 4 }
 
 -- What an operation makes its initiator do. A plain access waits for nothing; each request of anything else is made
 -- when nothing is outstanding, and so is what comes after it.
@@ -60,14 +54,22 @@ action_of (Ignore a) = Plain a ignore_of
 action_of (Debug a n) = Alone a (DebugRead (debug_of n))
 action_of (Copy from to n) = Pair from to n (λ got. got)
 action_of (Add a n) = Pair a a 4 (λ got. added got n)
+action_of (FetchAdd a n) = Alone a (Transport (fetch_add_of n))
 action_of (Wait n) = Pause (Some n) false
 action_of Sync = Pause None true
 action_of Fence = Pause None false
 action_of (Invalidate a n) = Alone a (Invalidation n)
 
--- what is asked for, whatever is answered: an access and a debug read log their lengths, and an access its enables too
+-- the data bytes that an access of so many logs: a fetch_add logs its operand and what it found
+abbrev pub data_logged : Command → ℕ → ℕ
+data_logged read_command n = n
+data_logged write_command n = n
+data_logged ignore_command n = n
+data_logged fetch_add_command n = n + n
+
+-- what is asked for, whatever is answered: an access and a debug read log their data, and an access its enables too
 abbrev pub ask_for : ℕ → Asked → Ask
-ask_for a (Transport access) = AnAccess a (access.length + length access.enables)
+ask_for a (Transport access) = AnAccess a (data_logged access.command access.length + length access.enables)
 ask_for a (DebugRead access) = ADebugRead a access.length
 ask_for a (Invalidation n) = AnInvalidation a
 

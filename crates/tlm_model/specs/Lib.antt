@@ -1,4 +1,5 @@
 pub mod Each
+pub mod Numbers
 pub mod Store
 pub mod Plan
 pub mod Route

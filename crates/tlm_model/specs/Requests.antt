@@ -8,7 +8,8 @@ use Rattle.tlm_types.specs.declared.entry.What.TheVariants.{Access as Accessed, 
 use Rattle.tlm_model.specs.declared.operation.Operation.{Operation}
 use Rattle.tlm_model.specs.declared.platform.Platform.{Platform}
 use Rattle.tlm_model.specs.Actions.{Action, Plain, Alone, Pair, Pause, action_of, asks_of}
-pub use Rattle.tlm_model.specs.Actions.{Asked, Transport, DebugRead, Invalidation, write_of, read_of, ignore_of, debug_of, le_number, le_bytes, added}
+pub use Rattle.tlm_model.specs.Actions.{Asked, Transport, DebugRead, Invalidation, write_of, read_of, ignore_of, debug_of, fetch_add_of, data_logged}
+pub use Rattle.tlm_model.specs.Numbers.{le_number, le_bytes, added}
 use Rattle.tlm_model.specs.Plan.{Initiator}
 use Rattle.tlm_model.specs.Route.{later, Route, route_of, latency_of}
 use Rattle.tlm_model.specs.Store.{zeros}

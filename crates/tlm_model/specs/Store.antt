@@ -1,7 +1,7 @@
 -- What an access does to the bytes of one memory (IEEE 1666-2011, clause 14).
 use Rattle.std.specs.Prelude.{ℕ, ◌+◌, ◌%◌, min, Bool, true, not, ◌&&◌, ◌||◌, List, [], ◌∷◌, length, take, drop, replicate, slice_index, slice_set, if◌then◌else◌, nat_lt, ◌==◌}
 use Rattle.tlm_types.specs.declared.words.Command.{Command}
-use Rattle.tlm_types.specs.declared.words.Command.TheVariants.{Read, Write, Ignore}
+use Rattle.tlm_types.specs.declared.words.Command.TheVariants.{Read, Write, Ignore, FetchAdd}
 use Rattle.tlm_types.specs.declared.words.Response.{Response}
 use Rattle.tlm_types.specs.declared.words.Response.TheVariants.{Ok, AddressError, CommandError, BurstError, ByteEnableError}
 use Rattle.tlm_types.specs.declared.words.Way.{Way}
@@ -9,6 +9,7 @@ use Rattle.tlm_types.specs.declared.words.Way.TheVariants.{Blocking, FourPhase, 
 use Rattle.tlm_types.specs.declared.words.MemoryTraits.{MemoryTraits}
 use Rattle.tlm_types.specs.declared.entry.Access.{Access}
 use Rattle.tlm_types.specs.Enables.{is_lane_enabled}
+use Rattle.tlm_model.specs.Numbers.{added, le_number}
 
 -- a memory of zeros
 abbrev pub zeros : ℕ → List ℕ
@@ -31,8 +32,9 @@ abbrev pub is_allowed : MemoryTraits → Command → Bool
 is_allowed m Read = m.readable
 is_allowed m Write = m.writable
 is_allowed m Ignore = true
+is_allowed m FetchAdd = m.readable && (m.writable && m.fetch_add)
 
--- the first check of a read or a write that fails: the address, the command, the enables, the burst
+-- the first check that fails, of any command but ignore: the address, the command, the enables, the burst
 abbrev pub checked : MemoryTraits → Access → Response
 checked m a =
     if nat_lt m.size (a.offset + span_of a) then AddressError else
@@ -44,6 +46,7 @@ abbrev pub status_by : MemoryTraits → Access → Command → Response
 status_by m a Ignore = Ok
 status_by m a Read = checked m a
 status_by m a Write = checked m a
+status_by m a FetchAdd = checked m a
 
 -- the status of an access, by the way it came (14.17; debug transport always answers, 11.3)
 abbrev pub status_of : MemoryTraits → Way → Access → Response
@@ -57,22 +60,27 @@ abbrev pub put_from : Access → ℕ → List ℕ → List ℕ → List ℕ
 put_from a k [] store = store
 put_from a k (b ∷ bs) store = put_from a (k + 1) bs (if is_enabled a k then slice_set store (place_of a k) b else store)
 
--- a read's buffer from data byte k on: its enabled bytes come from the store
+-- what a read or a fetch_add takes from data byte k on: its enabled bytes come from the store
 abbrev pub taken_from : Access → ℕ → List ℕ → List ℕ → List ℕ
 taken_from a k [] store = []
 taken_from a k (b ∷ bs) store = (if is_enabled a k then slice_index store (place_of a k) else b) ∷ taken_from a (k + 1) bs store
 
+-- a fetch_add puts the sum of its operand and what it finds, to the places that it found it in
 abbrev pub stored_by : Command → Response → Access → List ℕ → List ℕ
 stored_by Write Ok a store = put_from a 0 a.sent store
 stored_by Write _ a store = store
 stored_by Read _ a store = store
 stored_by Ignore _ a store = store
+stored_by FetchAdd Ok a store = put_from a 0 (added (taken_from a 0 a.sent store) (le_number a.sent)) store
+stored_by FetchAdd _ a store = store
 
 abbrev pub got_by : Command → Response → Access → List ℕ → List ℕ
 got_by Read Ok a store = taken_from a 0 a.sent store
 got_by Read _ a store = a.sent
 got_by Write _ a store = []
 got_by Ignore _ a store = []
+got_by FetchAdd Ok a store = taken_from a 0 a.sent store
+got_by FetchAdd _ a store = a.sent
 
 -- the bytes after an access with this status
 abbrev pub store_after : Way → Response → Access → List ℕ → List ℕ
@@ -81,7 +89,7 @@ store_after Blocking r a store = stored_by a.command r a store
 store_after FourPhase r a store = stored_by a.command r a store
 store_after (Direct g) r a store = stored_by a.command r a store
 
--- what an access with this status answers beside it: a read's buffer, or what a debug read moves
+-- what an access with this status answers beside it: a read's buffer, what a fetch_add found, or what a debug read moves
 abbrev pub got_of : Way → Response → Access → List ℕ → List ℕ
 got_of Debug r a store = take a.length (drop a.offset store)
 got_of Blocking r a store = got_by a.command r a store

@@ -1,7 +1,7 @@
 -- Worked runs: plans and histories that were made by hand.
 use Rattle.std.specs.Prelude.{ℕ, List, [], ◌∷◌, length, true, codes, Some, None}
 use Rattle.tlm_types.specs.declared.words.Command.{Command}
-use Rattle.tlm_types.specs.declared.words.Command.TheVariants.{Read as read_command, Write as write_command, Ignore as ignore_command}
+use Rattle.tlm_types.specs.declared.words.Command.TheVariants.{Read as read_command, Write as write_command, Ignore as ignore_command, FetchAdd as fetch_add_command}
 use Rattle.tlm_types.specs.declared.words.ObjectNo.TheVariants.{Memory as memory_object}
 use Rattle.tlm_types.specs.declared.words.ReqMode.TheVariants.{Accept}
 use Rattle.tlm_types.specs.declared.words.RespMode.TheVariants.{Accept as accept_response}
@@ -13,7 +13,7 @@ use Rattle.tlm_types.specs.declared.entry.Entry.{Entry}
 use Rattle.tlm_types.specs.declared.entry.What.{What}
 use Rattle.tlm_types.specs.declared.entry.What.TheVariants.{Access as Accessed}
 use Rattle.tlm_model.specs.declared.operation.Operation.{Operation}
-use Rattle.tlm_model.specs.declared.operation.Operation.TheVariants.{Write, Read, Ignore, Debug, Copy, Add}
+use Rattle.tlm_model.specs.declared.operation.Operation.TheVariants.{Write, Read, Ignore, Debug, Copy, Add, FetchAdd}
 use Rattle.tlm_model.specs.declared.platform.RouterRow.{RouterRow}
 use Rattle.tlm_model.specs.declared.platform.Style.TheVariants.{Blocking as blocking_style}
 use Rattle.tlm_model.specs.declared.platform.Target.{Target}
@@ -31,12 +31,13 @@ pub record IsWorked (p : Plan) (h : List Entry) : Type 0 where
 abbrev pub plan_of : ℕ → ℕ → Target → List RouterRow → List Operation → Plan
 plan_of quantum latency bind routers script = record {
   platform = record {
+    version = 2;
     quantum = quantum;
     initiators = record { name = codes "cpu"; style = blocking_style; script = codes "a.txt"; bind = bind; pool = 4; response = accept_response } ∷ [];
     routers = routers;
     memories = record {
       name = codes "ram";
-      traits = record { size = 256; latency = latency; readable = true; writable = true; enables = true; streaming = true; dmi = true; gates = 16 };
+      traits = record { size = 256; latency = latency; readable = true; writable = true; fetch_add = true; enables = true; streaming = true; dmi = true; gates = 16 };
       reply = Accept;
       lanes = 4;
     } ∷ [];
@@ -124,6 +125,16 @@ sum_plan = lone (Write 0x0 ones [] None ∷ Add 0x0 2 ∷ Copy 0x0 0x8 4 ∷ [])
 unfoldable pub summed : List Entry
 summed = entry 0 0 0 (wrote 0 ones Ok) ∷ entry 1 1 10 (read 0 ones Ok) ∷ entry 2 2 20 (wrote 0 one Ok) ∷ entry 3 3 30 (read 0 one Ok) ∷ entry 4 4 40 (wrote 8 one Ok) ∷ []
 
+-- a fetch_add that wraps, and one that goes past the end: each is one entry
+unfoldable pub fetch_plan : Plan
+fetch_plan = lone (Write 0x0 ones [] None ∷ FetchAdd 0x0 2 ∷ Read 0x0 4 [] None ∷ FetchAdd 0xfd 1 ∷ [])
+
+abbrev pub two : List ℕ
+two = 2 ∷ 0 ∷ 0 ∷ 0 ∷ []
+
+unfoldable pub fetched : List Entry
+fetched = entry 0 0 0 (wrote 0 ones Ok) ∷ entry 1 1 10 (made Blocking fetch_add_command 0 4 two [] 4 Ok ones) ∷ entry 2 2 20 (read 0 one Ok) ∷ entry 3 3 30 (made Blocking fetch_add_command 0xfd 4 one [] 4 AddressError one) ∷ []
+
 abbrev pub byte_read : ℕ → Operation
 byte_read address = Read address 1 [] None
 
@@ -143,6 +154,14 @@ quantum_plan quantum = plan_of quantum 30 (Memory 0) [] (byte_read 0 ∷ byte_re
 
 unfoldable pub seven_reads : List Entry
 seven_reads = entry 0 0 0 (zero_read 0) ∷ entry 1 1 30 (zero_read 0) ∷ entry 2 2 60 (zero_read 0) ∷ entry 3 3 90 (zero_read 0) ∷ entry 4 4 120 (zero_read 0) ∷ entry 5 5 150 (zero_read 0) ∷ entry 6 6 180 (zero_read 0) ∷ []
+
+-- of the plan that fetches and adds: a read and a write in the place of its first fetch_add
+unfoldable pub fetched_by_two : List Entry
+fetched_by_two = entry 0 0 0 (wrote 0 ones Ok) ∷ entry 1 1 10 (read 0 ones Ok) ∷ entry 2 1 10 (wrote 0 one Ok) ∷ []
+
+-- of the same plan: the operand is answered, and not what stood there
+unfoldable pub operand_answered : List Entry
+operand_answered = entry 0 0 0 (wrote 0 ones Ok) ∷ entry 1 1 10 (made Blocking fetch_add_command 0 4 two [] 4 Ok two) ∷ []
 
 -- of the plan that reads back: a read of a byte that isn't there
 unfoldable pub wrong_byte : List Entry

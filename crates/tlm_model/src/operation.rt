@@ -39,6 +39,12 @@ pub enum Operation {
         address: u64,
         number: u32,
     },
+    /// Reads four bytes and writes them as a little-endian number plus this one, modulo 2^32, in one
+    /// access. It is this project's own.
+    FetchAdd {
+        address: u64,
+        number: u32,
+    },
     /// Lets time pass.
     Wait {
         time: Ps,

@@ -61,10 +61,11 @@ pub struct MemoryRow {
     pub lanes: u32,
 }
 
-/// A platform: the global quantum in picoseconds, 1 to 32 initiators, at most 16 routers, and 1 to 16
-/// memories.
+/// A platform: the version of its file, 1 or 2, the global quantum in picoseconds, 1 to 32 initiators,
+/// at most 16 routers, and 1 to 16 memories. Version 2 has the operation fetch_add.
 #[derive(Drop)]
 pub struct Platform {
+    pub version: u32,
     pub quantum: Ps,
     pub initiators: Rows<InitiatorRow>,
     pub routers: Rows<RouterRow>,

@@ -2,7 +2,7 @@
 //! points of requests for the plan, or that it misses one.
 ghost use Rattle.std.specs.Prelude.{[]};
 ghost use Rattle.tlm_model.specs.Kept.{KeepsRequests, EndsRequests};
-ghost use Rattle.tlm_model.specs.Worked.{IsWorked, cut_short, debug_plan, debugged, doubled, empty_plan, enables, enables_plan, hasty, ignore_plan, ignored, past_end, past_end_plan, quantum_plan, readback, readback_plan, routed, routed_plan, seven_reads, streaming, streaming_plan, sum_plan, summed, swapped, wrong_byte, wrong_status};
+ghost use Rattle.tlm_model.specs.Worked.{IsWorked, cut_short, debug_plan, debugged, doubled, empty_plan, enables, enables_plan, fetch_plan, fetched, fetched_by_two, hasty, ignore_plan, ignored, operand_answered, past_end, past_end_plan, quantum_plan, readback, readback_plan, routed, routed_plan, seven_reads, streaming, streaming_plan, sum_plan, summed, swapped, wrong_byte, wrong_status};
 
 /// Four bytes are written and read back.
 pub fn reads_back()
@@ -44,6 +44,11 @@ pub fn adds_and_copies()
     ensures { IsWorked sum_plan summed }
 {}
 
+/// `fetch_add` answers what it found and writes the sum in one access, and nothing where it is refused.
+pub fn fetches_and_adds()
+    ensures { IsWorked fetch_plan fetched }
+{}
+
 /// A router adds its latency, and refuses an address without a window.
 pub fn passes_a_router()
     ensures { IsWorked routed_plan routed }
@@ -62,6 +67,16 @@ pub fn syncs_without_a_quantum()
 /// A read of other bytes than the store has is not right.
 pub fn wrong_byte_is_not_right()
     ensures { ¬ KeepsRequests readback_plan wrong_byte }
+{}
+
+/// A read and a write in the place of a `fetch_add` are not right.
+pub fn fetch_add_by_two_entries_is_not_right()
+    ensures { ¬ KeepsRequests fetch_plan fetched_by_two }
+{}
+
+/// A `fetch_add` that answers its operand in the place of what it found is not right.
+pub fn answered_operand_is_not_right()
+    ensures { ¬ KeepsRequests fetch_plan operand_answered }
 {}
 
 /// A status that the memory does not give is not right.

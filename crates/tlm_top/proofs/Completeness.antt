@@ -37,39 +37,39 @@ platform_is h (run file workers trace) p q told first second =
     let read : Ok p ≡ Ok q = sym first.read ∙ (ap shaped_platform same ∙ second.read) in cc
 platform_is h (script file) p q told first second = first ∙ sym second
 
-script_is : (h : Holding) (name : List ℕ) (a b : List Operation) → IsTold h name → IsScript h name a → IsScript h name b → a ≡ b
-script_is h name a b told first second =
+script_is : (h : Holding) (version : ℕ) (name : List ℕ) (a b : List Operation) → IsTold h name → IsScript h version name a → IsScript h version name b → a ≡ b
+script_is h version name a b told first second =
     let same = text_is h name first.text second.text told first.loaded second.loaded in
-    let read : Ok a ≡ Ok b = sym first.read ∙ (ap script_of same ∙ second.read) in cc
+    let read : Ok a ≡ Ok b = sym first.read ∙ (ap (script_of version) same ∙ second.read) in cc
 
-scripts_are : (h : Holding) (rows : List InitiatorRow) (xs ys : List (List Operation)) → AllByRecursion (λ (row : InitiatorRow). IsTold h row.script) rows → AreScripts h rows xs → AreScripts h rows ys → xs ≡ ys
-scripts_are h [] [] [] told first second = refl
-scripts_are h [] [] (y ∷ ys) told first second = absurd second
-scripts_are h [] (x ∷ xs) ys told first second = absurd first
-scripts_are h (row ∷ rows) [] ys told first second = absurd first
-scripts_are h (row ∷ rows) (x ∷ xs) [] told first second = absurd second
-scripts_are h (row ∷ rows) (x ∷ xs) (y ∷ ys) told first second =
-    let head = script_is h row.script x y told.0 first.0 second.0 in
-    let rest = scripts_are h rows xs ys told.1 first.1 second.1 in cc
+scripts_are : (h : Holding) (version : ℕ) (rows : List InitiatorRow) (xs ys : List (List Operation)) → AllByRecursion (λ (row : InitiatorRow). IsTold h row.script) rows → AreScripts h version rows xs → AreScripts h version rows ys → xs ≡ ys
+scripts_are h version [] [] [] told first second = refl
+scripts_are h version [] [] (y ∷ ys) told first second = absurd second
+scripts_are h version [] (x ∷ xs) ys told first second = absurd first
+scripts_are h version (row ∷ rows) [] ys told first second = absurd first
+scripts_are h version (row ∷ rows) (x ∷ xs) [] told first second = absurd second
+scripts_are h version (row ∷ rows) (x ∷ xs) (y ∷ ys) told first second =
+    let head = script_is h version row.script x y told.0 first.0 second.0 in
+    let rest = scripts_are h version rows xs ys told.1 first.1 second.1 in cc
 
 -- the script of an initiator, and that its file is told
-pub record HasScript (h : Holding) (row : InitiatorRow) : Type 0 where
+pub record HasScript (h : Holding) (version : ℕ) (row : InitiatorRow) : Type 0 where
   pub operations : List Operation
-  pub is : IsScript h row.script operations
+  pub is : IsScript h version row.script operations
   pub told : IsTold h row.script
 
-script_at : (h : Holding) (rows : List InitiatorRow) (xs : List (List Operation)) (n : ℕ) (row : InitiatorRow) → AllByRecursion (λ (r : InitiatorRow). IsTold h r.script) rows → AreScripts h rows xs → slice_get rows n ≡ Some row → HasScript h row
-script_at h [] xs n row told are at = cc
-script_at h (r ∷ rows) [] n row told are at = absurd are
-script_at h (r ∷ rows) (x ∷ xs) zero row told are at =
-    let e : r ≡ row = cc in subst (λ (i : InitiatorRow). HasScript h i) e (record { operations = x; is = are.0; told = told.0 })
-script_at h (r ∷ rows) (x ∷ xs) (suc n) row told are at = script_at h rows xs n row told.1 are.1 at
+script_at : (h : Holding) (version : ℕ) (rows : List InitiatorRow) (xs : List (List Operation)) (n : ℕ) (row : InitiatorRow) → AllByRecursion (λ (r : InitiatorRow). IsTold h r.script) rows → AreScripts h version rows xs → slice_get rows n ≡ Some row → HasScript h version row
+script_at h version [] xs n row told are at = cc
+script_at h version (r ∷ rows) [] n row told are at = absurd are
+script_at h version (r ∷ rows) (x ∷ xs) zero row told are at =
+    let e : r ≡ row = cc in subst (λ (i : InitiatorRow). HasScript h version i) e (record { operations = x; is = are.0; told = told.0 })
+script_at h version (r ∷ rows) (x ∷ xs) (suc n) row told are at = script_at h version rows xs n row told.1 are.1 at
 
 -- the script that is loaded next is one of the plan
-next_script : (o : Outside) (command : CommandLine) (n : ℕ) (row : InitiatorRow) → IsAmple o command → IsNext o.files.holds command n row → HasScript o.files.holds row
+next_script : (o : Outside) (command : CommandLine) (n : ℕ) (row : InitiatorRow) (ample : IsAmple o command) → IsNext o.files.holds command n row → HasScript o.files.holds ample.plan.platform.version row
 next_script o command n row ample next =
     let same = platform_is o.files.holds command next.platform ample.plan.platform ample.platform next.asked ample.asked.platform in
-    script_at o.files.holds ample.plan.platform.initiators ample.plan.scripts n row ample.scripts ample.asked.scripts
+    script_at o.files.holds ample.plan.platform.version ample.plan.platform.initiators ample.plan.scripts n row ample.scripts ample.asked.scripts
     (ap (λ (p : Platform). slice_get p.initiators n) (sym same) ∙ next.next)
 
 no_refused_file : (o : Outside) (command : CommandLine) (r : PlatformRefusal) → IsAmple o command → HasRefusedFile o.files.holds command r → ⊥
@@ -82,8 +82,8 @@ no_refused_file o (script file) r ample refused = refused
 no_refused_plan : (o : Outside) (command : CommandLine) (r : PlatformRefusal) → IsAmple o command → HasRefusedPlan o.files.holds command r → ⊥
 no_refused_plan o command r ample refused =
     let same = platform_is o.files.holds command refused.plan.platform ample.plan.platform ample.platform refused.asked.platform ample.asked.platform in
-    let scripts = scripts_are o.files.holds ample.plan.platform.initiators refused.plan.scripts ample.plan.scripts ample.scripts
-    (subst (λ (p : Platform). AreScripts o.files.holds p.initiators refused.plan.scripts) same refused.asked.scripts) ample.asked.scripts in
+    let scripts = scripts_are o.files.holds ample.plan.platform.version ample.plan.platform.initiators refused.plan.scripts ample.plan.scripts ample.scripts
+    (subst (λ (p : Platform). AreScripts o.files.holds p.version p.initiators refused.plan.scripts) same refused.asked.scripts) ample.asked.scripts in
     let plans : refused.plan ≡ ample.plan = λ i. record { platform = same i; scripts = scripts i } in
     let wrong : Ok tt ≡ Err r = sym ample.valid.limits ∙ (ap checked_plan (sym plans) ∙ refused.refused) in cc
 
@@ -91,7 +91,9 @@ no_refused_script : (o : Outside) (command : CommandLine) (n : ℕ) (name : List
 no_refused_script o command n name line ample r refused =
     let s = next_script o command n refused.row ample refused.first in
     let same = text_is o.files.holds refused.row.script s.is.text refused.text s.told s.is.loaded refused.loaded in
-    let wrong : Ok s.operations ≡ Err r = sym s.is.read ∙ (ap script_of same ∙ refused.refused) in cc
+    let platform = platform_is o.files.holds command refused.first.platform ample.plan.platform ample.platform refused.first.asked ample.asked.platform in
+    let version = ap (λ (p : Platform). script_of p.version refused.text) platform in
+    let wrong : Ok s.operations ≡ Err r = sym s.is.read ∙ (ap (script_of ample.plan.platform.version) same ∙ (sym version ∙ refused.refused)) in cc
 
 loaded_is_told : (o : Outside) (command : CommandLine) (name : List ℕ) → IsAmple o command → IsLoaded o.files.holds command name → IsTold o.files.holds name
 loaded_is_told o (run file workers trace) name ample (as_platform is) = subst (λ (n : List ℕ). IsTold o.files.holds n) (sym is) ample.platform

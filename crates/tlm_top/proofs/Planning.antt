@@ -19,18 +19,18 @@ use Rattle.tlm_top.specs.declared.exit.Exit.{Exit}
 use Rattle.tlm_top.specs.declared.exit.Exit.TheVariants.{Done, Usage, PlatformRefused, ScriptRefused, ReadFault, WriteFault, NoMemory, TooLong}
 use Rattle.tlm_top.proofs.Loading.{files, held, LoadFault-earlier}
 
-pub AreScripts-length : (h : Holding) (rows : List InitiatorRow) (scripts : List (List Operation)) → AreScripts h rows scripts → length scripts ≡ length rows
-AreScripts-length h [] [] are = refl
-AreScripts-length h [] (s ∷ scripts) are = absurd are
-AreScripts-length h (row ∷ rows) [] are = absurd are
-AreScripts-length h (row ∷ rows) (s ∷ scripts) are = ap suc (AreScripts-length h rows scripts are.1)
+pub AreScripts-length : (h : Holding) (version : ℕ) (rows : List InitiatorRow) (scripts : List (List Operation)) → AreScripts h version rows scripts → length scripts ≡ length rows
+AreScripts-length h version [] [] are = refl
+AreScripts-length h version [] (s ∷ scripts) are = absurd are
+AreScripts-length h version (row ∷ rows) [] are = absurd are
+AreScripts-length h version (row ∷ rows) (s ∷ scripts) are = ap suc (AreScripts-length h version rows scripts are.1)
 
 within : (p q : Plan) (checked : Result (Unit {0}) PlatformRefusal) → (checked >>= λ _. Ok p) ≡ Ok q → q ≡ p
 within p q (Ok tt) is = let same : p ≡ q = cc in sym same
 within p q (Err e) is = cc
 
 -- a plan that was made
-pub planned_is : (h : Holding) (command : CommandLine) (p q : Plan) → IsPlatform h command p.platform → AreScripts h p.platform.initiators p.scripts → planned p ≡ Ok q → IsPlan h command q
+pub planned_is : (h : Holding) (command : CommandLine) (p q : Plan) → IsPlatform h command p.platform → AreScripts h p.platform.version p.platform.initiators p.scripts → planned p ≡ Ok q → IsPlan h command q
 unfolding planned
 planned_is h command p q platform scripts is = subst (IsPlan h command) (sym (within p q (checked_plan p) is)) (record { platform = platform; scripts = scripts })
 
@@ -39,20 +39,20 @@ refused p (Ok tt) r is = cc
 refused p (Err e) r is = let same : e ≡ r = cc in ap Err same
 
 -- a plan whose counts are refused
-pub plan_refused : (h : Holding) (before after : List ℕ → ℕ) (command : CommandLine) (p : Plan) (fault : PlatformFault) → IsPlatform h command p.platform → AreScripts h p.platform.initiators p.scripts → Fails fault (planned p) → IsRefusal (exit_of fault) (files h before after) command
+pub plan_refused : (h : Holding) (before after : List ℕ → ℕ) (command : CommandLine) (p : Plan) (fault : PlatformFault) → IsPlatform h command p.platform → AreScripts h p.platform.version p.platform.initiators p.scripts → Fails fault (planned p) → IsRefusal (exit_of fault) (files h before after) command
 unfolding planned
 plan_refused h before after command p (Refused code table key) platform scripts fails =
     by_its_counts (record { plan = p; asked = record { platform = platform; scripts = scripts }; refused = refused p (checked_plan p) _ fails })
 plan_refused h before after command p Memory platform scripts fails = tt
 
 -- scripts that aren't there
-pub scripts_refused : (f : Files) (command : CommandLine) (p : Platform) (exit : Exit) → IsPlatform f.holds command p → IsFirstFault f p.initiators exit → IsRefusal exit f command
+pub scripts_refused : (f : Files) (command : CommandLine) (p : Platform) (exit : Exit) → IsPlatform f.holds command p → IsFirstFault f p.version p.initiators exit → IsRefusal exit f command
 scripts_refused f command p exit platform first = by_exit exit first.fault
   where
     next : IsNext f.holds command first.number first.row
     next = record { platform = p; asked = platform; scripts = first.scripts; read = first.read; next = first.next }
 
-    by_exit : (e : Exit) → IsScriptFault f first.number first.row e → IsRefusal e f command
+    by_exit : (e : Exit) → IsScriptFault f p.version first.number first.row e → IsRefusal e f command
     by_exit (Done sealed) fault = fault
     by_exit Usage fault = fault
     by_exit (PlatformRefused code table key) fault = absurd fault
@@ -83,7 +83,8 @@ refusal-earlier h0 h f0 f f1 command exit same later is = subst (λ (g : Holding
     by_exit (TooLong name) is = is
 
 -- the scripts that were loaded, as the plan has them
-pub AreScripts-moved : (h0 h : Holding) (rows moved : List InitiatorRow) (scripts taken : List (List Operation)) → ((x : List ℕ) → h x ≡ h0 x) → rows ≡ moved → taken ≡ scripts → AreScripts h rows scripts → AreScripts h0 moved taken
-AreScripts-moved h0 h rows moved scripts taken same to from are =
-    subst (λ (g : Holding). AreScripts g moved taken) (held h0 h same)
-    (subst (λ (rs : List InitiatorRow). AreScripts h rs taken) to (subst (λ (ss : List (List Operation)). AreScripts h rows ss) (sym from) are))
+pub AreScripts-moved : (h0 h : Holding) (v w : ℕ) (rows moved : List InitiatorRow) (scripts taken : List (List Operation)) → ((x : List ℕ) → h x ≡ h0 x) → v ≡ w → rows ≡ moved → taken ≡ scripts → AreScripts h v rows scripts → AreScripts h0 w moved taken
+AreScripts-moved h0 h v w rows moved scripts taken same version to from are =
+    subst (λ (g : Holding). AreScripts g w moved taken) (held h0 h same)
+    (subst (λ (x : ℕ). AreScripts h x moved taken) version
+    (subst (λ (rs : List InitiatorRow). AreScripts h v rs taken) to (subst (λ (ss : List (List Operation)). AreScripts h v rows ss) (sym from) are)))

@@ -50,23 +50,23 @@ abbrev pub IsPlatform : Holding → CommandLine → Platform → Type 0
 IsPlatform h (run file workers trace) p = IsFilePlatform h file p
 IsPlatform h (script file) p = p ≡ built_in_platform file
 
--- the operations of a file
-pub record IsScript (h : Holding) (name : List ℕ) (operations : List Operation) : Type 0 where
+-- the operations of a file, read as a script of this version
+pub record IsScript (h : Holding) (version : ℕ) (name : List ℕ) (operations : List Operation) : Type 0 where
   pub text : List ℕ
   pub loaded : IsText h name text
-  pub read : script_of text ≡ Ok operations
+  pub read : script_of version text ≡ Ok operations
 
 -- the operations of the files of these initiators, in order
-abbrev pub AreScripts : Holding → List InitiatorRow → List (List Operation) → Type 0
-AreScripts h [] [] = Unit {0}
-AreScripts h [] (operations ∷ scripts) = ⊥
-AreScripts h (row ∷ rows) [] = ⊥
-AreScripts h (row ∷ rows) (operations ∷ scripts) = IsScript h row.script operations × AreScripts h rows scripts
+abbrev pub AreScripts : Holding → ℕ → List InitiatorRow → List (List Operation) → Type 0
+AreScripts h version [] [] = Unit {0}
+AreScripts h version [] (operations ∷ scripts) = ⊥
+AreScripts h version (row ∷ rows) [] = ⊥
+AreScripts h version (row ∷ rows) (operations ∷ scripts) = IsScript h version row.script operations × AreScripts h version rows scripts
 
--- a command line asks for this plan: a platform with the scripts of its initiators
+-- a command line asks for this plan: a platform with the scripts of its initiators, which have its version
 pub record IsPlan (h : Holding) (command : CommandLine) (plan : Plan) : Type 0 where
   pub platform : IsPlatform h command plan.platform
-  pub scripts : AreScripts h plan.platform.initiators plan.scripts
+  pub scripts : AreScripts h plan.platform.version plan.platform.initiators plan.scripts
 
 -- the text of a platform file is refused so, or its shape
 pub record IsFileRefused (h : Holding) (file : List ℕ) (refusal : PlatformRefusal) : Type 0 where
@@ -95,7 +95,7 @@ pub record IsNext (h : Holding) (command : CommandLine) (n : ℕ) (row : Initiat
   pub platform : Platform
   pub asked : IsPlatform h command platform
   pub scripts : List (List Operation)
-  pub read : AreScripts h (take n platform.initiators) scripts
+  pub read : AreScripts h platform.version (take n platform.initiators) scripts
   pub next : slice_get platform.initiators n ≡ Some row
 
 -- the script of this initiator is the first that is refused, with this refusal
@@ -105,7 +105,7 @@ pub record IsScriptRefused (h : Holding) (command : CommandLine) (n : ℕ) (name
   pub named : name ≡ row.name
   pub text : List ℕ
   pub loaded : IsText h row.script text
-  pub refused : script_of text ≡ Err refusal
+  pub refused : script_of first.platform.version text ≡ Err refusal
 
 abbrev pub IsPlatformFile : CommandLine → List ℕ → Type 0
 IsPlatformFile (run file workers trace) name = name ≡ file

@@ -24,26 +24,26 @@ abbrev pub IsFileFault : Files → List ℕ → Exit → Type 0
 IsFileFault f file (PlatformRefused code table key) = IsFileRefused f.holds file (record { code = code; table = table; key = key })
 IsFileFault f file exit = IsLoadFault f file exit
 
--- a text under this name is refused as a script
-pub record IsTextRefused (h : Holding) (name : List ℕ) (refusal : ScriptRefusal) : Type 0 where
+-- a text under this name is refused as a script of this version
+pub record IsTextRefused (h : Holding) (version : ℕ) (name : List ℕ) (refusal : ScriptRefusal) : Type 0 where
   pub text : List ℕ
   pub loaded : IsText h name text
-  pub refused : script_of text ≡ Err refusal
+  pub refused : script_of version text ≡ Err refusal
 
 -- the load of the script of initiator number n failed, or its text is refused
-abbrev pub IsScriptFault : Files → ℕ → InitiatorRow → Exit → Type 0
-IsScriptFault f n row (ScriptRefused initiator name line code) =
-    (initiator ≡ n) × (name ≡ row.name) × IsTextRefused f.holds row.script (record { line = line; code = code })
-IsScriptFault f n row exit = IsLoadFault f row.script exit
+abbrev pub IsScriptFault : Files → ℕ → ℕ → InitiatorRow → Exit → Type 0
+IsScriptFault f version n row (ScriptRefused initiator name line code) =
+    (initiator ≡ n) × (name ≡ row.name) × IsTextRefused f.holds version row.script (record { line = line; code = code })
+IsScriptFault f version n row exit = IsLoadFault f row.script exit
 
 -- the first script of these initiators that isn't there
-pub record IsFirstFault (f : Files) (rows : List InitiatorRow) (exit : Exit) : Type 0 where
+pub record IsFirstFault (f : Files) (version : ℕ) (rows : List InitiatorRow) (exit : Exit) : Type 0 where
   pub number : ℕ
   pub row : InitiatorRow
   pub next : slice_get rows number ≡ Some row
   pub scripts : List (List Operation)
-  pub read : AreScripts f.holds (take number rows) scripts
-  pub fault : IsScriptFault f number row exit
+  pub read : AreScripts f.holds version (take number rows) scripts
+  pub fault : IsScriptFault f version number row exit
 
 -- what a load that failed is answered with
 abbrev pub IsLoadAnswer : List ℕ → LoadFault → Exit → Type 0

@@ -17,6 +17,7 @@ fn ram_traits() -> MemoryTraits
         latency: 10,
         readable: true,
         writable: true,
+        fetch_add: false,
         enables: true,
         streaming: true,
         dmi: true,
@@ -63,6 +64,7 @@ fn platform(alloc: Global, file: &str) -> Result<Platform, Memory>
     ensures { IfOk result (λ p. p ≡ built_in_platform file.now) }
 {
     Ok(Platform {
+        version: 1,
         quantum: 0,
         initiators: initiators(alloc, file)?,
         routers: Rows::from_vec(Vec::new(alloc)),

@@ -90,48 +90,51 @@ fn script_failed(alloc: Global, number: u32, row: &InitiatorRow, fault: ScriptFa
     }
 }
 
-// The script of the initiator of this number.
+// The script of the initiator of this number, in this version.
 fn load_script<L: Library>(
     alloc: Global,
     lib: &mut L,
+    version: u32,
     number: u32,
     row: &InitiatorRow,
 ) -> Result<Script, Exit>
     ensures same { (n : List ℕ) → L.holds lib.new n ≡ L.holds lib.old n }
     ensures later { (n : List ℕ) → L.faults lib.old n ≤ L.faults lib.new n }
-    ensures script { IfOk result (λ s. IsScript (L.holds lib.old) row.now.script s) }
+    ensures script { IfOk result (λ s. IsScript (L.holds lib.old) version row.now.script s) }
     ensures fault { IfErr result (IsScriptFault (record {
       holds = L.holds lib.old;
       faults_before = L.faults lib.old;
       faults_after = L.faults lib.new;
-    }) number row.now) }
+    }) version number row.now) }
 {
     let bytes = load(alloc, lib, row.script.as_text())?;
-    match read_script(alloc, &bytes) {
+    match read_script(alloc, &bytes, version) {
         Ok(script) => Ok(script),
         Err(fault) => Err(script_failed(alloc, number, row, fault)),
     }
 }
 
-/// The scripts of these initiators, in order. Each is loaded and read before the next is loaded.
+/// The scripts of these initiators, in order, of the version of their platform. Each is loaded and read
+/// before the next is loaded.
 pub fn load_scripts<L: Library>(
     alloc: Global,
     lib: &mut L,
+    version: u32,
     rows: &[InitiatorRow],
 ) -> Result<Vec<Script>, Exit>
     requires few { length rows.now ≤ 32 }
     ensures same { (n : List ℕ) → L.holds lib.new n ≡ L.holds lib.old n }
     ensures later { (n : List ℕ) → L.faults lib.old n ≤ L.faults lib.new n }
-    ensures scripts { IfOk result (λ v. AreScripts (L.holds lib.old) rows.now v.items) }
+    ensures scripts { IfOk result (λ v. AreScripts (L.holds lib.old) version rows.now v.items) }
     ensures fault { IfErr result (IsFirstFault (record {
       holds = L.holds lib.old;
       faults_before = L.faults lib.old;
       faults_after = L.faults lib.new;
-    }) rows.now) }
+    }) version rows.now) }
 {
     let mut scripts = Vec::new(alloc);
     for (number, row) in rows.iter().enumerate() {
-        let script = load_script(alloc, lib, number as u32, row)?;
+        let script = load_script(alloc, lib, version, number as u32, row)?;
         scripts.push(script)?;
     }
     Ok(scripts)

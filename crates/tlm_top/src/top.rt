@@ -50,7 +50,12 @@ fn plan_of<L: Library>(alloc: Global, lib: &mut L, command: Command) -> Result<P
     }) (line_of command.entry)) }
 {
     let shape = shape_of(alloc, lib, command)?;
-    let scripts = load_scripts(alloc, lib, shape.platform().initiators.as_slice())?;
+    let scripts = load_scripts(
+        alloc,
+        lib,
+        shape.platform().version,
+        shape.platform().initiators.as_slice(),
+    )?;
     Ok(plan(alloc, shape, scripts.as_slice())?)
 }
 

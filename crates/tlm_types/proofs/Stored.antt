@@ -12,7 +12,7 @@ use Rattle.tlm_types.specs.declared.log.long.Plain.TheVariants as plains
 use Rattle.tlm_types.specs.declared.log.long.Span.{Span}
 use Rattle.tlm_types.specs.declared.words.Command.{Command}
 use Rattle.tlm_types.specs.declared.words.Way.{Way}
-use Rattle.tlm_types.specs.declared.words.Command.TheVariants.{Read, Write, Ignore}
+use Rattle.tlm_types.specs.declared.words.Command.TheVariants.{Read, Write, Ignore, FetchAdd}
 use Rattle.tlm_types.specs.Log.{access_by, entry_at, kept_of, kept_sent, plain_of, read_at, sent_by}
 use Rattle.tlm_types.specs.LogItem.{what_in, item_entry, entries_of, item_for, plain_in, stored_at, IsKept, IsLast}
 
@@ -86,6 +86,7 @@ kept_sent-sent_by : (command : Command) (way : Way) (n : ℕ) (sent : List ℕ) 
 kept_sent-sent_by Read way n sent none = sym (none refl)
 kept_sent-sent_by Write way n sent none = refl
 kept_sent-sent_by Ignore way n sent none = refl
+kept_sent-sent_by FetchAdd way n sent none = refl
 
 -- of an access those bytes are kept that were handed in
 pub kept_of-access_by : (f : Facts) (sent enables got : List ℕ) → (f.command ≡ Read → sent ≡ []) → kept_of (access_by f sent enables got) ≡ length sent + length enables + length got

@@ -1,7 +1,7 @@
 -- What is seen of the log of an object: its entries, and what is read of one.
 use Rattle.std.specs.Prelude.{ℕ, Bool, true, false, ◌-◌, ◌+◌, List, ◌∷◌, [], ◌++◌, length, replicate, Option, Some, None, slice_get, option_and_then}
 use Rattle.tlm_types.specs.declared.words.Command.{Command}
-use Rattle.tlm_types.specs.declared.words.Command.TheVariants.{Read, Write, Ignore}
+use Rattle.tlm_types.specs.declared.words.Command.TheVariants.{Read, Write, Ignore, FetchAdd}
 use Rattle.tlm_types.specs.declared.words.Way.{Way}
 use Rattle.tlm_types.specs.declared.words.Way.TheVariants.{Blocking, FourPhase, Direct, Debug}
 use Rattle.tlm_types.specs.declared.entry.Entry.{Entry}
@@ -32,6 +32,7 @@ abbrev pub sent_by : Command → Way → ℕ → List ℕ → List ℕ
 sent_by Read way n kept = read_sends way n
 sent_by Write way n kept = kept
 sent_by Ignore way n kept = kept
+sent_by FetchAdd way n kept = kept
 
 -- the access with these parts
 abbrev pub access_by : Facts → List ℕ → List ℕ → List ℕ → What
@@ -46,6 +47,7 @@ abbrev pub kept_sent : Command → List ℕ → List ℕ
 kept_sent Read sent = []
 kept_sent Write sent = sent
 kept_sent Ignore sent = sent
+kept_sent FetchAdd sent = sent
 
 -- how many bytes a log keeps of what happened
 abbrev pub kept_of : What → ℕ

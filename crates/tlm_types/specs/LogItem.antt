@@ -20,7 +20,7 @@ use Rattle.tlm_types.specs.declared.log.long.Plain.TheVariants.{Granted, Invalid
 use Rattle.tlm_types.specs.declared.log.long.Span.{Span}
 use Rattle.tlm_types.specs.declared.log.long.StoredAccess.{StoredAccess}
 use Rattle.tlm_types.specs.declared.words.Command.{Command}
-use Rattle.tlm_types.specs.declared.words.Command.TheVariants.{Read, Write, Ignore}
+use Rattle.tlm_types.specs.declared.words.Command.TheVariants.{Read, Write, Ignore, FetchAdd}
 use Rattle.tlm_types.specs.declared.words.ObjectNo.{ObjectNo}
 use Rattle.tlm_types.specs.declared.words.ObjectNo.TheVariants.{Memory, Hop, Pool}
 use Rattle.tlm_types.specs.declared.words.Response.TheVariants.{Ok}
@@ -117,6 +117,7 @@ abbrev pub short_span : Command → ℕ → ℕ → Span
 short_span Read start n = record { start = start; enables_start = start; got_start = start; end = start + n }
 short_span Write start n = record { start = start; enables_start = start + n; got_start = start + n; end = start + n }
 short_span Ignore start n = record { start = start; enables_start = start + n; got_start = start + n; end = start + n }
+short_span FetchAdd start n = record { start = start; enables_start = start + n; got_start = start + n; end = start + n }
 
 -- the head with these numbers of this initiator at this object
 abbrev pub full_head : ShortHead → ℕ → ObjectNo → Head

@@ -3,8 +3,8 @@ use crate::bytes::Bytes;
 use crate::words::{Command, Kind, ObjectNo, Phase, Ps, Response, TlmSync, TxnId, Way};
 
 /// What an access asks for, as it reaches a memory: the offset there, the data length in bytes, the
-/// bytes sent (for a read as many zeros; for a debug read none), the byte enables, and the streaming
-/// width (clause 14).
+/// bytes sent (for a read as many zeros, for a debug read none, for a fetch_add its operand, the least
+/// byte first), the byte enables, and the streaming width (clause 14).
 #[derive(Drop)]
 pub struct Access {
     pub command: Command,
@@ -18,8 +18,9 @@ pub struct Access {
 /// What happened.
 #[derive(Drop)]
 pub enum What {
-    /// An access at a memory. `got` is a read's buffer afterwards, or the bytes that a debug read
-    /// moved, and is empty for a write or an ignore.
+    /// An access at a memory. `got` is a read's buffer afterwards, the bytes that a debug read moved,
+    /// or those that a fetch_add found (its operand where it wasn't OK), and is empty for a write or an
+    /// ignore.
     Access {
         way: Way,
         access: Access,

@@ -42,12 +42,14 @@ pub enum ObjectNo {
     Pool(u32),
 }
 
-/// `tlm_command` (clause 14.9).
+/// `tlm_command` (clause 14.9), and `FetchAdd`, which is this project's own: it reads four bytes and
+/// stores their sum with an operand in the same step.
 #[derive(Clone, Copy, Debug, PartialEq, Eq)]
 pub enum Command {
     Read,
     Write,
     Ignore,
+    FetchAdd,
 }
 
 /// `tlm_response_status` (clause 14.17).
@@ -134,13 +136,15 @@ pub enum RespMode {
 }
 
 /// A memory's size in bytes and latency in picoseconds, the commands and parts of the payload that
-/// it allows, whether it grants direct access, and by how many gates.
+/// it allows, whether it grants direct access, and by how many gates. A memory allows a fetch_add where
+/// `readable`, `writable` and `fetch_add` are all true.
 #[derive(Clone, Copy, Debug, PartialEq, Eq)]
 pub struct MemoryTraits {
     pub size: u64,
     pub latency: Ps,
     pub readable: bool,
     pub writable: bool,
+    pub fetch_add: bool,
     pub enables: bool,
     pub streaming: bool,
     pub dmi: bool,

@@ -18,3 +18,5 @@ mod scripts;
 mod streams;
 #[cfg(test)]
 mod threads;
+#[cfg(test)]
+mod versions;

@@ -7,7 +7,7 @@ use Rattle.tlm_types.specs.declared.entry.Entry.{Entry}
 use Rattle.tlm_types.specs.declared.entry.What.{What}
 use Rattle.tlm_types.specs.declared.entry.What.TheVariants.{Access as Accessed, Granted, Invalidated, Closed, Call, Take, Acquire, Release}
 use Rattle.tlm_model.specs.declared.operation.Operation.{Operation}
-use Rattle.tlm_model.specs.declared.operation.Operation.TheVariants.{Write, Read, Ignore, Debug, Copy, Add, Wait, Sync, Fence, Invalidate}
+use Rattle.tlm_model.specs.declared.operation.Operation.TheVariants.{Write, Read, Ignore, Debug, Copy, Add, FetchAdd, Wait, Sync, Fence, Invalidate}
 use Rattle.tlm_model.specs.declared.platform.Platform.{Platform}
 use Rattle.tlm_model.specs.declared.platform.Style.{Style}
 use Rattle.tlm_model.specs.declared.platform.Style.TheVariants.{Blocking}
@@ -56,6 +56,7 @@ asks-accesses p i h s t g (Copy from to n ∷ ops) proper =
     (λ closes. closes, used-each AsksAccess (buffer_of p i h s from n) _ (λ got is. (λ closes. closes, asks-accesses p i h (s + 2) (later (later t (latency_of p i from)) (latency_of p i to)) (g + 3) ops proper.1)))
 asks-accesses p i h s t g (Add a n ∷ ops) proper =
     (λ closes. closes, used-each AsksAccess (buffer_of p i h s a 4) _ (λ got is. (λ closes. closes, asks-accesses p i h (s + 2) (later (later t (latency_of p i a)) (latency_of p i a)) (g + 3) ops proper.1)))
+asks-accesses p i h s t g (FetchAdd a n ∷ ops) proper = (λ closes. closes, asks-accesses p i h (s + 1) (later t (latency_of p i a)) (g + 2) ops proper.1)
 asks-accesses p i h s t g (Wait n ∷ ops) proper = asks-accesses p i h s (later t n) (g + 1) ops proper.1
 asks-accesses p i h s t g (Sync ∷ ops) proper = asks-accesses p i h s t (g + 1) ops proper.1
 asks-accesses p i h s t g (Fence ∷ ops) proper = asks-accesses p i h s t (g + 1) ops proper.1

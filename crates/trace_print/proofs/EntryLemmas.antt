@@ -6,7 +6,7 @@ use Rattle.std.specs.List.{join_with_byte}
 use Rattle.std.proofs.lemmas.List.{map-append}
 use Rattle.std.proofs.lemmas.List.Elements.{filter-append}
 use Rattle.tlm_types.specs.declared.words.Command.{Command}
-use Rattle.tlm_types.specs.declared.words.Command.TheVariants.{Read, Write, Ignore}
+use Rattle.tlm_types.specs.declared.words.Command.TheVariants.{Read, Write, Ignore, FetchAdd}
 use Rattle.tlm_types.specs.declared.words.ObjectNo.{ObjectNo}
 use Rattle.tlm_types.specs.declared.words.ObjectNo.TheVariants.{Memory as memory_object}
 use Rattle.tlm_types.specs.declared.words.TlmSync.{TlmSync}
@@ -19,11 +19,11 @@ use Rattle.tlm_types.specs.Log.{enables_of, facts_of, got_of, plain_of, sent_of}
 use Rattle.tlm_model.specs.declared.platform.Platform.{Platform}
 use Rattle.tlm_model.specs.declared.trace.Trace.{Trace}
 use Rattle.tlm_model.specs.declared.trace.Trace.TheVariants.{All, Accesses, None as no_entries}
-use Rattle.report_model.specs.Report.{command_word, entry_words, freed_words, initiator_name, kind_word, memory_name, object_word, phase_word, range_word, shown_by, status_word, sync_words, traced, txn_word, way_word, what_words}
+use Rattle.report_model.specs.Report.{bytes_word, command_word, entry_words, freed_words, has_operand, initiator_name, kind_word, memory_name, object_word, operand_text, phase_word, range_word, shown_by, status_word, sync_words, traced, txn_word, way_word, what_words}
 use Rattle.tlm_types.specs.Log.{is_access}
 use Rattle.tlm_model.specs.Text.{address_word, data_word, line_of}
 use Rattle.trace_print.specs.Pieces.{asked_text, seq_text, status_text, times_text, unmasked_text, width_text}
-use Rattle.trace_print.specs.Told.{access_words, shown_at, shown_of, text_of}
+use Rattle.trace_print.specs.Told.{access_words, operand_at, shown_at, shown_of, text_of}
 use Rattle.trace_print.proofs.TextLemmas.{access-line, head-front}
 pub use Rattle.trace_print.proofs.Texts.{text-append, text-one}
 
@@ -65,7 +65,7 @@ pub entry-line-is : (p t n o : List ℕ) (w : What) →
     (join_with_byte 32 (p ∷ t ∷ n ∷ o ∷ []) ++ codes " ") ++ (join_with_byte 32 (what_words w) ++ (10 ∷ [])) ≡ line_of (p ∷ t ∷ n ∷ o ∷ what_words w)
 entry-line-is p t n o (Accessed way a status got) =
     line-is p t n o (way_word way) (command_word a.command ∷ address_word a.offset ∷ decimal a.length ∷ (codes "be=" ++ data_word a.enables) ∷
-    (codes "sw=" ++ decimal a.width) ∷ data_word (shown_by a.command a got) ∷ status_word status ∷ [])
+    (codes "sw=" ++ decimal a.width) ∷ bytes_word a.command a got ∷ status_word status ∷ [])
 entry-line-is p t n o (Granted g f l k) = line-is p t n o (codes "granted") (decimal g ∷ range_word f l ∷ kind_word k ∷ [])
 entry-line-is p t n o (Invalidated f l) = line-is p t n o (codes "invalidated") (range_word f l ∷ [])
 entry-line-is p t n o (Closed g) = line-is p t n o (codes "closed") (decimal g ∷ [])
@@ -87,27 +87,28 @@ call-words w (Updated f) = refl
 call-words w Completed = refl
 
 -- an access is told by its plain parts, its enables and the bytes that it shows
-pub access-is : (w : What) (f : Facts) (enables shown : List ℕ) → facts_of w ≡ Some f → enables_of w ≡ Some enables → shown_at w ≡ Some shown → access_words f enables shown ≡ what_words w
-access-is (Accessed way a status got) f enables shown ef ee es =
+pub access-is : (w : What) (f : Facts) (enables operand shown : List ℕ) → facts_of w ≡ Some f → enables_of w ≡ Some enables → operand_at w ≡ Some operand → shown_at w ≡ Some shown → access_words f enables operand shown ≡ what_words w
+access-is (Accessed way a status got) f enables operand shown ef ee eo es =
     let facts : f ≡ record { way = way; command = a.command; offset = a.offset; length = a.length; width = a.width; status = status } = cc in
     let here : enables ≡ a.enables = cc in
+    let before : operand ≡ operand_text a.command a.sent = cc in
     let bytes : shown ≡ shown_by a.command a got = cc in
-    rw (facts, here, bytes) refl
-access-is (Granted g f l k) facts enables shown ef ee es = cc
-access-is (Invalidated f l) facts enables shown ef ee es = cc
-access-is (Closed g) facts enables shown ef ee es = cc
-access-is (Call f a) facts enables shown ef ee es = cc
-access-is (Take s) facts enables shown ef ee es = cc
-access-is (Acquire s) facts enables shown ef ee es = cc
-access-is (Release s f) facts enables shown ef ee es = cc
+    rw (facts, here, before, bytes) refl
+access-is (Granted g f l k) facts enables operand shown ef ee eo es = cc
+access-is (Invalidated f l) facts enables operand shown ef ee eo es = cc
+access-is (Closed g) facts enables operand shown ef ee eo es = cc
+access-is (Call f a) facts enables operand shown ef ee eo es = cc
+access-is (Take s) facts enables operand shown ef ee eo es = cc
+access-is (Acquire s) facts enables operand shown ef ee eo es = cc
+access-is (Release s f) facts enables operand shown ef ee eo es = cc
 
 -- the line of an access at a memory, from its parts, where no byte is masked
-pub access-text-is : (p : Platform) (e : Entry) (memory : ℕ) (f : Facts) (enables shown : List ℕ) → e.object ≡ memory_object memory → facts_of e.what ≡ Some f → enables_of e.what ≡ Some enables → shown_at e.what ≡ Some shown → codes "-" ≡ data_word enables →
+pub access-text-is : (p : Platform) (e : Entry) (memory : ℕ) (f : Facts) (enables shown : List ℕ) → e.object ≡ memory_object memory → facts_of e.what ≡ Some f → enables_of e.what ≡ Some enables → operand_at e.what ≡ Some [] → shown_at e.what ≡ Some shown → codes "-" ≡ data_word enables →
     times_text e.position e.time ++ (initiator_name p e.txn.initiator ++ (seq_text e.txn.seq ++ (memory_name p memory ++ (unmasked_text f ++ (data_word shown ++ status_text f.status))))) ≡ line_of (entry_words p e)
-access-text-is p e memory f enables shown at facts masks bytes none =
+access-text-is p e memory f enables shown at facts masks alone bytes none =
     let name = initiator_name p e.txn.initiator in
     let behind = unmasked_text f ++ (data_word shown ++ status_text f.status) in
-    let words = access-is e.what f enables shown facts masks bytes in
+    let words = access-is e.what f enables [] shown facts masks alone bytes in
     let front = head-front (decimal e.position) (decimal e.time) name (codes ".") (decimal e.txn.seq) (memory_name p memory) (codes " ") behind in
     let told : behind ≡ codes " " ++ line_of (what_words e.what) =
     ap (λ (dash : List ℕ). (asked_text f ++ (dash ++ width_text f.width)) ++ (data_word shown ++ status_text f.status)) none
@@ -174,7 +175,45 @@ shown-ignore (Take s) f ef ec = cc
 shown-ignore (Acquire s) f ef ec = cc
 shown-ignore (Release s x) f ef ec = cc
 
+pub shown-fetch : (w : What) (f : Facts) (got : List ℕ) → facts_of w ≡ Some f → f.command ≡ FetchAdd → got_of w ≡ Some got → shown_at w ≡ Some got
+shown-fetch (Accessed way a status g) f got ef ec eg = let c : a.command ≡ FetchAdd = ap (λ (r : Facts). r.command) (some-same _ f ef) ∙ ec in let b : g ≡ got = cc in rw (c, b) refl
+shown-fetch (Granted g x l k) f got ef ec eg = cc
+shown-fetch (Invalidated x l) f got ef ec eg = cc
+shown-fetch (Closed g) f got ef ec eg = cc
+shown-fetch (Call x a) f got ef ec eg = cc
+shown-fetch (Take s) f got ef ec eg = cc
+shown-fetch (Acquire s) f got ef ec eg = cc
+shown-fetch (Release s x) f got ef ec eg = cc
+
+-- without an operand nothing is printed before the bytes
+pub no-operand : (c : Command) (sent : List ℕ) → has_operand c ≡ false → operand_text c sent ≡ []
+no-operand c sent none = rw none refl
+
+operand-by : (c d : Command) (x sent : List ℕ) → d ≡ c → (d ≢ Read → x ≡ sent) → operand_text d sent ≡ operand_text c x
+operand-by Read d x sent e s = rw e refl
+operand-by Write d x sent e s = rw e refl
+operand-by Ignore d x sent e s = rw e refl
+operand-by FetchAdd d x sent e s =
+    let same : x ≡ sent = s (λ r. let no : FetchAdd ≡ Read = sym e ∙ r in cc (no)) in
+    rw (e, same) refl
+
+operand-of : (w : What) (f : Facts) (sent : List ℕ) → facts_of w ≡ Some f → (f.command ≢ Read → sent_of w ≡ Some sent) → Some (operand_text f.command sent) ≡ operand_at w
+operand-of (Accessed way a status g) f sent ef es =
+    let c : f.command ≡ a.command = sym (ap (λ (r : Facts). r.command) (some-same _ f ef)) in
+    ap Some (operand-by a.command f.command a.sent sent c (λ r. some-same a.sent sent (es r)))
+operand-of (Granted g x l k) f sent ef es = cc
+operand-of (Invalidated x l) f sent ef es = cc
+operand-of (Closed g) f sent ef es = cc
+operand-of (Call x a) f sent ef es = cc
+operand-of (Take s) f sent ef es = cc
+operand-of (Acquire s) f sent ef es = cc
+operand-of (Release s x) f sent ef es = cc
+
 -- the same at a place of a history
+pub operand-access-at : (o : Option Entry) (f : Facts) (sent : List ℕ) → option_and_then (λ (e : Entry). facts_of e.what) o ≡ Some f → (f.command ≢ Read → option_and_then (λ (e : Entry). sent_of e.what) o ≡ Some sent) → Some (operand_text f.command sent) ≡ option_and_then (λ (e : Entry). operand_at e.what) o
+operand-access-at None f sent facts s = cc
+operand-access-at (Some e) f sent facts s = operand-of e.what f sent facts s
+
 pub shown-read-at : (o : Option Entry) (f : Facts) (got : List ℕ) → option_and_then (λ (e : Entry). facts_of e.what) o ≡ Some f → f.command ≡ Read → option_and_then (λ (e : Entry). got_of e.what) o ≡ Some got → Some got ≡ option_and_then (λ (e : Entry). shown_at e.what) o
 shown-read-at None f got a c b = cc
 shown-read-at (Some e) f got a c b = sym (shown-read e.what f got a c b)
@@ -187,11 +226,16 @@ pub shown-ignore-at : (o : Option Entry) (f : Facts) → option_and_then (λ (e 
 shown-ignore-at None f a c = cc
 shown-ignore-at (Some e) f a c = sym (shown-ignore e.what f a c)
 
+pub shown-fetch-at : (o : Option Entry) (f : Facts) (got : List ℕ) → option_and_then (λ (e : Entry). facts_of e.what) o ≡ Some f → f.command ≡ FetchAdd → option_and_then (λ (e : Entry). got_of e.what) o ≡ Some got → Some got ≡ option_and_then (λ (e : Entry). shown_at e.what) o
+shown-fetch-at None f got a c b = cc
+shown-fetch-at (Some e) f got a c b = sym (shown-fetch e.what f got a c b)
+
 shown-by-command : (o : Option Entry) (f : Facts) (sent got : List ℕ) (c : Command) → f.command ≡ c → option_and_then (λ (e : Entry). facts_of e.what) o ≡ Some f → (f.command ≢ Read → option_and_then (λ (e : Entry). sent_of e.what) o ≡ Some sent) →
     option_and_then (λ (e : Entry). got_of e.what) o ≡ Some got → Some (shown_of c sent got) ≡ option_and_then (λ (e : Entry). shown_at e.what) o
 shown-by-command o f sent got Read e facts s g = shown-read-at o f got facts e g
 shown-by-command o f sent got Write e facts s g = shown-write-at o f sent facts e (s (λ r. let no : Write ≡ Read = sym e ∙ r in cc (no)))
 shown-by-command o f sent got Ignore e facts s g = shown-ignore-at o f facts e
+shown-by-command o f sent got FetchAdd e facts s g = shown-fetch-at o f got facts e g
 
 pub shown-access-at : (o : Option Entry) (f : Facts) (sent got : List ℕ) → option_and_then (λ (e : Entry). facts_of e.what) o ≡ Some f → (f.command ≢ Read → option_and_then (λ (e : Entry). sent_of e.what) o ≡ Some sent) →
     option_and_then (λ (e : Entry). got_of e.what) o ≡ Some got → Some (shown_of f.command sent got) ≡ option_and_then (λ (e : Entry). shown_at e.what) o

@@ -12,7 +12,7 @@ use Rattle.tlm_types.specs.declared.entry.Entry.{Entry}
 use Rattle.tlm_types.specs.declared.entry.What.{What}
 use Rattle.tlm_types.specs.declared.entry.What.TheVariants.{Access as Accessed, Granted, Invalidated, Closed, Call, Take, Acquire, Release}
 use Rattle.tlm_model.specs.declared.operation.Operation.{Operation}
-use Rattle.tlm_model.specs.declared.operation.Operation.TheVariants.{Write, Read, Ignore, Debug, Copy, Add, Wait, Sync, Fence, Invalidate}
+use Rattle.tlm_model.specs.declared.operation.Operation.TheVariants.{Write, Read, Ignore, Debug, Copy, Add, FetchAdd, Wait, Sync, Fence, Invalidate}
 use Rattle.tlm_model.specs.declared.platform.Platform.{Platform}
 use Rattle.tlm_model.specs.Each.{EachFrom}
 use Rattle.tlm_model.specs.Plan.{Plan, Initiator}
@@ -52,6 +52,7 @@ counted p i h s t g (Add a n ∷ ops) =
     let two : s + 2 ≡ s + 1 + 1 = omega arith in
     let rs = requests_from p i h (s + 2) (later (later t (latency_of p i a)) (latency_of p i a)) (g + 3) ops in
     (refl, used-counted (s + 1) (buffer_of p i h s a 4) _ (λ got. (refl, subst (λ (m : ℕ). AreCounted m rs) two (counted p i h (s + 2) (later (later t (latency_of p i a)) (latency_of p i a)) (g + 3) ops))))
+counted p i h s t g (FetchAdd a n ∷ ops) = (refl, counted p i h (s + 1) (later t (latency_of p i a)) (g + 2) ops)
 counted p i h s t g (Wait n ∷ ops) = counted p i h s (later t n) (g + 1) ops
 counted p i h s t g (Sync ∷ ops) = counted p i h s t (g + 1) ops
 counted p i h s t g (Fence ∷ ops) = counted p i h s t (g + 1) ops

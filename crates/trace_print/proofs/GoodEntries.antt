@@ -1,5 +1,5 @@
 -- The accesses of a good history of a valid plan can be told.
-use Rattle.std.proofs.Common.{◌≡◌, ℕ, zero, suc, ◌+◌, ◌-◌, ◌^◌, ◌<◌, ◌≤◌, ◌==◌, Bool, true, false, List, [], ◌∷◌, ◌++◌, length, map, take, drop, Option, Some, None, leb, refl, sym, ap, subst, ◌∙◌, arith}
+use Rattle.std.proofs.Common.{◌≡◌, ℕ, zero, suc, ◌+◌, ◌-◌, ◌%◌, ◌^◌, ◌<◌, ◌≤◌, ◌==◌, Bool, true, false, List, [], ◌∷◌, ◌++◌, length, map, take, drop, Option, Some, None, leb, refl, sym, ap, subst, ◌∙◌, arith}
 use Rattle.std.specs.Prelude.{IfSome, if◌then◌else◌, slice_get, slice_index, slice_set}
 use Rattle.std.specs.List.{AllByRecursion}
 use Rattle.std.specs.Option.{option_map}
@@ -8,7 +8,7 @@ use Rattle.std.proofs.lemmas.List.{length-take}
 use Rattle.std.proofs.lemmas.Option.{slice_get-map, slice_get_within}
 use Rattle.addr_router.specs.Windows.{IsProper as IsProperWindow}
 use Rattle.tlm_types.specs.declared.words.Command.{Command}
-use Rattle.tlm_types.specs.declared.words.Command.TheVariants.{Read, Write, Ignore}
+use Rattle.tlm_types.specs.declared.words.Command.TheVariants.{Read, Write, Ignore, FetchAdd}
 use Rattle.tlm_types.specs.declared.words.ObjectNo.{ObjectNo}
 use Rattle.tlm_types.specs.declared.words.ObjectNo.TheVariants.{Memory as memory_object}
 use Rattle.tlm_types.specs.declared.words.Response.{Response}
@@ -31,8 +31,9 @@ use Rattle.tlm_model.specs.Each.{EachFrom}
 use Rattle.good_history.specs.Good.{IsGood}
 use Rattle.tlm_model.specs.History.{IsAnswer, IsLegalEntry, IsLegalFrom, IsNumberedFrom, Store, after, opening_store, put, zeros_of}
 use Rattle.tlm_model.specs.Plan.{Plan, Initiator}
-use Rattle.report_model.specs.Report.{shown_by}
+use Rattle.report_model.specs.Report.{operand_in, shown_by}
 use Rattle.tlm_types.specs.Log.{is_access}
+use Rattle.tlm_model.specs.Numbers.{added, le_number}
 use Rattle.tlm_model.specs.Requests.{Asked, Transport, DebugRead, Invalidation, Request, got_in, requests_of}
 use Rattle.tlm_model.specs.Route.{Found, Route, into_memory, into_router, into_window, window_has, later, latency_of, before_of, route_of, walk, window_of}
 use Rattle.tlm_model.specs.Scripts.{HasWay, IsAccessOf, IsEntryOf, IsWay, OfRequest}
@@ -51,7 +52,7 @@ use Rattle.trace_print.proofs.Accesses.{IsOfAccesses, Replies, Ways, are-accesse
 use Rattle.trace_print.proofs.FewEntries.{few-entries}
 use Rattle.trace_print.proofs.GoodNames.{all_got}
 use Rattle.trace_print.proofs.OfRequests.{all-at, at-request, request-of, script-of}
-use Rattle.trace_print.proofs.Requested.{IsBuffer, IsGotten, IsSentAsUsual, IsToldAsked, IsToldDebugRead, IsToldRequest, IsToldTransport, later-small, requests-few, requests-told, zeros-bytes}
+use Rattle.trace_print.proofs.Requested.{IsBuffer, IsGotten, IsSentAsUsual, IsToldAsked, IsToldDebugRead, IsToldRequest, IsToldTransport, later-small, le-bytes, requests-few, requests-told, zeros-bytes}
 
 -- bytes of memories
 
@@ -107,6 +108,7 @@ put-stored s h m bytes g k = either-bytes (m == k) bytes (s k) g (h k)
 
 stored-bytes : (c : Command) (r : Response) (a : Access) (store : List ℕ) → AreBytes a.sent → AreBytes store → AreBytes (stored_by c r a store)
 stored-bytes Write ok_response a store h g = put-bytes a 0 a.sent store h g
+stored-bytes FetchAdd ok_response a store h g = put-bytes a 0 (added (taken_from a 0 a.sent store) (le_number a.sent)) store (le-bytes ((le_number (taken_from a 0 a.sent store) + le_number a.sent) % 2 ^ 32)) g
 stored-bytes c r a store h g = g
 
 -- what accesses get and show
@@ -116,16 +118,26 @@ got-buffer Read ok_response a store h few g = record { bytes = taken-bytes a 0 a
 got-buffer Read r a store h few g = record { bytes = h; few = few }
 got-buffer Write r a store h few g = record { bytes = tt; few = omega arith }
 got-buffer Ignore r a store h few g = record { bytes = tt; few = omega arith }
+got-buffer FetchAdd ok_response a store h few g = record { bytes = taken-bytes a 0 a.sent store h g; few = omega (arith, few, length-taken_from a 0 a.sent store) }
+got-buffer FetchAdd r a store h few g = record { bytes = h; few = few }
 
 shown-bytes : (c : Command) (a : Access) (got : List ℕ) → AreBytes a.sent → AreBytes got → AreBytes (shown_by c a got)
 shown-bytes Read a got h g = g
 shown-bytes Write a got h g = h
 shown-bytes Ignore a got h g = tt
+shown-bytes FetchAdd a got h g = g
+
+operand-bytes : (c : Command) (sent : List ℕ) → AreBytes sent → AreBytes (operand_in c sent)
+operand-bytes Read sent h = tt
+operand-bytes Write sent h = tt
+operand-bytes Ignore sent h = tt
+operand-bytes FetchAdd sent h = h
 
 usual-bytes : (c : Command) (r : Response) (a : Access) (offset : ℕ) (store got : List ℕ) → IsSentAsUsual c a → got ≡ got_by c r (record a { offset = offset }) store → AreUsual c Blocking (record a { offset = offset }) got
 usual-bytes Read r a offset store got sent e = sent
 usual-bytes Write r a offset store got sent e = e
 usual-bytes Ignore r a offset store got sent e = (sent, e)
+usual-bytes FetchAdd r a offset store got sent e = tt
 
 -- what is told of an entry at an object, where this is the store before it
 record IsToldWhat (p : Platform) (s : Store) (o : ObjectNo) (w : What) : Type 0 where
@@ -152,7 +164,7 @@ transport-told p s stored m offset small a told status got legal =
     let buffer = subst IsBuffer (sym e) (got-buffer a.command status b (s m) told.bytes told.few (stored m)) in
     record {
       there = answer-there p m row refl (s m) Blocking b status got legal;
-      numbers = (tt, small, told.count, told.wide, told.enabled, shown-bytes a.command b got told.bytes buffer.bytes);
+      numbers = (tt, small, told.count, told.wide, told.enabled, shown-bytes a.command b got told.bytes buffer.bytes, operand-bytes a.command a.sent told.bytes);
       usual = usual-bytes a.command status a offset (s m) got told.usual e;
       gotten = buffer;
       stored = put-stored s stored m (stored_by a.command status b (s m)) (stored-bytes a.command status b (s m) told.bytes (stored m));
@@ -172,7 +184,7 @@ debug-told p s stored m offset small a told status got legal =
     let none : AreBytes a.sent = subst AreBytes (sym told.none_sent) tt in
     record {
       there = answer-there p m row refl (s m) Debug b status got legal;
-      numbers = (tt, small, told.count, told.wide, told.enabled, shown-bytes a.command b got none buffer.bytes);
+      numbers = (tt, small, told.count, told.wide, told.enabled, shown-bytes a.command b got none buffer.bytes, operand-bytes a.command a.sent none);
       usual = subst (λ (c : Command). AreUsual c Debug b got) (sym told.reads) told.none_sent;
       gotten = buffer;
       stored = put-stored s stored m (s m) (stored m);

@@ -4,14 +4,14 @@ use Rattle.std.specs.Prelude.{IfSome, unwrap_or, if◌then◌else◌}
 use Rattle.std.specs.List.{AllByRecursion}
 use Rattle.std.proofs.Math.ListN.{length-replicate}
 use Rattle.tlm_types.specs.declared.words.Command.{Command}
-use Rattle.tlm_types.specs.declared.words.Command.TheVariants.{Read as read_command, Write as write_command, Ignore as ignore_command}
+use Rattle.tlm_types.specs.declared.words.Command.TheVariants.{Read as read_command, Write as write_command, Ignore as ignore_command, FetchAdd as fetch_add_command}
 use Rattle.tlm_types.specs.declared.entry.Access.{Access}
 use Rattle.tlm_types.specs.declared.entry.Entry.{Entry}
 use Rattle.tlm_model.specs.declared.operation.Operation.{Operation}
-use Rattle.tlm_model.specs.declared.operation.Operation.TheVariants.{Write, Read, Ignore, Debug, Copy, Add, Wait, Sync, Fence, Invalidate}
+use Rattle.tlm_model.specs.declared.operation.Operation.TheVariants.{Write, Read, Ignore, Debug, Copy, Add, FetchAdd, Wait, Sync, Fence, Invalidate}
 use Rattle.tlm_model.specs.declared.platform.Platform.{Platform}
 use Rattle.tlm_model.specs.Plan.{Initiator}
-use Rattle.tlm_model.specs.Requests.{Asked, Transport, DebugRead, Invalidation, Request, added, answered, buffer_by, buffer_of, debug_of, first_of_two, got_in, ignore_of, is_txn, le_bytes, le_number, read_of, requests_from, using, write_of}
+use Rattle.tlm_model.specs.Requests.{Asked, Transport, DebugRead, Invalidation, Request, added, answered, buffer_by, buffer_of, debug_of, fetch_add_of, first_of_two, got_in, ignore_of, is_txn, le_bytes, le_number, read_of, requests_from, using, write_of}
 use Rattle.tlm_model.specs.Route.{Route, later, latency_of, route_of}
 use Rattle.tlm_model.specs.Store.{zeros}
 use Rattle.traffic_script.specs.Proper.{AreBytes, IsProper}
@@ -31,6 +31,7 @@ abbrev pub IsSentAsUsual : Command → Access → Type 0
 IsSentAsUsual read_command a = a.sent ≡ zeros a.length
 IsSentAsUsual write_command a = Unit {0}
 IsSentAsUsual ignore_command a = a.sent ≡ []
+IsSentAsUsual fetch_add_command a = Unit {0}
 
 pub record IsToldTransport (a : Access) : Type 0 where
   pub count : a.length < 2 ^ 64
@@ -88,8 +89,11 @@ ignore-told = record { count = omega arith; wide = omega arith; enabled = tt; by
 debug-told : (n : ℕ) → n < 2 ^ 64 → IsToldDebugRead (debug_of n)
 debug-told n small = record { reads = refl; count = small; wide = small; enabled = tt; none_sent = refl }
 
-le-bytes : (x : ℕ) → AreBytes (le_bytes x)
+pub le-bytes : (x : ℕ) → AreBytes (le_bytes x)
 le-bytes x = (omega arith, (omega arith, (omega arith, (omega arith, tt))))
+
+fetch_add-told : (n : ℕ) → IsToldTransport (fetch_add_of n)
+fetch_add-told n = record { count = omega arith; wide = omega arith; enabled = tt; bytes = le-bytes n; few = omega arith; usual = tt }
 
 -- one of two answers
 of_two : (b : Bool) (o rest : Option (List ℕ)) (got : List ℕ) → first_of_two (if b then o else None) rest ≡ Some got → (o ≡ Some got) ⊎ (rest ≡ Some got)
@@ -163,6 +167,10 @@ requests-told p i h all s t g small (Add a n ∷ ops) proper =
         requests-told p i h all (s + 2) (later (later t (latency_of p i a)) (latency_of p i a)) (g + 3) (later-small (later t (latency_of p i a)) (latency_of p i a)) ops proper.1,
       )),
     )
+requests-told p i h all s t g small (FetchAdd a n ∷ ops) proper = (
+  record { addressed = proper.0.0; timed = small; asks = fetch_add-told n },
+  requests-told p i h all (s + 1) (later t (latency_of p i a)) (g + 2) (later-small t (latency_of p i a)) ops proper.1,
+)
 requests-told p i h all s t g small (Wait n ∷ ops) proper = requests-told p i h all s (later t n) (g + 1) (later-small t n) ops proper.1
 requests-told p i h all s t g small (Sync ∷ ops) proper = requests-told p i h all s t (g + 1) small ops proper.1
 requests-told p i h all s t g small (Fence ∷ ops) proper = requests-told p i h all s t (g + 1) small ops proper.1
@@ -189,6 +197,7 @@ requests-few p i h s t g (Add a n ∷ ops) =
     let more = used-few (buffer_of p i h s a 4) (λ got. record { seq = s + 1; address = a; asked = Transport (write_of (added got n) [] 4); time = later t (latency_of p i a); stage = g + 2 } ∷
     requests_from p i h (s + 2) (later (later t (latency_of p i a)) (latency_of p i a)) (g + 3) ops) (suc (2 * length ops)) (λ got. omega (arith, rest)) in
     omega (arith, more)
+requests-few p i h s t g (FetchAdd a n ∷ ops) = let rest = requests-few p i h (s + 1) (later t (latency_of p i a)) (g + 2) ops in omega (arith, rest)
 requests-few p i h s t g (Wait n ∷ ops) = let rest = requests-few p i h s (later t n) (g + 1) ops in omega (arith, rest)
 requests-few p i h s t g (Sync ∷ ops) = let rest = requests-few p i h s t (g + 1) ops in omega (arith, rest)
 requests-few p i h s t g (Fence ∷ ops) = let rest = requests-few p i h s t (g + 1) ops in omega (arith, rest)

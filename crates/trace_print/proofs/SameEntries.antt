@@ -4,7 +4,7 @@ use Rattle.std.specs.Fmt.{decimal}
 use Rattle.std.proofs.lemmas.Fmt.{decimal_injective}
 use Rattle.std.proofs.lemmas.List.{append_cancel_right}
 use Rattle.tlm_types.specs.declared.words.Command.{Command}
-use Rattle.tlm_types.specs.declared.words.Command.TheVariants.{Read, Write, Ignore}
+use Rattle.tlm_types.specs.declared.words.Command.TheVariants.{Read, Write, Ignore, FetchAdd}
 use Rattle.tlm_types.specs.declared.words.ObjectNo.{ObjectNo}
 use Rattle.tlm_types.specs.declared.words.ObjectNo.TheVariants.{Memory as memory_object, Hop, Pool}
 use Rattle.tlm_types.specs.declared.words.Way.{Way}
@@ -18,7 +18,7 @@ use Rattle.tlm_types.specs.Log.{read_sends}
 use Rattle.tlm_model.specs.declared.platform.Platform.{Platform}
 use Rattle.tlm_model.specs.declared.platform.Target.{Target}
 use Rattle.tlm_model.specs.declared.platform.Target.TheVariants.{Router as to_router, Memory as to_memory}
-use Rattle.report_model.specs.Report.{command_word, entry_words, freed_words, hop_words, initiator_name, kind_word, memory_name, object_word, phase_word, range_word, shown_by, status_word, sync_words, target_name, txn_word, way_word, what_words}
+use Rattle.report_model.specs.Report.{command_word, entry_words, freed_words, hop_words, initiator_name, kind_word, memory_name, object_word, operand_in, operand_text, phase_word, range_word, shown_by, status_word, sync_words, target_name, txn_word, way_word, what_words}
 use Rattle.tlm_model.specs.Text.{address_word, data_word}
 use Rattle.route_plan.specs.declared.ends.HopEnds.{HopEnds}
 use Rattle.route_plan.specs.declared.ends.Up.{Up}
@@ -26,7 +26,7 @@ use Rattle.route_plan.specs.declared.ends.Up.TheVariants.{Initiator, Router}
 use Rattle.trace_print.specs.Hops.{ends_at, object_word_by, up_name}
 use Rattle.trace_print.specs.Naming.{AreUsual, HasNumbers, HasOwnNames, HasPlainNames, HasUsualBytes, IsObject, IsTellable, IsVisible, NamesEntries}
 use Rattle.trace_print.proofs.HopLemmas.{hop-parts, object-is}
-use Rattle.trace_print.proofs.SameWords.{same-address, same-command, same-data, same-freed, same-kind, same-phase, same-range, same-seq, same-status, same-sync, same-way, visible-address, visible-command, visible-data, visible-decimal, visible-freed, visible-kind, visible-phase, visible-range, visible-status, visible-sync, visible-way}
+use Rattle.trace_print.proofs.SameWords.{same-address, same-command, same-data, same-freed, same-kind, same-phase, same-range, same-seq, same-shown, same-status, same-sync, same-way, visible-address, visible-command, visible-data, visible-decimal, visible-freed, visible-kind, visible-operand, visible-phase, visible-range, visible-status, visible-sync, visible-way}
 use Rattle.trace_print.proofs.SplitLemmas.{AllVisible, lacks-append, lacks-by-test, lacks-middle, line-same, visible-append, visible-by-test}
 
 what-visible : (w : What) → HasNumbers w → AllVisible (what_words w)
@@ -42,7 +42,10 @@ what-visible (Accessed way a status got) n = (
           visible-append (codes "be=") (data_word a.enables) (visible-by-test (codes "be=") refl) (visible-data a.enables n.4),
           (
             visible-append (codes "sw=") (decimal a.width) (visible-by-test (codes "sw=") refl) (visible-decimal a.width n.3),
-            (visible-data (shown_by a.command a got) n.5, (visible-status status, tt)),
+            (
+              visible-append (operand_text a.command a.sent) (data_word (shown_by a.command a got)) (visible-operand a.command a.sent n.6) (visible-data (shown_by a.command a got) n.5),
+              (visible-status status, tt),
+            ),
           ),
         ),
       ),
@@ -124,11 +127,12 @@ kind-is (Release s f) = refl
 
 -- the bytes of accesses that show the same bytes
 same-bytes : (c d : Command) (way gate : Way) (a b : Access) (got bytes : List ℕ) → c ≡ d → way ≡ gate → a.length ≡ b.length →
-    AreUsual c way a got → AreUsual d gate b bytes → shown_by c a got ≡ shown_by d b bytes → (a.sent ≡ b.sent) × (got ≡ bytes)
-same-bytes Read Read way gate a b got bytes k w n p q s = let zeros : read_sends way a.length ≡ read_sends gate b.length = λ i. read_sends (w i) (n i) in (p ∙ (zeros ∙ sym q), s)
-same-bytes Write Write way gate a b got bytes k w n p q s = (s, p ∙ sym q)
-same-bytes Ignore Ignore way gate a b got bytes k w n p q s = (p.0 ∙ sym q.0, p.1 ∙ sym q.1)
-same-bytes c d way gate a b got bytes k w n p q s = absurd (cc)
+    AreUsual c way a got → AreUsual d gate b bytes → operand_in c a.sent ≡ operand_in d b.sent → shown_by c a got ≡ shown_by d b bytes → (a.sent ≡ b.sent) × (got ≡ bytes)
+same-bytes Read Read way gate a b got bytes k w n p q o s = let zeros : read_sends way a.length ≡ read_sends gate b.length = λ i. read_sends (w i) (n i) in (p ∙ (zeros ∙ sym q), s)
+same-bytes Write Write way gate a b got bytes k w n p q o s = (s, p ∙ sym q)
+same-bytes Ignore Ignore way gate a b got bytes k w n p q o s = (p.0 ∙ sym q.0, p.1 ∙ sym q.1)
+same-bytes FetchAdd FetchAdd way gate a b got bytes k w n p q o s = (o, s)
+same-bytes c d way gate a b got bytes k w n p q o s = absurd (cc)
 
 same-what : (w v : What) → HasNumbers w → HasNumbers v → HasUsualBytes w → HasUsualBytes v → kind_of w ≡ kind_of v → what_words w ≡ what_words v → w ≡ v
 same-what (Accessed way a status got) (Accessed gate b answer bytes) p q r s k e =
@@ -138,7 +142,7 @@ same-what (Accessed way a status got) (Accessed gate b answer bytes) p q r s k e
     let e3 : decimal a.length ≡ decimal b.length = cc in
     let e4 : data_word a.enables ≡ data_word b.enables = cc in
     let e5 : decimal a.width ≡ decimal b.width = cc in
-    let e6 : data_word (shown_by a.command a got) ≡ data_word (shown_by b.command b bytes) = cc in
+    let e6 : operand_text a.command a.sent ++ data_word (shown_by a.command a got) ≡ operand_text b.command b.sent ++ data_word (shown_by b.command b bytes) = cc in
     let e7 : status_word status ≡ status_word answer = cc in
     let s0 = same-way way gate p.0 q.0 e0 in
     let s1 = same-command a.command b.command e1 in
@@ -146,9 +150,9 @@ same-what (Accessed way a status got) (Accessed gate b answer bytes) p q r s k e
     let s3 = decimal_injective a.length b.length p.2 q.2 e3 in
     let s4 = same-data a.enables b.enables p.4 q.4 e4 in
     let s5 = decimal_injective a.width b.width p.3 q.3 e5 in
-    let s6 = same-data (shown_by a.command a got) (shown_by b.command b bytes) p.5 q.5 e6 in
+    let s6 = same-shown a.command b.command a.sent b.sent (shown_by a.command a got) (shown_by b.command b bytes) s1 p.6 q.6 p.5 q.5 e6 in
     let s7 = same-status status answer e7 in
-    let s8 = same-bytes a.command b.command way gate a b got bytes s1 s0 s3 r s s6 in
+    let s8 = same-bytes a.command b.command way gate a b got bytes s1 s0 s3 r s s6.0 s6.1 in
     λ i. Accessed (s0 i) (record { command = s1 i; offset = s2 i; length = s3 i; sent = s8.0 i; enables = s4 i; width = s5 i }) (s7 i) (s8.1 i)
 same-what (Granted g f l k) (Granted h x m j) p q r s n e =
     let e0 : decimal g ≡ decimal h = cc in

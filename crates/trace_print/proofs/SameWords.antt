@@ -1,11 +1,11 @@
 -- Words are the same alone where they say the same.
-use Rattle.std.proofs.Common.{◌≡◌, ℕ, ◌+◌, ◌*◌, ◌/◌, ◌%◌, ◌^◌, ◌<◌, ◌≤◌, List, [], ◌∷◌, ◌++◌, Bool, true, false, refl, ap, sym, subst, ◌∙◌, arith, codes}
+use Rattle.std.proofs.Common.{◌≡◌, ℕ, ◌+◌, ◌*◌, ◌/◌, ◌%◌, ◌^◌, ◌<◌, ◌≤◌, List, [], ◌∷◌, ◌++◌, Bool, true, false, refl, ap, sym, subst, ◌∙◌, arith, append_assoc, codes}
 use Rattle.std.specs.Char.{digit_value}
 use Rattle.std.specs.Fmt.{decimal, digits, digit_glyph}
 use Rattle.std.specs.Str.Parse.{IsNumeral, digits_value}
 use Rattle.std.proofs.lemmas.Fmt.{decimal_injective, decimal_is_IsNumeral, digits_is_IsNumeral, hex_one_digit}
 use Rattle.tlm_types.specs.declared.words.Command.{Command}
-use Rattle.tlm_types.specs.declared.words.Command.TheVariants.{Read, Write, Ignore}
+use Rattle.tlm_types.specs.declared.words.Command.TheVariants.{Read, Write, Ignore, FetchAdd}
 use Rattle.tlm_types.specs.declared.words.Kind.{Kind}
 use Rattle.tlm_types.specs.declared.words.Kind.TheVariants.{Read as read_kind, Write as write_kind, Both}
 use Rattle.tlm_types.specs.declared.words.Phase.{Phase}
@@ -16,7 +16,7 @@ use Rattle.tlm_types.specs.declared.words.TlmSync.{TlmSync}
 use Rattle.tlm_types.specs.declared.words.TlmSync.TheVariants.{Accepted, Updated, Completed}
 use Rattle.tlm_types.specs.declared.words.Way.{Way}
 use Rattle.tlm_types.specs.declared.words.Way.TheVariants.{Blocking, FourPhase, Direct, Debug}
-use Rattle.report_model.specs.Report.{command_word, freed_words, kind_word, phase_word, range_word, seq_word, status_word, sync_words, way_word}
+use Rattle.report_model.specs.Report.{command_word, freed_words, kind_word, operand_in, operand_text, phase_word, range_word, seq_word, status_word, sync_words, way_word}
 use Rattle.tlm_model.specs.Text.{address_word, data_word, hex_of}
 use Rattle.traffic_script.specs.Proper.{AreBytes}
 use Rattle.trace_print.specs.Naming.{HasGate, IsVisible, Lacks}
@@ -49,6 +49,30 @@ pub visible-data : (bytes : List ℕ) → AreBytes bytes → IsVisible (data_wor
 visible-data [] p = visible-by-test (codes "-") refl
 visible-data (b ∷ bs) p = visible-hex (b ∷ bs) p
 
+-- the colon after an operand is no digit
+lacks-glyph : (d : ℕ) → d < 16 → Lacks 58 (digit_glyph false d ∷ [])
+lacks-glyph d small =
+    let n = numeral d (omega arith) in
+    subst (Lacks 58) (hex_one_digit false d small) (lacks-digits 58 16 (digits 16 false d) (omega arith) n.0.1)
+
+lacks-hex : (bytes : List ℕ) → AreBytes bytes → Lacks 58 (hex_of bytes)
+lacks-hex [] p = tt
+lacks-hex (b ∷ bs) p =
+    let low = p.0 in
+    let first = lacks-glyph (b / 16) (omega arith) in
+    let second = lacks-glyph (b % 16) (omega arith) in
+    (first.0, (second.0, lacks-hex bs p.1))
+
+lacks-data : (bytes : List ℕ) → AreBytes bytes → Lacks 58 (data_word bytes)
+lacks-data [] p = lacks-by-test 58 (codes "-") refl
+lacks-data (b ∷ bs) p = lacks-hex (b ∷ bs) p
+
+pub visible-operand : (c : Command) (sent : List ℕ) → AreBytes (operand_in c sent) → IsVisible (operand_text c sent)
+visible-operand Read sent p = tt
+visible-operand Write sent p = tt
+visible-operand Ignore sent p = tt
+visible-operand FetchAdd sent p = visible-append (data_word sent) (codes ":") (visible-data sent p) (visible-by-test (codes ":") refl)
+
 pub visible-range : (f l : ℕ) → f < 2 ^ 64 → l < 2 ^ 64 → IsVisible (range_word f l)
 visible-range f l small more =
     visible-append (address_word f) (codes "-" ++ address_word l) (visible-address f small)
@@ -58,6 +82,7 @@ pub visible-command : (c : Command) → IsVisible (command_word c)
 visible-command Read = visible-by-test (codes "read") refl
 visible-command Write = visible-by-test (codes "write") refl
 visible-command Ignore = visible-by-test (codes "ignore") refl
+visible-command FetchAdd = visible-by-test (codes "fetch_add") refl
 
 pub visible-status : (s : Response) → IsVisible (status_word s)
 visible-status Ok = visible-by-test (codes "ok") refl
@@ -125,6 +150,18 @@ same-data [] (y ∷ ys) p q e = cc
 same-data (x ∷ xs) [] p q e = cc
 same-data (x ∷ xs) (y ∷ ys) p q e = same-hex (x ∷ xs) (y ∷ ys) p q e
 
+-- the bytes that a line shows
+pub same-shown : (c d : Command) (sent taken got bytes : List ℕ) → c ≡ d → AreBytes (operand_in c sent) → AreBytes (operand_in d taken) → AreBytes got → AreBytes bytes
+    → operand_text c sent ++ data_word got ≡ operand_text d taken ++ data_word bytes → (operand_in c sent ≡ operand_in d taken) × (got ≡ bytes)
+same-shown Read Read sent taken got bytes k p q r s e = (refl, same-data got bytes r s e)
+same-shown Write Write sent taken got bytes k p q r s e = (refl, same-data got bytes r s e)
+same-shown Ignore Ignore sent taken got bytes k p q r s e = (refl, same-data got bytes r s e)
+same-shown FetchAdd FetchAdd sent taken got bytes k p q r s e =
+    let parted = sym (append_assoc (data_word sent) (codes ":") (data_word got)) ∙ (e ∙ append_assoc (data_word taken) (codes ":") (data_word bytes)) in
+    let two = split-at 58 (data_word sent) (data_word taken) (data_word got) (data_word bytes) (lacks-data sent p) (lacks-data taken q) parted in
+    (same-data sent taken p q two.0, same-data got bytes r s two.1)
+same-shown c d sent taken got bytes k p q r s e = absurd (cc)
+
 pub same-seq : (n m : List ℕ) (s t : ℕ) → Lacks 46 n → Lacks 46 m → s < 2 ^ 64 → t < 2 ^ 64 → seq_word n s ≡ seq_word m t → (n ≡ m) × (s ≡ t)
 same-seq n m s t p q hs ht e = let r = split-at 46 n m (decimal s) (decimal t) p q e in (r.0, decimal_injective s t hs ht r.1)
 
@@ -143,6 +180,7 @@ pub same-command : (c d : Command) → command_word c ≡ command_word d → c �
 same-command Read Read e = refl
 same-command Write Write e = refl
 same-command Ignore Ignore e = refl
+same-command FetchAdd FetchAdd e = refl
 same-command c d e = cc
 
 pub same-status : (r s : Response) → status_word r ≡ status_word s → r ≡ s

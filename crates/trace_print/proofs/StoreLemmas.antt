@@ -6,7 +6,7 @@ use Rattle.std.proofs.lemmas.Bool.{eqb-true}
 use Rattle.std.proofs.lemmas.List.{append-nil, length-replicate, length-set, take_all, take_min, drop-drop}
 use Rattle.std.proofs.lemmas.List.Sums.{AllPass-from_list_all, list_all-from_AllPass}
 use Rattle.tlm_types.specs.declared.words.Command.{Command}
-use Rattle.tlm_types.specs.declared.words.Command.TheVariants.{Read, Write, Ignore}
+use Rattle.tlm_types.specs.declared.words.Command.TheVariants.{Read, Write, Ignore, FetchAdd}
 use Rattle.tlm_types.specs.declared.words.ObjectNo.{ObjectNo}
 use Rattle.tlm_types.specs.declared.words.ObjectNo.TheVariants.{Memory, Hop, Pool}
 use Rattle.tlm_types.specs.declared.words.Response.{Response}
@@ -21,7 +21,8 @@ use Rattle.tlm_model.specs.declared.platform.MemoryRow.{MemoryRow}
 use Rattle.tlm_model.specs.declared.platform.Platform.{Platform}
 use Rattle.tlm_model.specs.History.{Store, after, last_store, opening_store, store_from, zeros_of}
 use Rattle.report_model.specs.Report.{is_zero, memories_from, memory_lines, row_lines, rows_from}
-use Rattle.tlm_model.specs.Store.{is_enabled, place_of, put_from, store_after, stored_by}
+use Rattle.tlm_model.specs.Numbers.{added, le_number}
+use Rattle.tlm_model.specs.Store.{is_enabled, place_of, put_from, store_after, stored_by, taken_from}
 use Rattle.tlm_model.specs.Text.{hex_of, line_of, offset_word}
 use Rattle.trace_print.specs.Told.{HaveSizes, stores_lines, text_of}
 use Rattle.trace_print.proofs.Texts.{text-append, text-one}
@@ -44,6 +45,13 @@ length-stored Write BurstError a store = refl
 length-stored Write ByteEnableError a store = refl
 length-stored Read r a store = refl
 length-stored Ignore r a store = refl
+length-stored FetchAdd Ok a store = length-put a 0 (added (taken_from a 0 a.sent store) (le_number a.sent)) store
+length-stored FetchAdd Incomplete a store = refl
+length-stored FetchAdd GenericError a store = refl
+length-stored FetchAdd AddressError a store = refl
+length-stored FetchAdd CommandError a store = refl
+length-stored FetchAdd BurstError a store = refl
+length-stored FetchAdd ByteEnableError a store = refl
 
 length-after : (w : Way) (r : Response) (a : Access) (store : List ℕ) → length (store_after w r a store) ≡ length store
 length-after Debug r a store = refl

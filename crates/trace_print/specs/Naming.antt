@@ -2,7 +2,7 @@
 use Rattle.std.specs.Prelude.{ℕ, ◌≡◌, ◌≢◌, ◌<◌, ◌^◌, List, [], ◌∷◌, length, slice_get}
 use Rattle.std.specs.List.{AllByRecursion}
 use Rattle.tlm_types.specs.declared.words.Command.{Command}
-use Rattle.tlm_types.specs.declared.words.Command.TheVariants.{Read, Write, Ignore}
+use Rattle.tlm_types.specs.declared.words.Command.TheVariants.{Read, Write, Ignore, FetchAdd}
 use Rattle.tlm_types.specs.declared.words.ObjectNo.{ObjectNo}
 use Rattle.tlm_types.specs.declared.words.ObjectNo.TheVariants.{Memory as memory_object, Hop, Pool}
 use Rattle.tlm_types.specs.declared.words.Way.{Way}
@@ -15,7 +15,7 @@ use Rattle.tlm_types.specs.Log.{read_sends}
 use Rattle.tlm_model.specs.declared.platform.Platform.{Platform}
 use Rattle.tlm_model.specs.declared.trace.Trace.TheVariants.{All}
 use Rattle.tlm_model.specs.Plan.{Plan}
-use Rattle.report_model.specs.Report.{entry_words, hop_words, initiator_name, memory_name, name_of_router, object_word, report_of, shown_by}
+use Rattle.report_model.specs.Report.{entry_words, hop_words, initiator_name, memory_name, name_of_router, object_word, operand_in, report_of, shown_by}
 use Rattle.tlm_model.specs.Text.{line_of}
 use Rattle.traffic_script.specs.Proper.{AreBytes}
 
@@ -62,6 +62,7 @@ HasGate Debug = Unit {0}
 abbrev pub HasNumbers : What → Type 0
 HasNumbers (Accessed way a status got) =
     HasGate way × (a.offset < 2 ^ 64) × (a.length < 2 ^ 64) × (a.width < 2 ^ 64) × AreBytes a.enables × AreBytes (shown_by a.command a got)
+    × AreBytes (operand_in a.command a.sent)
 HasNumbers (Granted g f l k) = (g < 2 ^ 64) × (f < 2 ^ 64) × (l < 2 ^ 64)
 HasNumbers (Invalidated f l) = (f < 2 ^ 64) × (l < 2 ^ 64)
 HasNumbers (Closed g) = g < 2 ^ 64
@@ -71,11 +72,12 @@ HasNumbers (Acquire s) = s < 2 ^ 64
 HasNumbers (Release s f) = s < 2 ^ 64
 
 -- what the line of an access doesn't show is as in every such access: a read sends zeros, a write gets nothing, and an
--- ignore has no bytes
+-- ignore has no bytes; of a fetch_add it shows all
 abbrev pub AreUsual : Command → Way → Access → List ℕ → Type 0
 AreUsual Read way a got = a.sent ≡ read_sends way a.length
 AreUsual Write way a got = got ≡ []
 AreUsual Ignore way a got = (a.sent ≡ []) × (got ≡ [])
+AreUsual FetchAdd way a got = Unit {0}
 
 abbrev pub HasUsualBytes : What → Type 0
 HasUsualBytes (Accessed way a status got) = AreUsual a.command way a got

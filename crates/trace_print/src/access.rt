@@ -26,7 +26,7 @@ const NAME_MAX: usize = 1024;
 const SHOWN_MAX: usize = 4096;
 
 /// How many bytes a short line takes at most.
-pub const ACCESS_MAX: usize = 10430;
+pub const ACCESS_MAX: usize = 10433;
 
 impl AccessLine<'_> {
     /// It is as short as the lines of a run are.
@@ -62,9 +62,9 @@ fn write_shown(bytes: &mut [u8], start: usize, shown: &[u8]) -> usize
 #[inline(always)]
 pub fn write_access(bytes: &mut [u8], start: usize, line: &AccessLine<'_>) -> usize
     requires short { IsShort line.now }
-    requires room { start + 10430 ≤ length bytes.old }
+    requires room { start + 10433 ≤ length bytes.old }
     ensures adds { Adds bytes.old bytes.new start result (access_text line.now) }
-    ensures within { result ≤ start + 10430 }
+    ensures within { result ≤ start + 10433 }
 {
     let name = write_times(bytes, start, line.head.position, line.head.time);
     let seq = write_name(bytes, name, line.initiator);

@@ -4,7 +4,7 @@ ghost use Rattle.std.specs.Fmt.{decimal};
 ghost use Rattle.std.specs.List.{join_with_byte};
 ghost use Rattle.tlm_types.specs.declared.entry.Entry.{Entry};
 ghost use Rattle.tlm_types.specs.declared.entry.What.TheVariants.{Granted, Call};
-ghost use Rattle.report_model.specs.Report.{entry_words, traced, txn_word, what_words};
+ghost use Rattle.report_model.specs.Report.{entry_words, has_operand, operand_text, traced, txn_word, what_words};
 ghost use Rattle.tlm_types.specs.Log.{is_access};
 ghost use Rattle.tlm_model.specs.Text.{line_of};
 ghost use Rattle.trace_print.specs.AccessText.{access_text, IsShort};
@@ -46,17 +46,46 @@ fn put_head<K: Sink>(
     put_object(out, line, platform, head.object, ends);
 }
 
-// What an access was, from its plain parts, its enables, and the bytes that its line shows, after a
-// space and with the end of the line.
+fn has_operand(command: Command) -> bool
+    ensures { result ≡ has_operand command }
+{
+    match command {
+        Command::Read | Command::Write | Command::Ignore => false,
+        Command::FetchAdd => true,
+    }
+}
+
+// The operand of a fetch_add, of the bytes that an access sent, and a colon.
 #[inline(always)]
-fn put_access<K: Sink>(out: &mut K, line: &mut Line, facts: Facts, enables: &[u8], shown: &[u8])
+fn put_operand<K: Sink>(out: &mut K, line: &mut Line, command: Command, sent: &[u8])
+    ensures { Puts (page (K.taken out.old) (K.faults out.old) line.old)
+        (page (K.taken out.new) (K.faults out.new) line.new) (operand_text command sent.now) }
+{
+    if has_operand(command) {
+        put_data(out, line, sent);
+        put(out, line, b":");
+    }
+}
+
+// What an access was, from its plain parts, its enables, and the bytes that it sent and that its line
+// shows, after a space and with the end of the line.
+#[inline(always)]
+fn put_access<K: Sink>(
+    out: &mut K,
+    line: &mut Line,
+    facts: Facts,
+    enables: &[u8],
+    sent: &[u8],
+    shown: &[u8],
+)
     ensures { Puts (page (K.taken out.old) (K.faults out.old) line.old)
         (page (K.taken out.new) (K.faults out.new) line.new)
-        (codes " " ++ line_of (access_words facts enables.now shown.now)) }
+        (codes " " ++ line_of (access_words facts enables.now (operand_text facts.command sent.now) shown.now)) }
 {
     put_piece(out, line, Piece::Asked(facts));
     put_data(out, line, enables);
     put_piece(out, line, Piece::Width(facts.width));
+    put_operand(out, line, facts.command, sent);
     put_data(out, line, shown);
     put_piece(out, line, Piece::Status(facts.status));
 }
@@ -70,6 +99,7 @@ fn shown<'a>(access: &LoggedAccess<'a>) -> &'a [u8]
         Command::Read => access.got,
         Command::Write => access.sent,
         Command::Ignore => &[],
+        Command::FetchAdd => access.got,
     }
 }
 
@@ -155,7 +185,14 @@ fn put_what<K: Sink>(out: &mut K, line: &mut Line, log: &Log, index: u64)
         (page (K.taken out.new) (K.faults out.new) line.new) (codes " " ++ line_of (what_words e.what)) }
 {
     if let Some(access) = log.access(index) {
-        put_access(out, line, access.facts, access.enables, shown(&access));
+        put_access(
+            out,
+            line,
+            access.facts,
+            access.enables,
+            access.sent,
+            shown(&access),
+        );
     } else if let Some(what) = log.what(index) {
         put_told(out, line, &what);
     }
@@ -180,7 +217,8 @@ pub fn put_entry<K: Sink>(
     flush(out, line);
 }
 
-/// The line of the entry at this place, where it is a short access at a memory without byte enables.
+/// The line of the entry at this place, where it is a short access at a memory without byte enables and
+/// without an operand.
 #[inline(always)]
 pub fn access_line<'a>(platform: &'a Platform, log: &'a Log, index: u64) -> Option<AccessLine<'a>>
     requires { index < length log.now.entries }
@@ -190,6 +228,9 @@ pub fn access_line<'a>(platform: &'a Platform, log: &'a Log, index: u64) -> Opti
 {
     let access = log.access(index)?;
     if !access.enables.is_empty() {
+        return None;
+    }
+    if has_operand(access.facts.command) {
         return None;
     }
     let ObjectNo::Memory(memory) = access.head.object else {

@@ -302,23 +302,24 @@ fn write_way(bytes: &mut [u8], start: usize, way: Way) -> usize
 // A command, and a space.
 #[inline(always)]
 fn write_command(bytes: &mut [u8], start: usize, command: Command) -> usize
-    requires { start + 7 ≤ length bytes.old }
+    requires { start + 10 ≤ length bytes.old }
     ensures adds { Adds bytes.old bytes.new start result (command_word command ++ codes " ") }
-    ensures within { result ≤ start + 7 }
+    ensures within { result ≤ start + 10 }
 {
     match command {
         Command::Read => write_word(bytes, start, b"read "),
         Command::Write => write_word(bytes, start, b"write "),
         Command::Ignore => write_word(bytes, start, b"ignore "),
+        Command::FetchAdd => write_word(bytes, start, b"fetch_add "),
     }
 }
 
 // What an access asked for, from the space before it to its enables.
 #[inline(always)]
 fn write_asked(bytes: &mut [u8], start: usize, facts: Facts) -> usize
-    requires { start + 79 ≤ length bytes.old }
+    requires { start + 82 ≤ length bytes.old }
     ensures adds { Adds bytes.old bytes.new start result (asked_text facts) }
-    ensures within { result ≤ start + 79 }
+    ensures within { result ≤ start + 82 }
 {
     let way = write_word(bytes, start, b" ");
     let command = write_way(bytes, way, facts.way);
@@ -343,9 +344,9 @@ fn write_width(bytes: &mut [u8], start: usize, width: u64) -> usize
 /// Writes what an access without enables asked for, with the space behind it.
 #[inline(always)]
 pub fn write_unmasked(bytes: &mut [u8], start: usize, facts: Facts) -> usize
-    requires { start + 105 ≤ length bytes.old }
+    requires { start + 108 ≤ length bytes.old }
     ensures adds { Adds bytes.old bytes.new start result (unmasked_text facts) }
-    ensures within { result ≤ start + 105 }
+    ensures within { result ≤ start + 108 }
 {
     let enables = write_asked(bytes, start, facts);
     let width = write_word(bytes, enables, b"-");

@@ -21,6 +21,7 @@ pub fn put_command<K: Sink>(out: &mut K, line: &mut Line, command: Command)
         Command::Read => put(out, line, b"read"),
         Command::Write => put(out, line, b"write"),
         Command::Ignore => put(out, line, b"ignore"),
+        Command::FetchAdd => put(out, line, b"fetch_add"),
     }
 }
 

@@ -82,7 +82,7 @@ pub finished_proper : (d : Draft) (ops : List Operation) → IsProperDraft d →
 finished_proper d ops d_ok e = finished_in-proper d.before d.block ops d_ok.few d_ok.each e
 
 -- with one more line
-pub with_line_proper : (n : ℕ) (d next : Draft) (line : List ℕ) → IsProperDraft d → with_line n d line ≡ Ok next → IsProperDraft next
-with_line_proper n d next line d_ok e =
-    let said = bind-Ok (statement_of line) (λ s. taken n d s) next e in
-    taken_proper n d next said.0 d_ok (statement_proper line said.0 said.1) said.2
+pub with_line_proper : (version n : ℕ) (d next : Draft) (line : List ℕ) → IsProperDraft d → with_line version n d line ≡ Ok next → IsProperDraft next
+with_line_proper version n d next line d_ok e =
+    let said = bind-Ok (statement_of version line) (λ s. taken n d s) next e in
+    taken_proper n d next said.0 d_ok (statement_proper version line said.0 said.1) said.2

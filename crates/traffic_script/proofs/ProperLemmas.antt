@@ -7,9 +7,9 @@ use Rattle.std.specs.Str.Parse.{digits_value}
 use Rattle.std.proofs.lemmas.Bool.{ltb-true, leb-true}
 use Rattle.std.proofs.lemmas.Bool.Decides.{nat_tests}
 use Rattle.tlm_model.specs.declared.operation.Operation.{Operation}
-use Rattle.tlm_model.specs.declared.operation.Operation.TheVariants.{Write, Read, Ignore, Debug, Copy, Add, Wait, Sync, Fence}
+use Rattle.tlm_model.specs.declared.operation.Operation.TheVariants.{Write, Read, Ignore, Debug, Copy, Add, FetchAdd, Wait, Sync, Fence}
 use Rattle.traffic_script.specs.declared.fault.ScriptCode.{ScriptCode}
-use Rattle.traffic_script.specs.declared.fault.ScriptCode.TheVariants.{BadNumber, BadHex, BadLength, BadOption}
+use Rattle.traffic_script.specs.declared.fault.ScriptCode.TheVariants.{BadNumber, BadHex, BadLength, BadOption, UnknownOperation}
 use Rattle.traffic_script.specs.declared.options.Options.{Options}
 use Rattle.traffic_script.specs.declared.keyword.Keyword.{Keyword}
 use Rattle.traffic_script.specs.declared.keyword.Keyword.TheVariants as keyword
@@ -20,7 +20,7 @@ use Rattle.traffic_script.specs.Words.{words_of, text_of}
 use Rattle.traffic_script.specs.Numbers.{number_in, read_number, within, length_of, times_of, addend_of, byte_of, bytes_of, read_hex, few, only_enables, data_of, enables_of}
 use Rattle.tlm_types.specs.Enables.{is_enable}
 use Rattle.traffic_script.specs.Options.{no_options, with_enables, with_width, with_option, with_options}
-use Rattle.traffic_script.specs.Statements.{keyword_of, write_of, read_of, ignore_of, debug_of, copy_of, add_of, wait_of, alone, repeat_of, asks, statement_by, statement_in, statement_of}
+use Rattle.traffic_script.specs.Statements.{keyword_of, write_of, read_of, ignore_of, debug_of, copy_of, add_of, fetch_add_of, of_version_2, wait_of, alone, repeat_of, asks, statement_by, statement_in, statement_of}
 use Rattle.traffic_script.specs.Proper.{IsLength, AreEnables, AreBytes, IsProper, AreTimes, IsProperStatement}
 use Rattle.traffic_script.proofs.ReadLemmas.{bind-Ok, if-Ok, unless-Ok, and-true}
 
@@ -246,6 +246,19 @@ add-proper (address ∷ number ∷ []) op e =
     subst IsProper same (number_of-lt address at.0 at.1, addend-lt number n.0 n.1)
 add-proper (address ∷ number ∷ more ∷ words) op e = cc
 
+fetch_add-proper : (words : List (List ℕ)) (op : Operation) → fetch_add_of words ≡ Ok op → IsProper op
+fetch_add-proper [] op e = cc
+fetch_add-proper (address ∷ []) op e = cc
+fetch_add-proper (address ∷ number ∷ []) op e =
+    let at = bind-Ok (read_number address) (λ at. addend_of number >>= λ n. Ok (FetchAdd at n)) op e in
+    let n = bind-Ok (addend_of number) (λ n. Ok (FetchAdd at.0 n)) op at.2 in
+    let same : FetchAdd at.0 n.0 ≡ op = cc in
+    subst IsProper same (number_of-lt address at.0 at.1, addend-lt number n.0 n.1)
+fetch_add-proper (address ∷ number ∷ more ∷ words) op e = cc
+
+version-proper : (version : ℕ) (words : List (List ℕ)) (op : Operation) → of_version_2 version (fetch_add_of words) ≡ Ok op → IsProper op
+version-proper version words op e = fetch_add-proper words op (if-Ok (nat_eq version 2) (fetch_add_of words) UnknownOperation op e).1
+
 wait-proper : (words : List (List ℕ)) (op : Operation) → wait_of words ≡ Ok op → IsProper op
 wait-proper [] op e = cc
 wait-proper (number ∷ []) op e =
@@ -272,30 +285,31 @@ repeat-proper (number ∷ []) s e =
     subst IsProperStatement same (times-proper number times.0 times.1)
 repeat-proper (number ∷ more ∷ words) s e = cc
 
-by-proper : (k : Keyword) (words : List (List ℕ)) (s : Statement) → statement_by k words ≡ Ok s → IsProperStatement s
-by-proper keyword.Write words s e = asks-proper (write_of words) s (write-proper words) e
-by-proper keyword.Read words s e = asks-proper (read_of words) s (read-proper words) e
-by-proper keyword.Ignore words s e = asks-proper (ignore_of words) s (ignore-proper words) e
-by-proper keyword.Debug words s e = asks-proper (debug_of words) s (debug-proper words) e
-by-proper keyword.Copy words s e = asks-proper (copy_of words) s (copy-proper words) e
-by-proper keyword.Add words s e = asks-proper (add_of words) s (add-proper words) e
-by-proper keyword.Wait words s e = asks-proper (wait_of words) s (wait-proper words) e
-by-proper keyword.Sync words s e = asks-proper (alone Sync words) s (λ op q. subst IsProper (alone-Ok Sync op words q) tt) e
-by-proper keyword.Fence words s e = asks-proper (alone Fence words) s (λ op q. subst IsProper (alone-Ok Fence op words q) tt) e
-by-proper keyword.Invalidate words s e = cc
-by-proper keyword.Repeat words s e = repeat-proper words s e
-by-proper keyword.End words s e = subst IsProperStatement (alone-Ok Ends s words e) tt
+by-proper : (version : ℕ) (k : Keyword) (words : List (List ℕ)) (s : Statement) → statement_by version k words ≡ Ok s → IsProperStatement s
+by-proper version keyword.Write words s e = asks-proper (write_of words) s (write-proper words) e
+by-proper version keyword.Read words s e = asks-proper (read_of words) s (read-proper words) e
+by-proper version keyword.Ignore words s e = asks-proper (ignore_of words) s (ignore-proper words) e
+by-proper version keyword.Debug words s e = asks-proper (debug_of words) s (debug-proper words) e
+by-proper version keyword.Copy words s e = asks-proper (copy_of words) s (copy-proper words) e
+by-proper version keyword.Add words s e = asks-proper (add_of words) s (add-proper words) e
+by-proper version keyword.FetchAdd words s e = asks-proper (of_version_2 version (fetch_add_of words)) s (version-proper version words) e
+by-proper version keyword.Wait words s e = asks-proper (wait_of words) s (wait-proper words) e
+by-proper version keyword.Sync words s e = asks-proper (alone Sync words) s (λ op q. subst IsProper (alone-Ok Sync op words q) tt) e
+by-proper version keyword.Fence words s e = asks-proper (alone Fence words) s (λ op q. subst IsProper (alone-Ok Fence op words q) tt) e
+by-proper version keyword.Invalidate words s e = cc
+by-proper version keyword.Repeat words s e = repeat-proper words s e
+by-proper version keyword.End words s e = subst IsProperStatement (alone-Ok Ends s words e) tt
 
-in-proper : (words : List (List ℕ)) (s : Option Statement) → statement_in words ≡ Ok s → IfSome s IsProperStatement
-in-proper [] s e = subst (λ found. IfSome found IsProperStatement) (let same : None ≡ s = cc in same) tt
-in-proper (word ∷ words) s e =
-    let name = bind-Ok (keyword_of word) (λ name. statement_by name words >>= λ statement. Ok (Some statement)) s e in
-    let said = bind-Ok (statement_by name.0 words) (λ statement. Ok (Some statement)) s name.2 in
+in-proper : (version : ℕ) (words : List (List ℕ)) (s : Option Statement) → statement_in version words ≡ Ok s → IfSome s IsProperStatement
+in-proper version [] s e = subst (λ found. IfSome found IsProperStatement) (let same : None ≡ s = cc in same) tt
+in-proper version (word ∷ words) s e =
+    let name = bind-Ok (keyword_of word) (λ name. statement_by version name words >>= λ statement. Ok (Some statement)) s e in
+    let said = bind-Ok (statement_by version name.0 words) (λ statement. Ok (Some statement)) s name.2 in
     let same : Some said.0 ≡ s = cc in
-    subst (λ found. IfSome found IsProperStatement) same (by-proper name.0 words said.0 said.1)
+    subst (λ found. IfSome found IsProperStatement) same (by-proper version name.0 words said.0 said.1)
 
 -- what a line says is proper
-pub statement_proper : (line : List ℕ) (s : Option Statement) → statement_of line ≡ Ok s → IfSome s IsProperStatement
-statement_proper line s e =
-    let text = bind-Ok (text_of line) (λ text. statement_in (words_of text)) s e in
-    in-proper (words_of text.0) s text.2
+pub statement_proper : (version : ℕ) (line : List ℕ) (s : Option Statement) → statement_of version line ≡ Ok s → IfSome s IsProperStatement
+statement_proper version line s e =
+    let text = bind-Ok (text_of line) (λ text. statement_in version (words_of text)) s e in
+    in-proper version (words_of text.0) s text.2

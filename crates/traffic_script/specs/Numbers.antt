@@ -1,5 +1,5 @@
 -- The numbers and bytes that words write.
-use Rattle.std.specs.Prelude.{ℕ, ◌+◌, ◌*◌, ◌^◌, Bool, ◌&&◌, ◌||◌, ◌==◌, List, [], ◌∷◌, length, drop, nat_eq, nat_lt, nat_le, if◌then◌else◌, Result, Ok, Err, codes}
+use Rattle.std.specs.Prelude.{ℕ, ◌+◌, ◌*◌, ◌^◌, ◌&&◌, ◌==◌, List, [], ◌∷◌, length, drop, nat_eq, nat_lt, nat_le, if◌then◌else◌, Result, Ok, Err, codes}
 use Rattle.std.specs.Char.{is_digit, digit_value}
 use Rattle.std.specs.List.{list_all, starts_with}
 use Rattle.std.specs.Str.Parse.{digits_value}
@@ -30,7 +30,7 @@ length_of word = read_number word >>= within BadLength 1 4096
 abbrev pub times_of : List ℕ → Result ℕ ScriptCode
 times_of word = read_number word >>= within BadNumber 1 100000
 
--- the number that `add` adds
+-- the number that `add` or `fetch_add` adds
 abbrev pub addend_of : List ℕ → Result ℕ ScriptCode
 addend_of word = read_number word >>= within BadNumber 0 0xffff_ffff
 

@@ -2,7 +2,7 @@
 use Rattle.std.specs.Prelude.{◌≡◌, ℕ, ◌^◌, ◌<◌, ◌≤◌, ◌⊎◌, List, [], ◌∷◌, length, Option, IfSome}
 use Rattle.std.specs.List.{AllByRecursion}
 use Rattle.tlm_model.specs.declared.operation.Operation.{Operation}
-use Rattle.tlm_model.specs.declared.operation.Operation.TheVariants.{Write, Read, Ignore, Debug, Copy, Add, Wait, Sync, Fence, Invalidate}
+use Rattle.tlm_model.specs.declared.operation.Operation.TheVariants.{Write, Read, Ignore, Debug, Copy, Add, FetchAdd, Wait, Sync, Fence, Invalidate}
 use Rattle.traffic_script.specs.declared.statement.Statement.{Statement}
 use Rattle.traffic_script.specs.declared.statement.Statement.TheVariants.{Asks, Repeats, Ends}
 use Rattle.traffic_script.specs.Drafts.{Draft, count_of, body_of}
@@ -38,6 +38,7 @@ IsProper (Ignore address) = address < 2 ^ 64
 IsProper (Debug address n) = (address < 2 ^ 64) × IsLength n
 IsProper (Copy from to n) = (from < 2 ^ 64) × (to < 2 ^ 64) × IsLength n
 IsProper (Add address n) = (address < 2 ^ 64) × (n < 2 ^ 32)
+IsProper (FetchAdd address n) = (address < 2 ^ 64) × (n < 2 ^ 32)
 IsProper (Wait time) = time < 2 ^ 64
 IsProper Sync = Unit {0}
 IsProper Fence = Unit {0}

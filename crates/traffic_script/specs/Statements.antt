@@ -1,8 +1,8 @@
 -- The statement of a line.
-use Rattle.std.specs.Prelude.{ℕ, List, [], ◌∷◌, Option, Some, None, unwrap_or, if◌then◌else◌, Result, Ok, Err, codes}
+use Rattle.std.specs.Prelude.{ℕ, List, [], ◌∷◌, Option, Some, None, unwrap_or, ◌==◌, if◌then◌else◌, Result, Ok, Err, codes}
 use Rattle.std.specs.Str.{bytes_eq}
 use Rattle.tlm_model.specs.declared.operation.Operation.{Operation}
-use Rattle.tlm_model.specs.declared.operation.Operation.TheVariants.{Write, Read, Ignore, Debug, Copy, Add, Wait, Sync, Fence}
+use Rattle.tlm_model.specs.declared.operation.Operation.TheVariants.{Write, Read, Ignore, Debug, Copy, Add, FetchAdd, Wait, Sync, Fence}
 use Rattle.traffic_script.specs.declared.fault.ScriptCode.{ScriptCode}
 use Rattle.traffic_script.specs.declared.fault.ScriptCode.TheVariants.{UnknownOperation, Arity, NotBuilt}
 use Rattle.traffic_script.specs.declared.keyword.Keyword.{Keyword}
@@ -23,6 +23,7 @@ keyword_of word =
     else if bytes_eq word (codes "debug") then Ok keyword.Debug
     else if bytes_eq word (codes "copy") then Ok keyword.Copy
     else if bytes_eq word (codes "add") then Ok keyword.Add
+    else if bytes_eq word (codes "fetch_add") then Ok keyword.FetchAdd
     else if bytes_eq word (codes "wait") then Ok keyword.Wait
     else if bytes_eq word (codes "sync") then Ok keyword.Sync
     else if bytes_eq word (codes "fence") then Ok keyword.Fence
@@ -79,6 +80,14 @@ add_of (address ∷ number ∷ []) = do
   Ok (Add at n)
 add_of words = Err Arity
 
+-- `fetch_add ADDR N`
+abbrev pub fetch_add_of : List (List ℕ) → Result Operation ScriptCode
+fetch_add_of (address ∷ number ∷ []) = do
+  at ← read_number address
+  n ← addend_of number
+  Ok (FetchAdd at n)
+fetch_add_of words = Err Arity
+
 -- `wait PS`
 abbrev pub wait_of : List (List ℕ) → Result Operation ScriptCode
 wait_of (number ∷ []) = read_number number >>= λ time. Ok (Wait time)
@@ -97,29 +106,34 @@ repeat_of words = Err Arity
 abbrev pub asks : Result Operation ScriptCode → Result Statement ScriptCode
 asks read = read >>= λ operation. Ok (Asks operation)
 
--- what a keyword with the words behind it says
-abbrev pub statement_by : Keyword → List (List ℕ) → Result Statement ScriptCode
-statement_by keyword.Write words = asks (write_of words)
-statement_by keyword.Read words = asks (read_of words)
-statement_by keyword.Ignore words = asks (ignore_of words)
-statement_by keyword.Debug words = asks (debug_of words)
-statement_by keyword.Copy words = asks (copy_of words)
-statement_by keyword.Add words = asks (add_of words)
-statement_by keyword.Wait words = asks (wait_of words)
-statement_by keyword.Sync words = asks (alone Sync words)
-statement_by keyword.Fence words = asks (alone Fence words)
-statement_by keyword.Invalidate words = Err NotBuilt
-statement_by keyword.Repeat words = repeat_of words
-statement_by keyword.End words = alone Ends words
+-- what version 2 has, and no other
+abbrev pub of_version_2 : ℕ → Result Operation ScriptCode → Result Operation ScriptCode
+of_version_2 version read = if version == 2 then read else Err UnknownOperation
+
+-- what a keyword with the words behind it says in this version
+abbrev pub statement_by : ℕ → Keyword → List (List ℕ) → Result Statement ScriptCode
+statement_by version keyword.Write words = asks (write_of words)
+statement_by version keyword.Read words = asks (read_of words)
+statement_by version keyword.Ignore words = asks (ignore_of words)
+statement_by version keyword.Debug words = asks (debug_of words)
+statement_by version keyword.Copy words = asks (copy_of words)
+statement_by version keyword.Add words = asks (add_of words)
+statement_by version keyword.FetchAdd words = asks (of_version_2 version (fetch_add_of words))
+statement_by version keyword.Wait words = asks (wait_of words)
+statement_by version keyword.Sync words = asks (alone Sync words)
+statement_by version keyword.Fence words = asks (alone Fence words)
+statement_by version keyword.Invalidate words = Err NotBuilt
+statement_by version keyword.Repeat words = repeat_of words
+statement_by version keyword.End words = alone Ends words
 
 -- what the words of a line say, if there are any
-abbrev pub statement_in : List (List ℕ) → Result (Option Statement) ScriptCode
-statement_in [] = Ok None
-statement_in (word ∷ words) = do
+abbrev pub statement_in : ℕ → List (List ℕ) → Result (Option Statement) ScriptCode
+statement_in version [] = Ok None
+statement_in version (word ∷ words) = do
   name ← keyword_of word
-  statement ← statement_by name words
+  statement ← statement_by version name words
   Ok (Some statement)
 
--- what a line says
-abbrev pub statement_of : List ℕ → Result (Option Statement) ScriptCode
-statement_of line = text_of line >>= λ text. statement_in (words_of text)
+-- what a line says in this version
+abbrev pub statement_of : ℕ → List ℕ → Result (Option Statement) ScriptCode
+statement_of version line = text_of line >>= λ text. statement_in version (words_of text)

@@ -45,6 +45,8 @@ pub fn asks_of(operation: &Operation) -> Asks
             Asks::Two(access(*from, *length), access(*to, *length))
         }
         Operation::Add { address, .. } => Asks::Two(access(*address, 4), access(*address, 4)),
+        // It logs its operand and what it found.
+        Operation::FetchAdd { address, .. } => Asks::One(access(*address, 8)),
         Operation::Wait { .. } | Operation::Sync | Operation::Fence => Asks::Nothing,
         Operation::Invalidate { address, .. } => Asks::One(Ask::Invalidation { address: *address }),
     }

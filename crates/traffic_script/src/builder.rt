@@ -162,12 +162,18 @@ impl Builder {
         }
     }
 
-    /// One more line is read, with its number counted from 1.
-    pub fn with_line(self, alloc: Global, number: u32, line: &[u8]) -> Result<Builder, LineFault>
+    /// One more line of a script of this version is read, with its number counted from 1.
+    pub fn with_line(
+        self,
+        alloc: Global,
+        version: u32,
+        number: u32,
+        line: &[u8],
+    ) -> Result<Builder, LineFault>
         requires { IsProperDraft self }
-        ensures { GivesCode result (with_line number self line.now) }
+        ensures { GivesCode result (with_line version number self line.now) }
     {
-        let statement = read_statement(alloc, line)?;
+        let statement = read_statement(alloc, version, line)?;
         self.with_statement(alloc, number, statement)
     }
 

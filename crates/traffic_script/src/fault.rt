@@ -19,7 +19,7 @@ pub enum ScriptCode {
     UnknownOperation,
     /// There are too few words, or too many on a line without options.
     Arity,
-    /// A word isn't a number below 2^64, or the number of `add` or `repeat` is out of its range.
+    /// A word isn't a number below 2^64, or the number of `add`, `fetch_add` or `repeat` is out of its range.
     BadNumber,
     /// A word isn't an even number of hexadecimal digits, or a byte enable is neither 00 nor ff.
     BadHex,

@@ -1,7 +1,7 @@
 //! The script reader: a text as the operations that an initiator is asked for.
 //!
-//! - `read_script` reads a text of at most 10,000 lines, by the grammar of `docs/FORMATS.md`. Only
-//!   `invalidate` isn't built yet.
+//! - `read_script` reads a text of at most 10,000 lines, by the grammar of `docs/FORMATS.md`, in version
+//!   1 or 2: only version 2 has `fetch_add`. Only `invalidate` isn't built yet.
 //! - `Script` is what was read, which contracts see as a list of operations, repeats written out. It
 //!   keeps a `Piece` for operations that are repeated, with their number of times, so its memory goes
 //!   by the text's lines. Its copies, and the cursors made of them, share its pieces, so a copy takes

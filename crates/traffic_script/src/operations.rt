@@ -3,7 +3,7 @@ ghost use Rattle.std.specs.Prelude.{◌≡◌, [], unwrap_or};
 ghost use Rattle.tlm_model.specs.declared.operation.Operation.TheVariants.{Sync, Fence};
 ghost use Rattle.traffic_script.specs.Reading.{GivesCode};
 ghost use Rattle.traffic_script.specs.Words.{words_of};
-ghost use Rattle.traffic_script.specs.Statements.{write_of, read_of, ignore_of, debug_of, copy_of, add_of, wait_of, alone};
+ghost use Rattle.traffic_script.specs.Statements.{write_of, read_of, ignore_of, debug_of, copy_of, add_of, fetch_add_of, wait_of, alone};
 
 use crate::fault::{LineFault, ScriptCode};
 use crate::numbers::{addend, data, length, number};
@@ -98,6 +98,17 @@ pub fn add(words: &[u8]) -> Result<Operation, ScriptCode>
     let address = number(address)?;
     let number = addend(number_word)?;
     Ok(Operation::Add { address, number })
+}
+
+pub fn fetch_add(words: &[u8]) -> Result<Operation, ScriptCode>
+    ensures { result ≡ fetch_add_of (words_of words.now) }
+{
+    let Some((address, number_word)) = two_words(words) else {
+        return Err(ScriptCode::Arity);
+    };
+    let address = number(address)?;
+    let number = addend(number_word)?;
+    Ok(Operation::FetchAdd { address, number })
 }
 
 pub fn wait(words: &[u8]) -> Result<Operation, ScriptCode>

@@ -36,6 +36,7 @@ const ROM: MemoryTraits = MemoryTraits {
     latency: 0,
     readable: true,
     writable: false,
+    fetch_add: true,
     enables: true,
     streaming: true,
     dmi: true,

@@ -16,7 +16,7 @@ use std::mem::size_of;
 #[derive(Clone, Copy)]
 pub(super) enum Item {
     // An access at a memory that answered OK, without byte enables, of just `length` bytes, whose
-    // streaming width is its length.
+    // streaming width is its length, and no fetch_add.
     Access {
         way: ShortWay,
         length: u16,
@@ -301,7 +301,8 @@ fn has_short_numbers(facts: &Facts) -> bool
         && facts.width == facts.length
 }
 
-// Of the access just the bytes of its length were kept: what a read got, or another command sent.
+// Of the access just the bytes of its length were kept: what a read got, or another command sent. Of a
+// fetch_add both are kept.
 #[inline(always)]
 fn has_data_alone(facts: &Facts, span: &Span) -> bool
     requires { IsOrdered span.now }
@@ -310,6 +311,7 @@ fn has_data_alone(facts: &Facts, span: &Span) -> bool
     let alone = match facts.command {
         Command::Read => span.got_start == span.start,
         Command::Write | Command::Ignore => span.enables_start == span.end,
+        Command::FetchAdd => false,
     };
     alone && (span.end - span.start) as u64 == facts.length
 }
@@ -363,7 +365,7 @@ fn short_span(command: Command, start: u32, length: u16) -> Span
     let end = start + length as u32;
     let sent = match command {
         Command::Read => start,
-        Command::Write | Command::Ignore => end,
+        Command::Write | Command::Ignore | Command::FetchAdd => end,
     };
     Span {
         start,

@@ -8,8 +8,8 @@ use Rattle.plat_run.specs.Actors.{is_done, number_of}
 use Rattle.plat_run.proofs.GatherLemmas.{all_pass, numbered_again}
 use Rattle.plat_run.proofs.running.finish_jobs.Goals as goal
 
-pub returns-then-workers-eq1-clause-numbered : goal.returns-then-workers-eq1-clause-numbered
-returns-then-workers-eq1-clause-numbered g c =
+pub returns-then-workers-le1-clause-numbered : goal.returns-then-workers-le1-clause-numbered
+returns-then-workers-le1-clause-numbered g c =
     let jobs = c.args.jobs in
     let after = c.work_alone.new.jobs in
     let kept : (with_items jobs after).items ≡ after = with_items_is jobs after (omega (arith, c.work_alone.auto.jobs, c.deref_mut.ensures.len)) in

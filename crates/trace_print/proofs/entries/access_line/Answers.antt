@@ -2,7 +2,7 @@ use Rattle.std.proofs.Common.{◌≡◌, ap, sym, ◌∙◌}
 use Rattle.std.specs.Prelude.{slice_get}
 use Rattle.tlm_types.specs.declared.entry.Head.{Head}
 use Rattle.tlm_types.specs.Log.{head_of}
-use Rattle.trace_print.proofs.EntryLemmas.{access-text-is, shown-access-at}
+use Rattle.trace_print.proofs.EntryLemmas.{access-text-is, no-operand, operand-access-at, shown-access-at}
 use Rattle.trace_print.proofs.WordLemmas.{data-none}
 use Rattle.trace_print.proofs.entries.access_line.Goals as goal
 
@@ -16,6 +16,8 @@ returns-then-is_short-clause-text c e here =
     let enables = rw here at known.enables in
     let read = shown-access-at (slice_get c.args.log.now.entries c.args.index) a.facts a.sent.now a.got.now (sym known.facts) known.sent known.got in
     let bytes = rw (here, ← c.shown.ensures) at read in
+    let told = operand-access-at (slice_get c.args.log.now.entries c.args.index) a.facts a.sent.now (sym known.facts) known.sent in
+    let alone = rw (here, no-operand a.facts.command a.sent.now (sym c.has_operand.ensures ∙ c.if-has_operand.false)) at told in
     let object = ap (λ (h : Head). h.object) (sym same) ∙ c.in-Memory.is in
-    let text = access-text-is c.args.platform.now e c.in-Memory.memory a.facts a.enables.now c.shown.result.now object (sym facts) enables (sym bytes) (data-none a.enables.now (sym c.is_empty.ensures ∙ c.if-not-is_empty.false)) in
+    let text = access-text-is c.args.platform.now e c.in-Memory.memory a.facts a.enables.now c.shown.result.now object (sym facts) enables (sym alone) (sym bytes) (data-none a.enables.now (sym c.is_empty.ensures ∙ c.if-not-is_empty.false)) in
     rw (c.as_bytes.ensures.value, c.as_bytes-2.ensures.value, c.initiator_name.ensures, c.memory_name.ensures, same) text

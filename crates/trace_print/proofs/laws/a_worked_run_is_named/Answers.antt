@@ -46,7 +46,7 @@ first-told = record {
   seq = omega arith;
   initiator = omega arith;
   object = omega arith;
-  numbers = (tt, omega arith, omega arith, omega arith, tt, bytes);
+  numbers = (tt, omega arith, omega arith, omega arith, tt, bytes, tt);
   bytes = refl;
 }
 
@@ -58,7 +58,7 @@ second-told = record {
   seq = omega arith;
   initiator = omega arith;
   object = omega arith;
-  numbers = (tt, omega arith, omega arith, omega arith, tt, bytes);
+  numbers = (tt, omega arith, omega arith, omega arith, tt, bytes, tt);
   bytes = refl;
 }
 

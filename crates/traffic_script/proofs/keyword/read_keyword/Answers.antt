@@ -16,3 +16,8 @@ pub returns-in-invalidate : goal.returns-in-invalidate
 returns-in-invalidate c =
     let e : c.args.word.now ≡ codes "invalidate" = text_from_reads c.args.word.now (codes "invalidate") (omega arith) (search rules) in
     rw e refl
+
+pub returns-in-102 : goal.returns-in-102
+returns-in-102 c =
+    let e : c.args.word.now ≡ codes "fetch_add" = text_from_reads c.args.word.now (codes "fetch_add") (omega arith) (search rules) in
+    rw e refl

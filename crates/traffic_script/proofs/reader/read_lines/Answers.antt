@@ -9,7 +9,7 @@ loop-line-preserved c =
     let first = c.in-Some.ensures.lines in
     let n = c.loop-line.number in
     record {
-      whole = sym (with_lines-more n c.loop-line.builder c.in-Ok.next c.in-Some.line.now (lines c.loop-line.rest.now) (lines c.in-Some.after.now) first c.in-Ok.ensures) ∙ c.loop-line.invariant.whole;
+      whole = sym (with_lines-more c.args.version n c.loop-line.builder c.in-Ok.next c.in-Some.line.now (lines c.loop-line.rest.now) (lines c.in-Some.after.now) first c.in-Ok.ensures) ∙ c.loop-line.invariant.whole;
       numbered = omega (arith, ap length first, c.loop-line.invariant.numbered);
-      proper = with_line_proper n c.loop-line.builder c.in-Ok.next c.in-Some.line.now c.loop-line.invariant.proper c.in-Ok.ensures;
+      proper = with_line_proper c.args.version n c.loop-line.builder c.in-Ok.next c.in-Some.line.now c.loop-line.invariant.proper c.in-Ok.ensures;
     }

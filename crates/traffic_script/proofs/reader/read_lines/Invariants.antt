@@ -7,7 +7,7 @@ use Rattle.traffic_script.proofs.reader.read_lines.Given as goal
 
 abbrev pub invariant-loop-line : goal.invariant-loop-line
 invariant-loop-line l = record {
-  whole : with_lines l.number l.builder (lines l.rest) ≡ with_lines 1 empty_draft (lines l.text);
+  whole : with_lines l.version l.number l.builder (lines l.rest) ≡ with_lines l.version 1 empty_draft (lines l.text);
   numbered : l.number + length (lines l.rest) ≡ length (lines l.text) + 1;
   proper : IsProperDraft l.builder;
 }

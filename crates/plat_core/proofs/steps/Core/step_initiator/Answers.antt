@@ -15,9 +15,9 @@ pub take_turn-turn-requires-clause-way : goal.take_turn-turn-requires-clause-way
 take_turn-turn-requires-clause-way g c = run_under_way c.self.inside.plan.now c.self.inside.runs.items c.self.inside.regions.items c.self.inside.made c.args.index c.index_mut-run.result.now c.self.invariant.0 (run_at c.self.inside.runs.items c.args.index c.index_mut-run.result.now c.args.self.now.finished (ap (λ (v : CoreView). v.finished) c.self.view_is) c.requires c.index_mut-run.ensures.value)
 
 pub take_turn-turn-requires-clause-room : goal.take_turn-turn-requires-clause-room
-take_turn-turn-requires-clause-room g c = λ middle route keeps reached.
-    subst (λ (x : List LoggedMemory). HasRoomAt x route.memory) (sym c.deref_mut.ensures.value)
-    (room_for_access c.self.inside.plan.now c.self.inside.runs.items c.self.inside.regions.items c.self.inside.made c.args.index c.index_mut-run.result.now middle route c.self.invariant.0 (run_at c.self.inside.runs.items c.args.index c.index_mut-run.result.now c.args.self.now.finished (ap (λ (v : CoreView). v.finished) c.self.view_is) c.requires c.index_mut-run.ensures.value) keeps reached)
+take_turn-turn-requires-clause-room g c = λ middle x route keeps reached.
+    subst (λ (regions : List LoggedMemory). HasRoomAt regions route.memory) (sym c.deref_mut.ensures.value)
+    (room_for_access c.self.inside.plan.now c.self.inside.runs.items c.self.inside.regions.items c.self.inside.made c.args.index c.index_mut-run.result.now middle x route c.self.invariant.0 (run_at c.self.inside.runs.items c.args.index c.index_mut-run.result.now c.args.self.now.finished (ap (λ (v : CoreView). v.finished) c.self.view_is) c.requires c.index_mut-run.ensures.value) keeps reached)
 
 pub take_turn-turn-requires-clause-round : goal.take_turn-turn-requires-clause-round
 take_turn-turn-requires-clause-round g c = in_round c.self.inside.plan.now c.self.inside.runs.items c.self.inside.regions.items c.self.inside.rounds c.self.inside.made c.args.index c.index_mut-run.result.now c.self.invariant.0 c.self.invariant.1 (run_at c.self.inside.runs.items c.args.index c.index_mut-run.result.now c.args.self.now.finished (ap (λ (v : CoreView). v.finished) c.self.view_is) c.requires c.index_mut-run.ensures.value)

@@ -29,5 +29,5 @@ invariant_of-self-in-Reached g c =
       its_note = rest.its_note;
       has_payload = refl;
       has_note = rest.has_note;
-      job = job_reached n.table n.tokens n.frame.world job.run c.step.new.self rest.its_payload c.step.new.payload rest.its_note job.wallet rest.job c.in-Reached.ensures.cases.2 room;
+      job = job_reached n.table n.tokens n.frame.world job.run c.step.new.self rest.its_payload c.step.new.payload rest.its_note job.wallet rest.job c.in-Reached.ensures.cases.1 room;
     }

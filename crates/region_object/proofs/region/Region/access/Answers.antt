@@ -1,10 +1,12 @@
-use Rattle.std.proofs.Common.{◌≡◌, ◌++◌, ◌∷◌, [], length, drop, arith, refl, sym, ap, ◌∙◌}
+use Rattle.std.proofs.Common.{◌≡◌, ℕ, ◌+◌, ◌++◌, ◌∷◌, [], length, drop, arith, refl, sym, ap, ◌∙◌}
 use Rattle.std.proofs.lemmas.List.{take_at}
 use Rattle.tlm_types.specs.declared.words.ObjectNo.TheVariants.{Memory}
 use Rattle.tlm_types.specs.declared.entry.What.{What}
 use Rattle.tlm_types.specs.Log.{LogView, entry_at, with_entry}
 use Rattle.tlm_model.specs.Store.{status_by, status_of, store_after}
 use Rattle.generic_payload.specs.Payload.{access_of}
+use Rattle.tlm_model.specs.Actions.{data_logged}
+use Rattle.region_object.specs.Call.{payload_cost}
 use Rattle.region_object.specs.Region.{LoggedMemory, answered, with_logged}
 use Rattle.region_object.proofs.Consistent.{IsConsistent-push}
 use Rattle.region_object.proofs.Told.{payload_after, told_by-access, buffer-told, store_after-transport, status_of-transport}
@@ -17,9 +19,10 @@ log_access-requires-clause-room_bytes c =
     let a = access_of p in
     let r = status_by s.traits a p.command in
     let after : c.set_hint.new.self ≡ payload_after p r c.if-self.set_hint s.store.items = rw (c.set_hint.ensures, c.set_status.ensures, c.move_bytes.ensures.payload, c.deref_mut.ensures.value, c.check-status.ensures.status) refl in
-    let size = (buffer-told p.command r a s.store.items c.requires.zeros).size in
+    let size = (buffer-told p.command r a s.store.items c.operand_of-operand.result c.requires.zeros c.operand_of-operand.ensures).size in
     let room = ap (λ (m : LoggedMemory). m.log.room_bytes) c.self.view_is in
-    rw after (omega (arith, size, room, c.requires.room_bytes))
+    let cost : payload_cost (payload_after p r c.if-self.set_hint s.store.items) ≡ payload_cost p = ap (λ (n : ℕ). data_logged p.command n + length p.enables) size in
+    rw after (omega (arith, cost, room, c.requires.room_bytes))
 
 pub invariant_of-self : goal.invariant_of-self
 invariant_of-self c =
@@ -28,7 +31,7 @@ invariant_of-self c =
     let a = access_of p in
     let r = status_by s.traits a p.command in
     let after : c.set_hint.new.self ≡ payload_after p r c.if-self.set_hint s.store.items = rw (c.set_hint.ensures, c.set_status.ensures, c.move_bytes.ensures.payload, c.deref_mut.ensures.value, c.check-status.ensures.status) refl in
-    let told = told_by-access s.traits s.log.entries s.store.items c.args.way p c.if-self.set_hint c.self.invariant.bytes_are c.requires.way c.requires.zeros in
+    let told = told_by-access s.traits s.log.entries s.store.items c.operand_of-operand.result c.args.way p c.if-self.set_hint c.self.invariant.bytes_are c.requires.way c.requires.zeros c.operand_of-operand.ensures in
     let log : c.log_access.new.log.entries ≡ s.log.entries ++ entry_at c.args.head (answered s.traits s.log.entries c.args.way a) ∷ [] = rw (c.log_access.ensures, after, told) refl in
     let stored : c.move_bytes.new.store ≡ store_after c.args.way (status_of s.traits c.args.way a) a s.store.items = rw (c.move_bytes.ensures.store, c.deref_mut.ensures.value, c.check-status.ensures.status, store_after-transport c.args.way (status_of s.traits c.args.way a) a s.store.items c.requires.way, status_of-transport c.args.way s.traits a c.requires.way) refl in
     let size : length c.move_bytes.new.store ≡ length s.store.items = c.move_bytes.auto.store ∙ ap length c.deref_mut.ensures.value in
@@ -42,7 +45,7 @@ returns-clause-memory c =
     let a = access_of p in
     let r = status_by s.traits a p.command in
     let after : c.set_hint.new.self ≡ payload_after p r c.if-self.set_hint s.store.items = rw (c.set_hint.ensures, c.set_status.ensures, c.move_bytes.ensures.payload, c.deref_mut.ensures.value, c.check-status.ensures.status) refl in
-    let told = told_by-access s.traits s.log.entries s.store.items c.args.way p c.if-self.set_hint c.self.invariant.bytes_are c.requires.way c.requires.zeros in
+    let told = told_by-access s.traits s.log.entries s.store.items c.operand_of-operand.result c.args.way p c.if-self.set_hint c.self.invariant.bytes_are c.requires.way c.requires.zeros c.operand_of-operand.ensures in
     let log : c.log_access.new.log ≡ with_entry s.log (entry_at c.args.head (answered s.traits s.log.entries c.args.way a)) = rw (c.log_access.ensures, after) (ap (λ (w : What). with_entry s.log (entry_at c.args.head w)) told) in
     ap (λ (l : LogView). record { number = s.number; traits = s.traits; first_gate = s.first_gate; log = l }) log
     ∙ ap (λ (m : LoggedMemory). with_logged m (entry_at c.args.head (answered m.traits m.log.entries c.args.way a))) c.self.view_is

@@ -1,5 +1,5 @@
 use Rattle.plat_run.proofs.MoveLemmas.{job_let_through}
-use Rattle.plat_run.proofs.initiator.BlockingInitiator.is_let_through.Goals as goal
+use Rattle.plat_run.proofs.initiator.BlockingInitiator.sync.Goals as goal
 
 pub invariant_of-self : goal.invariant_of-self
 invariant_of-self g c =

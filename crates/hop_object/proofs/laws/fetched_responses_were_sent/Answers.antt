@@ -1,5 +1,0 @@
-use Rattle.hop_object.proofs.ReplyLaws.{fetched_sent}
-use Rattle.hop_object.proofs.laws.fetched_responses_were_sent.Goals as goal
-
-pub returns : goal.returns
-returns g c = fetched_sent
