@@ -7,6 +7,8 @@ import sys
 
 ROOT = os.path.dirname(os.path.dirname(os.path.abspath(__file__)))
 
+RUNNING = set()
+
 
 def crates(root=ROOT):
     """The crates of crates.txt, each with those of this repository that it stands on."""
@@ -83,9 +85,17 @@ def run_timed(command, folder, log):
         started = subprocess.Popen(
             command, cwd=folder, stdin=subprocess.DEVNULL, stdout=out, stderr=subprocess.STDOUT
         )
+        RUNNING.add(started)
         _, status, used = os.wait4(started.pid, 0)
+        RUNNING.discard(started)
     started.returncode = os.waitstatus_to_exitcode(status)
     return started.returncode, used.ru_utime + used.ru_stime
+
+
+def end_running():
+    """Ends the commands that run."""
+    for it in list(RUNNING):
+        it.terminate()
 
 
 def clock(seconds):

@@ -39,7 +39,7 @@ class Memory:
             return "ok"
         if offset + span > len(self.bytes):
             return "address_error"
-        if not self.row.get(command, True):
+        if not all(self.row.get(it, True) for it in (("read", "write", command) if command == "fetch_add" else (command,))):
             return "command_error"
         if enables and not self.row.get("byte_enables", True):
             return "byte_enable_error"
@@ -48,7 +48,13 @@ class Memory:
         return "ok"
 
     def move(self, command, offset, data, enables, width):
-        """Writes the data, or reads into it, where the enables allow."""
+        """Writes the data, or reads into it, where the enables allow; a fetch_add does both."""
+        if command == "fetch_add":
+            found = self.bytes[offset : offset + 4]
+            total = int.from_bytes(found, "little") + int.from_bytes(data, "little")
+            self.bytes[offset : offset + 4] = (total % 2**32).to_bytes(4, "little")
+            data[:] = found
+            return
         for k in range(len(data)):
             if enables and enables[k % len(enables)] != 0xFF:
                 continue
@@ -97,7 +103,7 @@ class Run:
         if name is None:
             i.refused.append(f"refused {i.row['name']}.{number} {now} {'debug' if is_debug else command} {address:#x}")
             return data
-        memory, length = self.memories[name], len(data)
+        memory, length, sent = self.memories[name], len(data), bytes(data)
         if is_debug:
             status, data = "ok", memory.bytes[offset : offset + length]
         else:
@@ -105,7 +111,8 @@ class Run:
             i.local += memory.row.get("latency", 0)
             if status == "ok" and command != "ignore":
                 memory.move(command, offset, data, enables, width)
-        marks = f"be={enables.hex() or '-'} sw={width} {bytes(data).hex() or '-'} {status}"
+        operand = f"{sent.hex()}:" if command == "fetch_add" else ""
+        marks = f"be={enables.hex() or '-'} sw={width} {operand}{bytes(data).hex() or '-'} {status}"
         head = f"{len(self.entries)} {now} {i.row['name']}.{number} {name}"
         self.entries.append(f"{head} {way} {command} {offset:#x} {length} {marks}")
         return data
@@ -123,6 +130,9 @@ class Run:
             self.access(i, "blocking", "ignore", number(arguments[0]), bytearray())
         elif word == "debug":
             self.access(i, "debug", "read", number(arguments[0]), bytearray(number(arguments[1])))
+        elif word == "fetch_add":
+            operand = bytearray(number(arguments[1]).to_bytes(4, "little"))
+            self.access(i, "blocking", "fetch_add", number(arguments[0]), operand)
         elif word == "wait":
             i.local += number(arguments[0])
         elif word in ("copy", "add") and i.buffer is None:
