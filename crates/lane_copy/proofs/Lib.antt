@@ -1,2 +1,4 @@
 pub mod Merged
+pub mod Repeats
 pub mod Stretches
+pub mod Vectors

@@ -1,5 +1,5 @@
 -- Masked copies, byte by byte (IEEE 1666-2011, clause 14).
-use Rattle.std.specs.Prelude.{ℕ, ◌%◌, Bool, true, List, length, map, slice_index, if◌then◌else◌, ◌==◌}
+use Rattle.std.specs.Prelude.{ℕ, ◌%◌, List, length, map, slice_index, if◌then◌else◌, ◌==◌}
 use Rattle.std.specs.List.{range_with_len}
 use Rattle.tlm_types.specs.Enables.{is_lane_enabled}
 

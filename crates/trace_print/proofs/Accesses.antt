@@ -1,31 +1,28 @@
 -- The entries of a good history of a valid plan are accesses.
-use Rattle.std.proofs.Common.{◌≡◌, ℕ, ◌+◌, true, List, [], ◌∷◌, ◌++◌, Option, Some, None, refl, subst}
+use Rattle.std.proofs.Common.{◌≡◌, ℕ, true, List, [], ◌∷◌, ◌++◌, Option, Some, None, refl, subst}
 use Rattle.std.specs.List.{AllByRecursion}
 use Rattle.tlm_types.specs.declared.words.ObjectNo.{ObjectNo}
 use Rattle.tlm_types.specs.declared.words.ObjectNo.TheVariants.{Memory, Hop, Pool}
 use Rattle.tlm_types.specs.declared.entry.Entry.{Entry}
 use Rattle.tlm_types.specs.declared.entry.What.{What}
 use Rattle.tlm_types.specs.declared.entry.What.TheVariants.{Access as Accessed, Granted, Invalidated, Closed, Call, Take, Acquire, Release}
-use Rattle.tlm_model.specs.declared.operation.Operation.{Operation}
-use Rattle.tlm_model.specs.declared.operation.Operation.TheVariants.{Write, Read, Ignore, Debug, Copy, Add, FetchAdd, Wait, Sync, Fence, Invalidate}
-use Rattle.tlm_model.specs.declared.platform.Platform.{Platform}
 use Rattle.tlm_model.specs.declared.platform.Style.{Style}
 use Rattle.tlm_model.specs.declared.platform.Style.TheVariants.{Blocking}
 use Rattle.tlm_model.specs.Each.{EachFrom}
-use Rattle.tlm_model.specs.Plan.{Plan, Initiator}
+use Rattle.tlm_model.specs.Plan.{Plan, Initiator, initiators_of}
 use Rattle.tlm_types.specs.Log.{is_access}
-use Rattle.tlm_model.specs.Requests.{Asked, Transport, DebugRead, Invalidation, Request, buffer_of, requests_from, requests_of}
-use Rattle.tlm_model.specs.Route.{Route, later, latency_of, route_of}
+use Rattle.tlm_model.specs.Requests.{Asked, Transport, DebugRead, Invalidation, requests_of}
+use Rattle.tlm_model.specs.Route.{Route, route_of}
 use Rattle.tlm_model.specs.Scripts.{HasWay, IsCloser, IsEntryOf, IsGrantee, IsInvalidationOf, OfRequest}
 use Rattle.flow_plan.specs.Plans.{IsDecoupled}
+use Rattle.grant_model.specs.Laws.{IsNoInvalidation}
+use Rattle.grant_model.proofs.Ungranted.{IsNoCloser, no_closers}
 use Rattle.good_history.specs.Good.{IsSound}
 use Rattle.good_history.specs.Laws.{AllDecoupled}
 use Rattle.good_history.proofs.Decoupled.{sound_is_decoupled}
-use Rattle.traffic_script.specs.Proper.{AreProper, IsProper}
 use Rattle.route_plan.specs.Valid.{IsValid}
-use Rattle.run_outcome.proofs.PlanLemmas.{blocking_at, no_fourphase}
-use Rattle.trace_print.proofs.OfRequests.{all-at, at-request, request-of, script-of}
-use Rattle.trace_print.proofs.Requested.{used-each}
+use Rattle.run_outcome.proofs.PlanLemmas.{blocking_at, no_fourphase, no_invalidation}
+use Rattle.trace_print.proofs.OfRequests.{all-at, at-request, request-of}
 
 -- each entry is an access
 abbrev pub IsOfAccesses : List Entry → Type 0
@@ -41,26 +38,6 @@ Ways p before e = OfRequest p before e (λ i r. HasWay i.row.style r.asked e.wha
 -- an access or a debug read
 abbrev IsAccess : Asked → Type 0
 IsAccess asked = IsCloser asked → ⊥
-
-abbrev AsksAccess : Request → Type 0
-AsksAccess r = IsAccess r.asked
-
--- a proper script asks for no invalidation
-asks-accesses : (p : Platform) (i : Initiator) (h : List Entry) (s t g : ℕ) (ops : List Operation) → AllByRecursion IsProper ops → AllByRecursion AsksAccess (requests_from p i h s t g ops)
-asks-accesses p i h s t g [] proper = tt
-asks-accesses p i h s t g (Write a bs enables width ∷ ops) proper = (λ closes. closes, asks-accesses p i h (s + 1) (later t (latency_of p i a)) g ops proper.1)
-asks-accesses p i h s t g (Read a n enables width ∷ ops) proper = (λ closes. closes, asks-accesses p i h (s + 1) (later t (latency_of p i a)) g ops proper.1)
-asks-accesses p i h s t g (Ignore a ∷ ops) proper = (λ closes. closes, asks-accesses p i h (s + 1) (later t (latency_of p i a)) g ops proper.1)
-asks-accesses p i h s t g (Debug a n ∷ ops) proper = (λ closes. closes, asks-accesses p i h (s + 1) t (g + 2) ops proper.1)
-asks-accesses p i h s t g (Copy from to n ∷ ops) proper =
-    (λ closes. closes, used-each AsksAccess (buffer_of p i h s from n) _ (λ got is. (λ closes. closes, asks-accesses p i h (s + 2) (later (later t (latency_of p i from)) (latency_of p i to)) (g + 3) ops proper.1)))
-asks-accesses p i h s t g (Add a n ∷ ops) proper =
-    (λ closes. closes, used-each AsksAccess (buffer_of p i h s a 4) _ (λ got is. (λ closes. closes, asks-accesses p i h (s + 2) (later (later t (latency_of p i a)) (latency_of p i a)) (g + 3) ops proper.1)))
-asks-accesses p i h s t g (FetchAdd a n ∷ ops) proper = (λ closes. closes, asks-accesses p i h (s + 1) (later t (latency_of p i a)) (g + 2) ops proper.1)
-asks-accesses p i h s t g (Wait n ∷ ops) proper = asks-accesses p i h s (later t n) (g + 1) ops proper.1
-asks-accesses p i h s t g (Sync ∷ ops) proper = asks-accesses p i h s t (g + 1) ops proper.1
-asks-accesses p i h s t g (Fence ∷ ops) proper = asks-accesses p i h s t (g + 1) ops proper.1
-asks-accesses p i h s t g (Invalidate a n ∷ ops) proper = absurd proper.0
 
 -- a blocking initiator has no grant
 no-grant : (asked : Asked) → IsGrantee Blocking asked → ⊥
@@ -95,8 +72,8 @@ module _ (p : Plan) (valid : IsValid p) where
       let i = found.initiator in
       let r = found.request in
       let blocking = blocking_at p valid e.txn.initiator i found.of_it in
-      let proper = script-of AreProper 0 e.txn.initiator p.platform.initiators p.scripts i valid.proper found.of_it in
-      let access = all-at AsksAccess (requests_of p.platform i before) (asks-accesses p.platform i before 0 0 0 i.script proper.each) e.txn.seq r found.asked_for in
+      let quiet = all-at (λ (x : Initiator). AllByRecursion IsNoInvalidation x.script) (initiators_of p) (no_invalidation p valid) e.txn.initiator i found.of_it in
+      let access = all-at IsNoCloser (requests_of p.platform i before) (no_closers p.platform i before 0 0 0 i.script quiet) e.txn.seq r found.asked_for in
       let is = at-request p before e (λ i r. IsEntryOf (route_of p.platform i r.address) r.asked e.object e.what) reply found in
       let came = subst (λ (style : Style). HasWay style r.asked e.what) blocking (at-request p before e (λ i r. HasWay i.row.style r.asked e.what) way found) in
       accessed-by (route_of p.platform i r.address) r.asked e.object e.what access is came plain

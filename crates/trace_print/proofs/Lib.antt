@@ -8,6 +8,7 @@ pub mod EndLemmas
 pub mod StoreLemmas
 pub mod ReportLemmas
 pub mod TextLemmas
+pub mod VectorLemmas
 pub mod WordLemmas
 pub mod NumberLemmas
 pub mod HexLemmas

@@ -5,7 +5,7 @@ use Rattle.std.specs.Fmt.{digit_glyph, digits, digits_onto}
 use Rattle.std.proofs.lemmas.List.{take_more, take_more_set}
 use Rattle.tlm_model.specs.Text.{data_word, hex_of}
 
-hex-append : (a b : List ℕ) → hex_of (a ++ b) ≡ hex_of a ++ hex_of b
+pub hex-append : (a b : List ℕ) → hex_of (a ++ b) ≡ hex_of a ++ hex_of b
 hex-append [] b = refl
 hex-append (x ∷ xs) b = ap (λ (l : List ℕ). digit_glyph false (x / 16) ∷ digit_glyph false (x % 16) ∷ l) (hex-append xs b)
 

@@ -1,13 +1,17 @@
 // Pieces of a line, written at a place of some bytes. Each call answers the place behind what it wrote.
 // The place goes from one write to the next in a register, and digits are written where they stay.
-ghost use Rattle.std.specs.Prelude.{◌≡◌, ◌+◌, ◌*◌, ◌/◌, ◌%◌, ◌<◌, ◌≤◌, [], ◌∷◌, ◌++◌, false, codes, drop, length, take};
+ghost use Rattle.std.specs.Prelude.{◌≡◌, ℕ, ◌+◌, ◌*◌, ◌/◌, ◌%◌, ◌<◌, ◌≤◌, [], ◌∷◌, ◌++◌, false, codes, drop, length, slice_index, take};
 ghost use Rattle.std.specs.Fmt.{decimal, digits, digit_glyph};
 ghost use Rattle.report_model.specs.Report.{command_word, way_word};
 ghost use Rattle.tlm_model.specs.Text.{address_word, hex_of};
 ghost use Rattle.trace_print.specs.Pieces.{Adds, asked_text, piece_text, seq_text, status_text, times_text, unmasked_text, width_text};
 
 use itoa::write_digits;
+use std::simd::prelude::*;
 use tlm_types::{Command, Facts, Ps, Response, Way};
+
+// How many bytes a vector has.
+const WIDTH: usize = 16;
 
 /// How many bytes a piece takes at most.
 pub const PIECE_MAX: usize = 128;
@@ -133,9 +137,6 @@ fn write_spaced(bytes: &mut [u8], start: usize, number: u64) -> usize
     write_word(bytes, end, b" ")
 }
 
-// Below so many bytes the digits of each are looked up by themselves.
-const FEW: usize = 16;
-
 // The two digits of each byte.
 static HEX_PAIRS: [u8; 512] =
     *b"000102030405060708090a0b0c0d0e0f101112131415161718191a1b1c1d1e1f202122232425262728292a2b2c2d2e2f303132333435363738393a3b3c3d3e3f404142434445464748494a4b4c4d4e4f505152535455565758595a5b5c5d5e5f606162636465666768696a6b6c6d6e6f707172737475767778797a7b7c7d7e7f808182838485868788898a8b8c8d8e8f909192939495969798999a9b9c9d9e9fa0a1a2a3a4a5a6a7a8a9aaabacadaeafb0b1b2b3b4b5b6b7b8b9babbbcbdbebfc0c1c2c3c4c5c6c7c8c9cacbcccdcecfd0d1d2d3d4d5d6d7d8d9dadbdcdddedfe0e1e2e3e4e5e6e7e8e9eaebecedeeeff0f1f2f3f4f5f6f7f8f9fafbfcfdfeff";
@@ -149,8 +150,7 @@ fn pair_of(byte: u8) -> [u8; 2]
     [HEX_PAIRS[from], HEX_PAIRS[from + 1]]
 }
 
-// Writes each byte as two digits, which are the first of these. So few are done by the time that several at
-// once would have begun.
+// Writes each byte as two digits, which are the first of these.
 #[inline(always)]
 fn write_few_pairs(bytes: &[u8], digits: &mut [u8])
     requires { 2 * length bytes.now ≤ length digits.old }
@@ -163,7 +163,7 @@ fn write_few_pairs(bytes: &[u8], digits: &mut [u8])
     }
 }
 
-// A digit below 16, as a lower-case hexadecimal one. Without a table a compiler makes several at once.
+// A digit below 16, as a lower-case hexadecimal one.
 fn glyph(digit: u8) -> u8
     requires { digit < 16 }
     ensures { result ≡ digit_glyph false digit }
@@ -175,16 +175,47 @@ fn glyph(digit: u8) -> u8
     }
 }
 
-// Writes each byte as two digits, which are the first of these.
+// The same, as many bytes at once as a vector has.
 #[inline(always)]
 fn write_many_pairs(bytes: &[u8], digits: &mut [u8])
     requires { 2 * length bytes.now ≤ length digits.old }
     ensures { take (2 * length bytes.now) digits.new ≡ hex_of bytes.now }
 {
-    for (k, byte) in bytes.iter().enumerate() {
-        digits[2 * k] = glyph(*byte / 16);
-        digits[2 * k + 1] = glyph(*byte % 16);
+    let mut done = 0;
+    while WIDTH <= bytes.len() - done {
+        let end = done + WIDTH;
+        write_vector(&bytes[done..end], &mut digits[2 * done..2 * end]);
+        done = end;
     }
+    write_few_pairs(&bytes[done..], &mut digits[2 * done..]);
+}
+
+// Writes the digits of 16 bytes.
+#[inline(always)]
+fn write_vector(bytes: &[u8], digits: &mut [u8])
+    requires bytes { length bytes.now ≡ 16 }
+    requires digits { length digits.old ≡ 32 }
+    ensures { digits.new ≡ hex_of bytes.now }
+{
+    let bytes = u8x16::from_slice(bytes);
+    let high = glyphs(bytes >> u8x16::splat(4));
+    let low = glyphs(bytes & u8x16::splat(15));
+    let (front, back) = high.interleave(low);
+    front.copy_to_slice(&mut digits[..WIDTH]);
+    back.copy_to_slice(&mut digits[WIDTH..]);
+}
+
+// Each digit below 16 as a lower-case hexadecimal one.
+#[inline(always)]
+fn glyphs(digits: u8x16) -> u8x16
+    requires { (k : ℕ) → k < 16 → slice_index digits k < 16 }
+    ensures long { length result ≡ 16 }
+    ensures each { (k : ℕ) → k < 16 → slice_index result k ≡ digit_glyph false (slice_index digits k) }
+{
+    let from = digits
+        .simd_lt(u8x16::splat(10))
+        .select(u8x16::splat(b'0'), u8x16::splat(b'a' - 10));
+    digits + from
 }
 
 /// Writes each byte as two digits.
@@ -195,7 +226,7 @@ pub fn write_data(bytes: &mut [u8], start: usize, source: &[u8]) -> usize
     ensures end { result ≡ start + 2 * length source.now }
 {
     let digits = &mut bytes[start..];
-    if source.len() < FEW {
+    if source.len() < WIDTH {
         write_few_pairs(source, digits);
     } else {
         write_many_pairs(source, digits);

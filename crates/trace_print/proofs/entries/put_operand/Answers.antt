@@ -1,6 +1,6 @@
 use Rattle.trace_print.proofs.EntryLemmas.{no-operand}
 use Rattle.trace_print.proofs.Putting.{puts-as, puts-more, puts-nothing}
-use Rattle.std.proofs.Common.{refl, sym, ◌∙◌}
+use Rattle.std.proofs.Common.{sym, ◌∙◌}
 use Rattle.trace_print.proofs.entries.put_operand.Goals as goal
 
 pub returns-then-has_operand : goal.returns-then-has_operand
