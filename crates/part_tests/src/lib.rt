@@ -2,7 +2,8 @@
 //! these can't say is shown here.
 //!
 //! - `payloads` has the generic payload of `generic_payload`, `engines` the scripts of `script_engine`,
-//!   `lanes` the masked copies of `lane_copy`, `events` the queue of `event_queue`.
+//!   `lanes` the masked copies of `lane_copy`, `events` the queue of `event_queue`,
+//!   `generators` the loads of `traffic_gen`.
 //! - `sequences` has rows of four-phase calls by the checks of `flow_check`.
 //! - `boards` has the rounds of `time_board`, `queues` the jobs of `run_queue`: by one thread, and by two at
 //!   once, which meet at their locks.
@@ -17,6 +18,8 @@ mod boards;
 mod engines;
 #[cfg(test)]
 mod events;
+#[cfg(test)]
+mod generators;
 #[cfg(test)]
 mod lanes;
 #[cfg(test)]
