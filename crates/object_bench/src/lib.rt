@@ -15,6 +15,8 @@ mod counters;
 #[cfg(test)]
 mod gates;
 #[cfg(test)]
+mod grants;
+#[cfg(test)]
 mod history;
 #[cfg(test)]
 mod memories;

@@ -273,6 +273,7 @@ fn passing<N: Naming<(), NoLaw>, R: Wait + Abort>(
 
 // A memory of eight bytes with room for three entries and eight bytes of them, and one gate.
 fn blank(alloc: Global, number: u32) -> Result<Region, Memory>
+    requires { number ≤ 1 }
     ensures { IfOk result (λ r. r ≡ blank_region number) }
 {
     let traits = MemoryTraits {

@@ -183,6 +183,7 @@ fn is_answered(reply: &RegionReply, row: &Row) -> bool {
         RegionReply::Moved { payload, moved } => {
             *moved == row.got.len() as u64 && has_data(payload, row)
         }
+        _ => false,
     }
 }
 

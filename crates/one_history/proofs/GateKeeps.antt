@@ -121,11 +121,11 @@ module _ {E G : Type 0} (key : Frame G) (log : List (Entry E)) (st : State ℕ (
         total f j s = let q = total_put f st.views id v (joined v w) mine in let t = total_put f (set st.views id (joined v w)) other w spent_view there in omega arith
 
 -- a total of smaller terms
-total_le : {A : Type 0} (f g : A → ℕ) (l : List A) → ((i : ℕ) (x : A) → get_elem? l i ≡ some x → f x ≤ g x) → sum_by f l ≤ sum_by g l
+pub total_le : {A : Type 0} (f g : A → ℕ) (l : List A) → ((i : ℕ) (x : A) → get_elem? l i ≡ some x → f x ≤ g x) → sum_by f l ≤ sum_by g l
 total_le f g [] h = omega arith
 total_le f g (x ∷ xs) h = let a = h 0 x refl in let b = total_le f g xs (λ i y e. h (suc i) y e) in omega (arith, sum_by-cons f x xs, sum_by-cons g x xs)
 
-stays_long : (g : ℕ) (l : List Stay) → sum_by (stay_at g) l ≤ length l
+pub stays_long : (g : ℕ) (l : List Stay) → sum_by (stay_at g) l ≤ length l
 stays_long g [] = omega arith
 stays_long g (x ∷ xs) = let q = stays_long g xs in let r : stay_at g x ≤ 1 = elim (x.gate == g) as (λ b. cond b 1 0 ≤ 1) [ true ↦ omega arith | false ↦ omega arith ] in omega (arith, sum_by-cons (stay_at g) x xs)
 

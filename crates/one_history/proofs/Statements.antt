@@ -1,6 +1,7 @@
 -- The parts of the rule, from the rule.
-use Rattle.std.proofs.Common.{◌≡◌, ℕ, zero, suc, ◌<◌, ◌≤◌, ◌==◌, List, [], ◌∷◌, length, refl, sym, ap, ◌∙◌, subst, ⊎_elim, arith}
+use Rattle.std.proofs.Common.{◌≡◌, ℕ, zero, suc, ◌⊎◌, inl, inr, ◌+◌, ◌<◌, ◌≤◌, ◌==◌, Bool, true, false, List, [], ◌∷◌, length, refl, sym, ap, ◌∙◌, subst, ⊎_elim, arith}
 use Rattle.std.specs.Prelude.{slice_index, slice_index_or, AllPairs}
+use Rattle.std.specs.List.{sum_by}
 use Rattle.std.proofs.lemmas.Bool.{cases_lt}
 use Rattle.std.proofs.lemmas.List.Kept.{AllPairs-filter}
 use mathlib.Core.Option.{some, some-injective}
@@ -15,9 +16,10 @@ use Rattle.one_history.specs.declared.view.Frame.{Frame}
 use Rattle.one_history.specs.declared.view.Owned.{Owned}
 use Rattle.one_history.specs.declared.view.View.{View}
 use Rattle.one_history.specs.Lists.{object_of, entries_at}
-use Rattle.one_history.specs.Gates.{NamesOwn, KeepsGates}
+use Rattle.one_history.specs.Gates.{top_bit, mark_word, total_gates, stays_of, inside_all, IsRevoked, IsShut, NamesOwn, KeepsGates}
 use Rattle.one_history.specs.Rule.{HasLog}
-use Rattle.one_history.specs.Parts.{IsBefore, Sits, Owns, StandsOnce, KnowsHistory, HasOneSeat, SharesNotes, MergesBacked, MindsGates, IsKept}
+use Rattle.one_history.specs.Parts.{IsBefore, Sits, Owns, StandsOnce, KnowsHistory, HasOneSeat, SharesNotes, MergesBacked, gate_word, HasMark, IsRevokedAt, CountsStays, MarksRevoked, KeepsShut, EndsDirect, IsKept}
+use Rattle.one_history.proofs.GateKeeps.{total_le, stays_long}
 
 module _ {A : Type 0} where
   -- something stands below the length
@@ -120,9 +122,87 @@ module _ {E G : Type 0} (backs : G → List (Entry E) → Entry E → Type 0) (k
     backed = h.backed;
   }
 
-  pub minds_gates : KeepsGates key log s → MindsGates backs key s
-  unfolding merges_backed
-  minds_gates gated = record { merged = merges_backed; gated = gated }
+  module _ (gated : KeepsGates key log s) where
+    stays_few : (g : ℕ) → sum_by (stays_of g) s.views < 4294967296
+    stays_few g =
+        let q = total_le (stays_of g) (λ (u : View E G). u.notes) s.views (λ i u at. let b = (gated.each i u at).few in let c = stays_long g u.stays in omega arith) in
+        let n = h.notes in
+        let l = gated.notes in
+        omega arith
 
-  pub is_kept : KeepsGates key log s → IsKept backs key s
-  is_kept gated = record { drawn = stands_once; seen = knows_history; seated = has_one_seat gated; gated = minds_gates gated; spent = shares_notes; backed = merges_backed }
+    word_by : (g : ℕ) (m : Bool) → g < total_gates key → gated.mark g ≡ m → gate_word s g ≡ mark_word m + sum_by (stays_of g) s.views
+    word_by g m here is = gated.word g here ∙ ap (λ (b : Bool). mark_word b + sum_by (stays_of g) s.views) is
+
+    pub counts_stays : CountsStays key s
+    counts_stays = record {
+      word = λ g here. by_mark g here (gated.mark g) refl;
+      below = λ g. let f = stays_few g in omega arith;
+      few = λ i v at. (gated.each i v at).few;
+    }
+      where
+        by_mark : (g : ℕ) → g < total_gates key → (m : Bool) → gated.mark g ≡ m → (gate_word s g ≡ sum_by (stays_of g) s.views) ⊎ (gate_word s g ≡ top_bit + sum_by (stays_of g) s.views)
+        by_mark g here true is = inr (word_by g true here is)
+        by_mark g here false is = inl (let w = word_by g false here is in omega arith)
+
+    -- the object whose own entries have the grant has the invalidation too
+    revoked_at : (g : ℕ) → IsRevoked log g → IsRevokedAt s.views g
+    revoked_at g r =
+        let o = r.grant.object in
+        let own = owned_in r.has_grant.0 r.grant r.has_grant.1 in
+        let x = own.0 in
+        let is : x.own ≡ entries_at o log = (sits (h.place o) x own.1).2 ∙ ap (λ (n : ℕ). entries_at n log) own.2 in
+        let cut : Has (entries_at o log) r.cut = subst (λ (n : ℕ). Has (entries_at n log) r.cut) (sym r.object) (of_key-has object_of log r.cut r.has_cut) in (
+          h.place o,
+          x,
+          own.1,
+          record {
+            grant = r.grant;
+            cut = r.cut;
+            first = r.first;
+            last = r.last;
+            from = r.from;
+            to = r.to;
+            has_grant = own.3;
+            has_cut = subst (λ (l : List (Entry E)). Has l r.cut) (sym is) cut;
+            is_grant = r.is_grant;
+            is_cut = r.is_cut;
+            later = r.later;
+            object = r.object;
+            meet = r.meet;
+          },
+        )
+
+    is_marked : (g : ℕ) (m : Bool) → g < total_gates key → HasMark s g → gated.mark g ≡ m → gated.mark g ≡ true
+    is_marked g true here high is = is
+    is_marked g false here high is = let w = word_by g false here is in let f = stays_few g in absurd (omega arith)
+
+    pub marks_revoked : MarksRevoked key s
+    marks_revoked = record {
+      marked = λ g here high. revoked_at g (gated.ends.marked g (is_marked g (gated.mark g) here high refl));
+      void = λ g i v at has. revoked_at g ((gated.each i v at).void g has);
+    }
+
+    shut : (g : ℕ) → g < total_gates key → IsShut gated.mark (inside_all s.views) g → HasMark s g × (inside_all s.views g ≡ 0)
+    shut g here is = ((let w = word_by g true here is.marked in omega arith), is.empty)
+
+    pub keeps_shut : KeepsShut key s
+    keeps_shut = record {
+      drained = λ g i v here at has. shut g here ((gated.each i v at).drained g has);
+      closed = λ g i o e here own is. shut g here (gated.ends.closed e.position e (in_log i o e own).1 g is);
+    }
+
+    pub ends_direct : EndsDirect s.views
+    ends_direct = λ g i j o q d c a b is_d is_c. gated.ends.last c.position d.position c d (in_log j q c b).1 (in_log i o d a).1 g is_c is_d
+
+    pub is_kept : IsKept backs key s
+    is_kept = record {
+      drawn = stands_once;
+      seen = knows_history;
+      seated = has_one_seat gated;
+      counted = counts_stays;
+      marked = marks_revoked;
+      drained = keeps_shut;
+      revoked = ends_direct;
+      spent = shares_notes;
+      backed = merges_backed;
+    }

@@ -1,16 +1,17 @@
 -- The parts of the rule, in words of the views alone.
-use Rattle.std.specs.Prelude.{◌≡◌, ℕ, ◌<◌, ◌≤◌, List, length, Some, None, slice_index, slice_index_or, AllPairs}
+use Rattle.std.specs.Prelude.{◌≡◌, ℕ, ◌⊎◌, ◌+◌, ◌<◌, ◌≤◌, List, length, Some, None, slice_index, slice_index_or, AllPairs}
 use Rattle.std.specs.List.{sum_by}
 use mathlib.Core.Option.{some}
 use lib.ListN.{get_elem?}
 use Rattle.atomic_table.specs.Table.{State}
 use Rattle.view_lists.specs.Lists.{Has, Within}
 use Rattle.one_history.specs.declared.entry.Entry.{Entry}
+use Rattle.one_history.specs.declared.entry.Sign.TheVariants.{Direct, Closed}
 use Rattle.one_history.specs.declared.view.Frame.{Frame}
 use Rattle.one_history.specs.declared.view.Owned.{Owned}
 use Rattle.one_history.specs.declared.view.View.{View}
 use Rattle.one_history.specs.Lists.{entries_at}
-use Rattle.one_history.specs.Gates.{NamesOwn, KeepsGates}
+use Rattle.one_history.specs.Gates.{top_bit, total_gates, stays_of, inside_all, IsRevoked, NamesOwn}
 use Rattle.one_history.specs.Rule.{spent_view}
 use Rattle.one_history.specs.Closing.{Numbered, AreBacked}
 
@@ -66,17 +67,47 @@ module _ {E G : Type 0} where
     pub whole : (e : Entry E) → Has log e → (i : ℕ) × Owns views i e.object e
     pub backed : AreBacked backs key.world log
 
-  -- of this list: a gate's word is its mark and the stays at it, which are no more than the notes; a gate that is marked or void to a view
-  -- is revoked; one that is drained to a view or closed is marked and empty; and no direct access through a gate stands after its closing
-  pub record MindsGates (backs : G → List (Entry E) → Entry E → Type 0) (key : Frame G) (s : State ℕ (View E G)) : Type 0 where
-    pub merged : MergesBacked backs key (slice_index s.words 0) s.views
-    pub gated : KeepsGates key merged.log s
+  -- the word of a gate
+  abbrev pub gate_word : State ℕ (View E G) → ℕ → ℕ
+  gate_word s g = slice_index s.words (1 + g)
+
+  -- the gate has its mark
+  abbrev pub HasMark : State ℕ (View E G) → ℕ → Type 0
+  HasMark s g = top_bit ≤ gate_word s g
+
+  -- an object's own entries have the gate's grant, and after it an overlapping invalidation
+  abbrev pub IsRevokedAt : List (View E G) → ℕ → Type 0
+  IsRevokedAt views g = (i : ℕ) × (x : Owned E) × Sits views i x × IsRevoked x.own g
+
+  -- a gate's word is its mark, which is 0 or the top bit, and the number of stays at it in all views, which is below the top bit; no
+  -- view has more stays than it stands for notes
+  pub record CountsStays (key : Frame G) (s : State ℕ (View E G)) : Type 0 where
+    pub word : (g : ℕ) → g < total_gates key → (gate_word s g ≡ sum_by (stays_of g) s.views) ⊎ (gate_word s g ≡ top_bit + sum_by (stays_of g) s.views)
+    pub below : (g : ℕ) → sum_by (stays_of g) s.views < top_bit
+    pub few : (i : ℕ) (v : View E G) → get_elem? s.views i ≡ some v → length v.stays ≤ v.notes
+
+  -- a gate that is marked, or void to a view, is revoked
+  pub record MarksRevoked (key : Frame G) (s : State ℕ (View E G)) : Type 0 where
+    pub marked : (g : ℕ) → g < total_gates key → HasMark s g → IsRevokedAt s.views g
+    pub void : (g i : ℕ) (v : View E G) → get_elem? s.views i ≡ some v → Has v.void g → IsRevokedAt s.views g
+
+  -- a gate that is drained to a view, or whose closing stands among an object's own entries, is marked, and no view is inside it
+  pub record KeepsShut (key : Frame G) (s : State ℕ (View E G)) : Type 0 where
+    pub drained : (g i : ℕ) (v : View E G) → g < total_gates key → get_elem? s.views i ≡ some v → Has v.drained g → HasMark s g × (inside_all s.views g ≡ 0)
+    pub closed : (g i o : ℕ) (e : Entry E) → g < total_gates key → Owns s.views i o e → e.sign ≡ Closed g → HasMark s g × (inside_all s.views g ≡ 0)
+
+  -- each direct access through a gate stands before its closing
+  abbrev pub EndsDirect : List (View E G) → Type 0
+  EndsDirect views = (g i j o q : ℕ) (d c : Entry E) → Owns views i o d → Owns views j q c → d.sign ≡ Direct g → c.sign ≡ Closed g → d.position < c.position
 
   -- all parts of the rule
   pub record IsKept (backs : G → List (Entry E) → Entry E → Type 0) (key : Frame G) (s : State ℕ (View E G)) : Type 0 where
     pub drawn : StandsOnce (slice_index s.words 0) s.views
     pub seen : KnowsHistory (slice_index s.words 0) s.views
     pub seated : HasOneSeat key s.views
-    pub gated : MindsGates backs key s
+    pub counted : CountsStays key s
+    pub marked : MarksRevoked key s
+    pub drained : KeepsShut key s
+    pub revoked : EndsDirect s.views
     pub spent : SharesNotes key s.views
     pub backed : MergesBacked backs key (slice_index s.words 0) s.views

@@ -130,7 +130,8 @@ impl<E, G, W: Law<E, G>> History<E, G, W> {
     }
 
     /// Waits until nobody is inside the gate, which is void to the note. Then the gate is drained to the
-    /// note: nobody is ever inside it again. Nothing is promised of how long it waits.
+    /// note: nobody is ever inside it again. Between two looks it sleeps until a stay at the gate has
+    /// ended. Nothing is promised of how long it waits.
     pub fn drain<R: Wait>(&self, rt: &R, note: &mut Note<E, G, W>, gate: u32)
         requires gate { gate < total_gates self.now.frame }
         requires note { note.old.table ≡ self.now.table }

@@ -32,8 +32,9 @@ pub use gates::Entered;
 pub use history::History;
 pub use law::{Drawn, Law, Looked, NoLaw};
 pub use parts::{
-    entries_are_backed, gates_are_minded, notes_are_shared_out, objects_have_one_seat,
-    positions_stand_once, rule_is_kept, views_know_the_history,
+    closings_are_last, entries_are_backed, marked_gates_are_revoked, notes_are_shared_out,
+    objects_have_one_seat, positions_stand_once, rule_is_kept, shut_gates_are_empty,
+    stays_are_counted, views_know_the_history,
 };
 pub use seats::{Note, ObjectSeat};
 pub use view::{Frame, Owned, Stay, View};

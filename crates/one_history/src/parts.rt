@@ -5,7 +5,7 @@ ghost use Rattle.atomic_table.specs.Table.{State};
 ghost use Rattle.one_history.specs.declared.view.Frame.{Frame};
 ghost use Rattle.one_history.specs.declared.view.View.{View};
 ghost use Rattle.one_history.specs.Rule.{IsOneLog};
-ghost use Rattle.one_history.specs.Parts.{StandsOnce, KnowsHistory, HasOneSeat, SharesNotes, MergesBacked, MindsGates, IsKept};
+ghost use Rattle.one_history.specs.Parts.{StandsOnce, KnowsHistory, HasOneSeat, SharesNotes, MergesBacked, CountsStays, MarksRevoked, KeepsShut, EndsDirect, IsKept};
 
 use crate::law::Law;
 
@@ -39,12 +39,27 @@ pub fn entries_are_backed<E, G, W: Law<E, G>>()
     ensures { (key : Frame G) (s : State ℕ (View E G)) → IsOneLog W.backs key s → MergesBacked W.backs key (slice_index s.words 0) s.views }
 {}
 
-/// Of the merged list: a gate's word is its mark and the number of stays at it, and no view has more
-/// stays than notes. Where a gate is marked or void to a view, its grant and then an overlapping
-/// invalidation stand in the list. Where it is drained to a view, or its closing stands there, it is
-/// marked and nobody is inside. No direct access through a gate stands after its closing.
-pub fn gates_are_minded<E, G, W: Law<E, G>>()
-    ensures { (key : Frame G) (s : State ℕ (View E G)) → IsOneLog W.backs key s → MindsGates W.backs key s }
+/// A gate's word is its mark, which is 0 or the top bit, and the number of stays at it in all views, which
+/// is below the top bit. No view has more stays than it stands for notes.
+pub fn stays_are_counted<E, G, W: Law<E, G>>()
+    ensures { (key : Frame G) (s : State ℕ (View E G)) → IsOneLog W.backs key s → CountsStays key s }
+{}
+
+/// Where a gate is marked, or void to a view, its grant and after it an overlapping invalidation stand
+/// among an object's own entries.
+pub fn marked_gates_are_revoked<E, G, W: Law<E, G>>()
+    ensures { (key : Frame G) (s : State ℕ (View E G)) → IsOneLog W.backs key s → MarksRevoked key s }
+{}
+
+/// Where a gate is drained to a view, or its closing stands among an object's own entries, it is marked,
+/// and no view is inside it.
+pub fn shut_gates_are_empty<E, G, W: Law<E, G>>()
+    ensures { (key : Frame G) (s : State ℕ (View E G)) → IsOneLog W.backs key s → KeepsShut key s }
+{}
+
+/// Each direct access through a gate stands before the closing of the gate.
+pub fn closings_are_last<E, G, W: Law<E, G>>()
+    ensures { (key : Frame G) (s : State ℕ (View E G)) → IsOneLog W.backs key s → EndsDirect s.views }
 {}
 
 /// All parts of the rule.

@@ -33,7 +33,7 @@ mark-requires-clause-saw g c =
       is_grant = refl;
       is_cut = refl;
       later = omega arith;
-      object = sym (c.join.ensures.number ∙ c.requires.seat.1);
+      object = sym (c.join.ensures.number ∙ c.requires.seat.0.2);
       meet = (omega arith, omega arith);
     })
 
