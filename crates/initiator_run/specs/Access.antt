@@ -11,8 +11,7 @@ use Rattle.tlm_model.specs.Route.{Route as RouteOfModel, later, route_of, before
 use Rattle.generic_payload.specs.Payload.{PayloadView}
 use Rattle.region_object.specs.declared.call.RegionCall.{RegionCall}
 use Rattle.region_object.specs.declared.call.RegionCall.TheVariants.{Access, Debug}
-use Rattle.region_object.specs.declared.call.RegionReply.{RegionReply}
-use Rattle.region_object.specs.declared.call.RegionReply.TheVariants.{Accessed, Moved}
+use Rattle.region_object.specs.Call.{returned}
 use Rattle.region_object.specs.Region.{LoggedMemory, reply_of}
 use Rattle.route_plan.specs.declared.step.Route.{Route}
 use Rattle.script_engine.specs.declared.part.Transfer.{Transfer}
@@ -49,13 +48,9 @@ abbrev pub call_at : TransferKind → TxnId → ℕ → ℕ → PayloadView → 
 call_at (transfer.Access command plain fenced) txn t before payload = Access txn (later t before) Blocking payload
 call_at transfer.DebugRead txn t before payload = Debug txn t payload
 
-abbrev pub payload_in_reply : RegionReply → PayloadView
-payload_in_reply (Accessed payload) = payload
-payload_in_reply (Moved payload moved) = payload
-
 -- the payload that a memory answers a call with
 abbrev pub payload_back : LoggedMemory → RegionCall → PayloadView
-payload_back m call = payload_in_reply (reply_of m call)
+payload_back m call = returned (reply_of m call)
 
 -- what a transfer that is next asks for
 abbrev pub asked_next : Run → Transfer → Asked

@@ -9,7 +9,7 @@ use Rattle.tlm_model.specs.declared.operation.Operation.{Operation}
 use Rattle.tlm_model.specs.declared.platform.InitiatorRow.{InitiatorRow}
 use Rattle.tlm_model.specs.Plan.{Plan, Initiator, initiators_from, initiators_of}
 use Rattle.good_history.specs.Good.{IsSound}
-use Rattle.good_history.proofs.Decoupled.{sound_empty}
+use Rattle.good_history.proofs.Ungranted.{sound_empty}
 use Rattle.region_object.specs.Region.{LoggedMemory}
 use Rattle.route_plan.specs.Planned.{planned_at, share_of}
 use Rattle.script_engine.proofs.Remaining.{few_numbers}
@@ -22,7 +22,7 @@ use Rattle.run_outcome.specs.Merge.{by_position, entries_in}
 use Rattle.initiator_run.specs.Run.{Run, fresh_run}
 use Rattle.initiator_run.proofs.EndLemmas.{HasCome-begun}
 use Rattle.run_outcome.proofs.ListLemmas.{at_push}
-use Rattle.run_outcome.proofs.PlanLemmas.{no_fourphase}
+use Rattle.run_outcome.proofs.PlanLemmas.{no_direct, no_fourphase}
 use Rattle.traffic_script.specs.Proper.{AreProper}
 use Rattle.initiator_run.proofs.BeginLemmas.{proper_at, syncs_bound}
 
@@ -61,7 +61,7 @@ core_begun p runs regions valid same fresh count =
     let none : history_of regions ≡ [] = no_history p regions (length p.platform.memories) fresh in
     subst (λ (r : List Run). IsCore p r regions 0) (sym same) (record {
       valid = valid;
-      sound = subst (IsSound p) (sym none) (sound_empty p (no_fourphase p valid));
+      sound = subst (IsSound p) (sym none) (sound_empty p (no_fourphase p valid) (no_direct p valid));
       count = sym (ap length none);
       run_count = length-map (initiators_of p) (begun_run p) ∙ count;
       region_count = fresh.count;

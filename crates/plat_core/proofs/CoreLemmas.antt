@@ -16,7 +16,7 @@ use Rattle.tlm_model.specs.Plan.{Plan, Initiator, initiators_of}
 use Rattle.tlm_model.specs.Route.{route_of}
 use Rattle.tlm_model.proofs.EachLemmas.{append_nil}
 use Rattle.good_history.specs.Good.{IsSound}
-use Rattle.good_history.proofs.Decoupled.{sound_grows}
+use Rattle.good_history.proofs.Ungranted.{sound_grows}
 use Rattle.region_object.specs.Region.{LoggedMemory}
 use Rattle.time_board.specs.declared.rounds.Member.{Member}
 use Rattle.route_plan.specs.declared.step.Route.{Route}
@@ -40,7 +40,7 @@ use Rattle.initiator_run.proofs.LeftLemmas.{left_after, leads_there, total_left-
 use Rattle.run_outcome.proofs.ListLemmas.{HasElement, at_map, at_set, has_element, length-set', map-set, set-same, within, is_within}
 use Rattle.run_outcome.proofs.MergeLemmas.{merged-push, length-by_position}
 use Rattle.initiator_run.proofs.RunLemmas.{accessed_finished, accessed_step}
-use Rattle.run_outcome.proofs.PlanLemmas.{blocking_at, initiator_number, no_fourphase}
+use Rattle.run_outcome.proofs.PlanLemmas.{blocking_at, initiator_number, no_direct, no_fourphase}
 use Rattle.initiator_run.proofs.RouteLemmas.{walk_memory}
 use Rattle.route_plan.proofs.ShareLemmas.{count_initiators}
 
@@ -333,7 +333,7 @@ core_made p runs regions after made k old new core at is =
     } in
     record {
       valid = core.valid;
-      sound = subst (IsSound p) (sym same) (sound_grows p h e (no_fourphase p core.valid) core.sound tt (KeepsRequests-turn p i h is.middle is.transfer is.region is.route made core.sound.requests mine turn.blocking come is.reached.next leads (at_memory p runs h is.route is.region memory) core.count));
+      sound = subst (IsSound p) (sym same) (sound_grows p h e (no_fourphase p core.valid) (no_direct p core.valid) core.sound tt tt (KeepsRequests-turn p i h is.middle is.transfer is.region is.route made core.sound.requests mine turn.blocking come is.reached.next leads (at_memory p runs h is.route is.region memory) core.count));
       count = sym (ap length same ∙ (length-append h (e ∷ []) ∙ ap (λ (n : ℕ). n + 1) (sym core.count)));
       run_count = length-set' runs k new ∙ core.run_count;
       region_count = ap length is.memory.now ∙ (length-set' regions is.route.memory is.next ∙ core.region_count);

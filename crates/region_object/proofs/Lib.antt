@@ -1,5 +1,10 @@
+pub mod GateLemmas
+pub mod Transports
 mod Consistent
 mod Told
 mod Cost
-mod Written
+pub mod Written
 mod Rows
+pub mod Least
+pub mod Granted
+mod DirectLemmas

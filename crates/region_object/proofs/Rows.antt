@@ -1,6 +1,8 @@
 -- Worked answers: the definitions compute what was worked out by hand.
-use Rattle.std.proofs.Common.{◌≡◌, ℕ, List, [], ◌∷◌, length, true, false, refl}
+use Rattle.std.proofs.Common.{◌≡◌, ℕ, Bool, List, [], ◌∷◌, ◌++◌, length, true, false, Some, None, refl}
+use Rattle.tlm_types.specs.declared.words.Command.{Command}
 use Rattle.tlm_types.specs.declared.words.Command.TheVariants.{Read, Write, FetchAdd}
+use Rattle.tlm_types.specs.declared.words.Kind.TheVariants.{Read as read_kind}
 use Rattle.tlm_types.specs.declared.words.MemoryTraits.{MemoryTraits}
 use Rattle.tlm_types.specs.declared.words.Response.TheVariants.{Ok, AddressError, CommandError, ByteEnableError}
 use Rattle.tlm_types.specs.declared.words.TxnId.{TxnId}
@@ -11,8 +13,9 @@ use Rattle.tlm_model.specs.Numbers.{le_bytes}
 use Rattle.tlm_model.specs.Store.{zeros}
 use Rattle.generic_payload.specs.Payload.{PayloadView, new_payload, access_of}
 use Rattle.region_object.specs.declared.call.RegionCall.{RegionCall}
-use Rattle.region_object.specs.declared.call.RegionCall.TheVariants.{Access, Debug}
-use Rattle.region_object.specs.declared.call.RegionReply.TheVariants.{Accessed as AccessedReply, Moved}
+use Rattle.region_object.specs.declared.call.RegionCall.TheVariants.{Access, Debug, Grant, Overlapping, Close}
+use Rattle.region_object.specs.declared.call.RegionReply.TheVariants.{Accessed as AccessedReply, Moved, Granted as GrantedReply, Denied, Overlapping as OverlappingReply, AlreadyClosed}
+use Rattle.region_object.specs.declared.call.Denial.TheVariants.{NoDmi, NotAllowed, GatesSpent}
 use Rattle.region_object.specs.Call.{debug_access}
 use Rattle.region_object.specs.Region.{LoggedMemory, region_entry, reply_of}
 
@@ -90,3 +93,58 @@ debug_across_the_end = refl
 debug_entry : (region_entry (with_log ram log) 1 (debug 0xf 3)).what ≡ Accessed by_debug (debug_access 0xf 3) Ok (0xbb ∷ [])
 unfolding ram with_log txn aabb write_of read_of call debug log
 debug_entry = refl
+
+-- a memory that can only be read, with one gate
+rom : Bool → MemoryTraits
+rom dmi = record { size = 16; latency = 10; readable = true; writable = false; fetch_add = false; enables = false; streaming = true; dmi = dmi; gates = 1 }
+
+ask : Command → RegionCall
+unfolding txn
+ask c = Grant txn 10 c
+
+-- its one gate was given
+given_log : List Entry
+unfolding rom with_log txn ask
+given_log = region_entry (with_log (rom true) []) 0 (ask Read) ∷ []
+
+no_dmi_comes_first : reply_of (with_log (rom false) []) (ask Write) ≡ Denied NoDmi
+unfolding rom with_log txn ask
+no_dmi_comes_first = refl
+
+then_the_command : reply_of (with_log (rom true) given_log) (ask Write) ≡ Denied NotAllowed
+unfolding rom with_log txn ask given_log
+then_the_command = refl
+
+the_first_gate : reply_of (with_log (rom true) []) (ask Read) ≡ GrantedReply 0 0 15 read_kind
+unfolding rom with_log txn ask
+the_first_gate = refl
+
+then_the_gates : reply_of (with_log (rom true) given_log) (ask Read) ≡ Denied GatesSpent
+unfolding rom with_log txn ask given_log
+then_the_gates = refl
+
+-- the grant stands at position 0
+overlaps_one_byte : reply_of (with_log (rom true) given_log) (Overlapping 0 15 15 1) ≡ OverlappingReply (Some 0)
+unfolding rom with_log txn ask given_log
+overlaps_one_byte = refl
+
+given_too_late : reply_of (with_log (rom true) given_log) (Overlapping 0 0 15 0) ≡ OverlappingReply None
+unfolding rom with_log txn ask given_log
+given_too_late = refl
+
+past_its_end : reply_of (with_log (rom true) given_log) (Overlapping 0 16 20 1) ≡ OverlappingReply None
+unfolding rom with_log txn ask given_log
+past_its_end = refl
+
+-- closed at position 1
+closed_log : List Entry
+unfolding rom with_log txn ask given_log
+closed_log = given_log ++ region_entry (with_log (rom true) given_log) 1 (Close txn 10 0) ∷ []
+
+closed_is_not_open : reply_of (with_log (rom true) closed_log) (Overlapping 0 0 15 2) ≡ OverlappingReply None
+unfolding rom with_log txn ask given_log closed_log
+closed_is_not_open = refl
+
+closed_twice : reply_of (with_log (rom true) closed_log) (Close txn 10 0) ≡ AlreadyClosed
+unfolding rom with_log txn ask given_log closed_log
+closed_twice = refl

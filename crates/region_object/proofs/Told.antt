@@ -14,26 +14,33 @@ use Rattle.tlm_model.specs.Log.{log_bytes}
 use Rattle.tlm_model.specs.Store.{zeros, status_of, status_by, store_after, stored_by, got_of, got_by}
 use Rattle.generic_payload.specs.Payload.{PayloadView, access_of, moved_by}
 use Rattle.generic_payload.proofs.Moves.{length-taken_from}
-use Rattle.region_object.specs.Call.{IsTransport}
+use Rattle.region_object.specs.Call.{IsTransport, MovesData}
 use Rattle.region_object.specs.Region.{answered, buffer_after, got_told, sent_told, told_by}
 
--- an access by transport is answered by its command
-pub status_of-transport : (way : Way) (m : MemoryTraits) (a : Access) → IsTransport way → status_of m way a ≡ status_by m a a.command
+-- an access by transport moves data
+pub transport_moves : (way : Way) → IsTransport way → MovesData way
+transport_moves Blocking is = tt
+transport_moves FourPhase is = tt
+transport_moves (Direct g) is = absurd is
+transport_moves Debug is = absurd is
+
+-- an access that moves data is answered by its command
+pub status_of-transport : (way : Way) (m : MemoryTraits) (a : Access) → MovesData way → status_of m way a ≡ status_by m a a.command
 status_of-transport Blocking m a is = refl
 status_of-transport FourPhase m a is = refl
-status_of-transport (Direct g) m a is = absurd is
+status_of-transport (Direct g) m a is = refl
 status_of-transport Debug m a is = absurd is
 
-pub store_after-transport : (way : Way) (r : Response) (a : Access) (store : List ℕ) → IsTransport way → store_after way r a store ≡ stored_by a.command r a store
+pub store_after-transport : (way : Way) (r : Response) (a : Access) (store : List ℕ) → MovesData way → store_after way r a store ≡ stored_by a.command r a store
 store_after-transport Blocking r a store is = refl
 store_after-transport FourPhase r a store is = refl
-store_after-transport (Direct g) r a store is = absurd is
+store_after-transport (Direct g) r a store is = refl
 store_after-transport Debug r a store is = absurd is
 
-pub got_of-transport : (way : Way) (r : Response) (a : Access) (store : List ℕ) → IsTransport way → got_of way r a store ≡ got_by a.command r a store
+pub got_of-transport : (way : Way) (r : Response) (a : Access) (store : List ℕ) → MovesData way → got_of way r a store ≡ got_by a.command r a store
 got_of-transport Blocking r a store is = refl
 got_of-transport FourPhase r a store is = refl
-got_of-transport (Direct g) r a store is = absurd is
+got_of-transport (Direct g) r a store is = refl
 got_of-transport Debug r a store is = absurd is
 
 -- a read's buffer stays as long as it is
@@ -74,7 +81,7 @@ buffer-told FetchAdd r a store operand blank word = record { sends = word refl; 
 abbrev pub payload_after : PayloadView → Response → Bool → List ℕ → PayloadView
 payload_after p r hint store = record p { bytes = buffer_after p.command (got_by p.command r (access_of p) store) p.bytes; status = r; hint = hint }
 
-pub told_by-access : (m : MemoryTraits) (log : List Entry) (store operand : List ℕ) (way : Way) (p : PayloadView) (hint : Bool) → store ≡ log_bytes m log → IsTransport way → (p.command ≡ Read → p.bytes ≡ zeros (length p.bytes)) → (p.command ≡ FetchAdd → operand ≡ p.bytes) → told_by way operand (payload_after p (status_by m (access_of p) p.command) hint store) ≡ answered m log way (access_of p)
+pub told_by-access : (m : MemoryTraits) (log : List Entry) (store operand : List ℕ) (way : Way) (p : PayloadView) (hint : Bool) → store ≡ log_bytes m log → MovesData way → (p.command ≡ Read → p.bytes ≡ zeros (length p.bytes)) → (p.command ≡ FetchAdd → operand ≡ p.bytes) → told_by way operand (payload_after p (status_by m (access_of p) p.command) hint store) ≡ answered m log way (access_of p)
 told_by-access m log store operand way p hint bytes transport blank word =
     let a = access_of p in
     let r = status_by m a p.command in

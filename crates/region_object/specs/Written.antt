@@ -6,8 +6,8 @@ use Rattle.tlm_types.specs.declared.entry.Content.{Content}
 use Rattle.tlm_types.specs.declared.entry.Entry.{Entry}
 use Rattle.shared_object.specs.Written.{Built, Written, noted}
 use Rattle.region_object.specs.declared.call.RegionCall.{RegionCall}
-use Rattle.region_object.specs.Call.{txn_of, time_of, way_of, access_asked}
-use Rattle.region_object.specs.Region.{LoggedMemory, answered}
+use Rattle.region_object.specs.Call.{txn_of, time_of}
+use Rattle.region_object.specs.Region.{LoggedMemory, what_of}
 
 -- a memory has its traits and its own gates, and no second book
 abbrev pub built_of : LoggedMemory → Built MemoryTraits
@@ -20,4 +20,4 @@ written_from n (e ∷ es) = noted n e ∷ written_from (n + 1) es
 
 -- what the entry of a call says
 abbrev pub content_of : LoggedMemory → RegionCall → Content
-content_of m call = record { txn = txn_of call; time = time_of call; what = answered m.traits m.log.entries (way_of call) (access_asked call); number = length m.log.entries }
+content_of m call = record { txn = txn_of call; time = time_of call; what = what_of m call; number = length m.log.entries }

@@ -1,29 +1,18 @@
 // A memory as an object of the history.
-ghost use Rattle.std.specs.Prelude.{◌≡◌};
-ghost use Rattle.shared_object.specs.Written.{sign_of_way};
-
 use crate::call::{RegionCall, RegionReply};
 use crate::region::Region;
 use one_history::Sign;
 use shared_object::Object;
-use tlm_types::{Log, Memory, MemoryTraits, Way};
+use tlm_types::{Log, Memory, MemoryTraits};
 use token_book::Tokens;
-
-// What the history reads of an access by this way.
-fn sign_by(way: Way) -> Sign
-    ensures { result ≡ sign_of_way way }
-{
-    match way {
-        Way::Direct(gate) => Sign::Direct { gate },
-        Way::Blocking | Way::FourPhase | Way::Debug => Sign::Plain,
-    }
-}
 
 impl Object for Region {
     ghost use Rattle.std.specs.Prelude.{◌-◌, true, false, [], length, ◌≡◌};
     ghost use Rattle.tlm_model.specs.Log.{IsLog};
-    ghost use Rattle.region_object.specs.Call.{IsFit, cost_of};
-    ghost use Rattle.region_object.specs.Region.{after_call, reply_of};
+    ghost use Rattle.region_object.specs.Call.{Fits, cost_of};
+    ghost use Rattle.region_object.specs.Grants.{IsGrantLog};
+    ghost use Rattle.region_object.specs.Region.{after_call, is_admitted, look_of, reply_of};
+    ghost use Rattle.region_object.specs.Fitting.{more_fit};
     ghost use Rattle.region_object.specs.Written.{built_of, content_of, written_from};
 
     type Call = RegionCall;
@@ -38,7 +27,7 @@ impl Object for Region {
 
     ghost entries = { λ r. written_from 0 r.log.entries };
 
-    ghost follows = { λ r. IsLog r.traits r.log.entries };
+    ghost follows = { λ r. IsLog r.traits r.log.entries × IsGrantLog r.first_gate r.traits r.log.entries };
 
     ghost room = { λ r. r.log.room - length r.log.entries };
 
@@ -46,13 +35,13 @@ impl Object for Region {
 
     ghost cost = { cost_of };
 
-    ghost admitted = { λ _ _. true };
+    ghost admitted = { is_admitted };
 
     ghost content = { content_of };
 
-    ghost look = { λ _. 0 };
+    ghost look = { look_of };
 
-    ghost fits = { λ _ call _. IsFit call };
+    ghost fits = { λ _ call known. Fits known call };
 
     ghost ready = { λ _ _. Unit {0} };
 
@@ -66,23 +55,20 @@ impl Object for Region {
 
     ghost applied = { λ r position call reply s. (s ≡ after_call r position call) × (reply ≡ reply_of r call) };
 
-    ghost more_fit = { λ _ _ _ _ _ fit. fit };
+    ghost more_fit = { λ _ call xs ys more fit. more_fit call xs ys more fit };
 
     fn number(&self) -> u32 {
         Region::number(self)
     }
 
-    fn admits(&self, _call: &RegionCall) -> bool {
+    fn admits(&self, call: &RegionCall) -> bool {
         // Here and after a call, the clauses of `log` say that the log is lawful.
         let _ = Region::log(self);
-        true
+        Region::admits(self, call)
     }
 
     fn sign(&self, call: &RegionCall) -> Sign {
-        match call {
-            RegionCall::Access { way, .. } => sign_by(*way),
-            RegionCall::Debug { .. } => Sign::Plain,
-        }
+        Region::sign(self, call)
     }
 
     // A call that is admitted comes with the room for its entry and its bytes.

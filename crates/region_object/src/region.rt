@@ -1,30 +1,37 @@
 // A memory with its log, and its accesses.
-ghost use Rattle.std.specs.Prelude.{◌≡◌, ◌≢◌, ◌+◌, ◌<◌, ◌≤◌, max, [], length, take, All, IsOk, IfOk, OnOk, OnErr};
+ghost use Rattle.std.specs.Prelude.{◌≡◌, ◌≢◌, ◌⊎◌, ◌+◌, ◌-◌, ◌<◌, ◌≤◌, max, [], length, take, true, false, All, IsOk, IfOk, OnOk, OnErr, None, IsTrue};
 ghost use Rattle.tlm_types.specs.declared.words.Command.TheVariants.{Read};
-ghost use Rattle.tlm_types.specs.declared.entry.What.TheVariants.{Access as Accessed};
-ghost use Rattle.tlm_types.specs.Log.{entry_at, kept_sent, with_entry};
+ghost use Rattle.tlm_types.specs.declared.entry.What.TheVariants.{Access as Accessed, Granted, Invalidated};
+ghost use Rattle.tlm_types.specs.Traits.{allowed_kind};
+ghost use Rattle.tlm_types.specs.Log.{entry_at, is_access, kept_sent, with_entry};
 ghost use Rattle.tlm_model.specs.Log.{IsLog, log_bytes};
-ghost use Rattle.tlm_model.specs.Store.{zeros, got_by, stored_by};
+ghost use Rattle.tlm_model.specs.Store.{zeros, got_by, is_allowed, stored_by};
 ghost use Rattle.generic_payload.specs.Payload.{access_of, HasPlaces};
-ghost use Rattle.region_object.specs.Call.{IsFit, IsTransport, cost_of, debug_access, payload_cost};
-ghost use Rattle.region_object.specs.Region.{accessed, after_call, answered, buffer_after, debugged, got_told, sent_told, head_at, reply_of, told_by, with_logged};
+ghost use Rattle.shared_object.specs.Written.{NamesOwnGate, sign_of, sign_of_way};
+ghost use Rattle.region_object.specs.Call.{Fits, IsCloseFit, IsFit, MovesData, cost_of, debug_access, payload_cost};
+ghost use Rattle.region_object.specs.Grants.{IsGrantLog, grants_in, is_closed, least_open};
+ghost use Rattle.region_object.specs.Region.{accessed, after_call, answered, buffer_after, debugged, denial_of, got_told, sent_told, grant_reply, head_at, is_admitted, next_gate, reply_of, told_by, what_of, with_logged};
+ghost use Rattle.region_object.specs.Written.{written_from};
 
-use crate::call::{RegionCall, RegionReply, payload_cost};
+use crate::call::{Denial, RegionCall, RegionReply, payload_cost};
+use crate::gates::Gates;
 use generic_payload::Payload;
+use one_history::Sign;
 use std::alloc::Global;
 use std::marker::Model;
 use tlm_types::{
     Bytes, Command, Facts, Head, Log, Memory, MemoryTraits, ObjectNo, Ps, Response, TxnId, Way,
+    What, kind_of,
 };
 
-/// A memory, which is a target with debug transport (clause 11.3), with its log. Contracts see its
+/// A memory, which is a target with debug transport and a direct memory interface (clauses 11.2 and 11.3), with its log. Contracts see its
 /// number, its traits, the number of its first gate, and its log with the room that it has left.
 #[derive(Drop)]
 pub struct Region {
     number: u32,
     traits: MemoryTraits,
-    first_gate: u32,
     store: Vec<u8>,
+    gates: Gates,
     log: Log,
 }
 
@@ -36,17 +43,17 @@ impl Model for Region {
     ghost view = { λ r. record {
       number = r.number;
       traits = r.traits;
-      first_gate = r.first_gate;
+      first_gate = r.gates.first;
       log = r.log;
     } };
 
-    ghost invariant = { λ r. IsConsistent r.number r.traits r.store.items r.log.entries };
+    ghost invariant = { λ r. IsConsistent r.number r.traits r.store.items r.gates r.log.entries };
 }
 
 impl Region {
     /// Memory number `number`, counted from 0, with `traits.size` bytes, each zero, and an empty log
     /// with room for so many entries and so many bytes of data and byte enables. Its gates are numbered
-    /// from `first_gate`. Its only error is want of memory.
+    /// from `first_gate`, all below 2^32. Its only error is want of memory.
     pub fn new(
         alloc: Global,
         number: u32,
@@ -55,6 +62,7 @@ impl Region {
         bytes: u64,
         first_gate: u32,
     ) -> Result<Region, Memory>
+        requires gates { first_gate + traits.gates ≤ 4294967295 }
         ensures { IfOk result (λ r. r ≡ record {
           number = number;
           traits = traits;
@@ -63,12 +71,13 @@ impl Region {
         }) }
     {
         let store = vec![in alloc; 0u8; traits.size as usize]?;
+        let gates = Gates::new(alloc, first_gate, traits.gates)?;
         let log = Log::with_room(alloc, entries, bytes)?;
         Ok(Region {
             number,
             traits,
-            first_gate,
             store,
+            gates,
             log,
         })
     }
@@ -91,13 +100,14 @@ impl Region {
     pub fn first_gate(&self) -> u32
         ensures { result ≡ self.now.first_gate }
     {
-        self.first_gate
+        self.gates.first()
     }
 
     /// The log: an entry for each call so far, in the order in which they were made.
     pub fn log(&self) -> &Log
         ensures log { result.now ≡ self.now.log }
         ensures lawful { IsLog self.now.traits self.now.log.entries }
+        ensures granted { IsGrantLog self.now.first_gate self.now.traits self.now.log.entries }
         ensures own { All (λ e. e.object ≡ ObjectNo.Memory self.now.number) self.now.log.entries }
     {
         &self.log
@@ -130,7 +140,7 @@ impl Region {
         ensures err { OnErr result (self.new ≡ self.old) }
         ensures roomy { cost_of call.now ≤ self.old.log.room_bytes → IsOk result }
     {
-        self.make_room_for(call.payload())
+        self.log.make_room(call.cost())
     }
 
     /// Makes room in the log for the bytes of a call with this payload, as `make_room` does.
@@ -144,25 +154,41 @@ impl Region {
         self.log.make_room(payload_cost(payload))
     }
 
-    /// Makes this call. There has to be room for its entry, and for its bytes, so that it can't fail for
-    /// want of memory. The entry has this position.
+    /// Makes this call. Where it adds an entry, there has to be room for it, and for its bytes, so that it
+    /// can't fail for want of memory. The entry has this position.
     ///
     /// An access comes by blocking transport or with four phases, and a read into a buffer of zeros. The
     /// payload comes back with the status of `Payload::check`; where that is OK a write has put its
-    /// bytes, a read has its data, and a fetch_add has done both in this one step. The DMI hint is set exactly where the memory grants direct
-    /// access and the status is OK.
+    /// bytes, a read has its data, and a fetch_add has done both in this one step. The DMI hint is set
+    /// exactly where the memory grants direct access and the status is OK. A direct access does the same,
+    /// and its status is OK.
     ///
     /// A debug read moves the bytes from its address on, to the memory's end at most, to the front of
     /// the payload's data, whatever the memory allows (IEEE 1666-2011, clause 11.3). Its status is OK,
     /// and the hint stays as it was.
+    ///
+    /// A grant takes the least gate that was never given, and is of the whole memory and of the kind that
+    /// it allows (clause 11.2). It is denied where the memory grants no direct access, else where it
+    /// doesn't allow the command, else where all gates were given. A gate is closed once.
     #[inline(always)]
     pub fn apply(&mut self, position: u64, call: RegionCall) -> RegionReply
-        requires fit { IsFit call }
-        requires room { length self.old.log.entries < self.old.log.room }
-        requires room_bytes { cost_of call ≤ self.old.log.room_bytes }
+        requires fit { Fits (written_from 0 self.old.log.entries) call }
+        requires room { is_admitted self.old call ≡ true → length self.old.log.entries < self.old.log.room }
+        requires room_bytes { is_admitted self.old call ≡ true → cost_of call ≤ self.old.log.room_bytes }
         ensures memory { self.new ≡ after_call self.old position call }
         ensures reply { result ≡ reply_of self.old call }
         ensures left { self.old.log.room_bytes ≤ self.new.log.room_bytes + cost_of call }
+    {
+        self.make(position, call)
+    }
+
+    #[inline(always)]
+    fn make(&mut self, position: u64, call: RegionCall) -> RegionReply
+        requires fit { Fits (written_from 0 self.old.log.entries) call }
+        requires room { is_admitted self.old call ≡ true → length self.old.log.entries < self.old.log.room }
+        requires room_bytes { is_admitted self.old call ≡ true → cost_of call ≤ self.old.log.room_bytes }
+        ensures memory { self.new ≡ after_call self.old position call }
+        ensures reply { result ≡ reply_of self.old call }
     {
         match call {
             RegionCall::Access {
@@ -182,7 +208,181 @@ impl Region {
                 let moved = self.debug(position, txn, time, &mut payload);
                 RegionReply::Moved { payload, moved }
             }
+            RegionCall::Grant { txn, time, command } => self.grant(position, txn, time, command),
+            RegionCall::Direct {
+                gate,
+                txn,
+                time,
+                mut payload,
+            } => {
+                let head = self.head(position, txn, time);
+                self.access(head, Way::Direct(gate), &mut payload);
+                RegionReply::Direct { payload }
+            }
+            RegionCall::Invalidate {
+                txn,
+                time,
+                first,
+                last,
+            } => self.invalidate(position, txn, time, first, last),
+            RegionCall::Overlapping {
+                from,
+                first,
+                last,
+                before,
+            } => RegionReply::Overlapping(self.overlapping(from, first, last, before)),
+            RegionCall::Close { txn, time, gate } => self.close(position, txn, time, gate),
         }
+    }
+
+    /// Whether the call would add an entry.
+    pub fn admits(&self, call: &RegionCall) -> bool
+        ensures { result ≡ is_admitted self.now call.now }
+    {
+        match call {
+            RegionCall::Access { .. }
+            | RegionCall::Debug { .. }
+            | RegionCall::Direct { .. }
+            | RegionCall::Invalidate { .. } => true,
+            RegionCall::Grant { command, .. } => self.denial(*command).is_none(),
+            RegionCall::Overlapping { .. } => false,
+            RegionCall::Close { gate, .. } => !self.is_closed(*gate),
+        }
+    }
+
+    /// What the history reads of the entry that the call would add. A gate that is granted or closed is
+    /// one of the memory's.
+    pub fn sign(&self, call: &RegionCall) -> Sign
+        requires { is_admitted self.now call.now ≡ true }
+        ensures sign { result ≡ sign_of (what_of self.now call.now) }
+        ensures gates { Fits (written_from 0 self.now.log.entries) call.now →
+            NamesOwnGate (self.now.first_gate, self.now.traits.gates) result }
+    {
+        match call {
+            RegionCall::Access { way, .. } => sign_by(*way),
+            RegionCall::Direct { gate, .. } => Sign::Direct { gate: *gate },
+            RegionCall::Grant { .. } => Sign::Granted {
+                gate: self.gates.next(),
+                first: 0,
+                last: self.traits.size.saturating_sub(1),
+            },
+            RegionCall::Invalidate { first, last, .. } => Sign::Invalidated {
+                first: *first,
+                last: *last,
+            },
+            RegionCall::Close { gate, .. } => Sign::Closed { gate: *gate },
+            RegionCall::Debug { .. } | RegionCall::Overlapping { .. } => Sign::Plain,
+        }
+    }
+
+    // Whether a gate of this number is closed.
+    fn is_closed(&self, gate: u32) -> bool
+        ensures { result ≡ is_closed gate self.now.log.entries }
+    {
+        self.gates.is_shut(gate)
+    }
+
+    // Gives a grant, or says why not.
+    fn grant(&mut self, position: u64, txn: TxnId, time: Ps, command: Command) -> RegionReply
+        requires fit { Fits (written_from 0 self.old.log.entries) (RegionCall.Grant txn time command) }
+        requires room { denial_of self.old command ≡ None → length self.old.log.entries < self.old.log.room }
+        ensures memory { self.new ≡ after_call self.old position (RegionCall.Grant txn time command) }
+        ensures reply { result ≡ grant_reply self.old (denial_of self.old command) }
+    {
+        match self.denial(command) {
+            Some(denial) => RegionReply::Denied(denial),
+            None => self.give(position, txn, time),
+        }
+    }
+
+    /// Why the memory gives no grant for this command now, if it gives none.
+    pub fn denial(&self, command: Command) -> Option<Denial>
+        ensures { result ≡ denial_of self.now command }
+    {
+        if !self.traits.dmi {
+            return Some(Denial::NoDmi);
+        }
+        if !is_allowed(&self.traits, command) {
+            return Some(Denial::NotAllowed);
+        }
+        if self.gates.given() >= self.traits.gates {
+            return Some(Denial::GatesSpent);
+        }
+        None
+    }
+
+    // Gives the next gate.
+    fn give(&mut self, position: u64, txn: TxnId, time: Ps) -> RegionReply
+        requires allowed { (self.old.traits.readable ≡ true) ⊎ (self.old.traits.writable ≡ true) }
+        requires left { grants_in self.old.log.entries < self.old.traits.gates }
+        requires room { length self.old.log.entries < self.old.log.room }
+        ensures memory { self.new ≡ with_logged self.old (entry_at (head_at self.old position txn time)
+            (Granted (next_gate self.old) 0 (self.old.traits.size - 1) (allowed_kind self.old.traits.readable self.old.traits.writable))) }
+        ensures reply { result ≡ grant_reply self.old None }
+    {
+        let head = self.head(position, txn, time);
+        let gate = self.gates.give(position);
+        let last = self.traits.size.saturating_sub(1);
+        let kind = kind_of(&self.traits);
+        let what = What::Granted {
+            gate,
+            first: 0,
+            last,
+            kind,
+        };
+        tell(&mut self.log, head, what);
+        RegionReply::Granted {
+            gate,
+            first: 0,
+            last,
+            kind,
+        }
+    }
+
+    // Tells an invalidation.
+    fn invalidate(
+        &mut self,
+        position: u64,
+        txn: TxnId,
+        time: Ps,
+        first: u64,
+        last: u64,
+    ) -> RegionReply
+        requires room { length self.old.log.entries < self.old.log.room }
+        ensures memory { self.new ≡ with_logged self.old (entry_at (head_at self.old position txn time) (Invalidated first last)) }
+        ensures reply { result ≡ RegionReply.Invalidated }
+    {
+        let head = self.head(position, txn, time);
+        tell(&mut self.log, head, What::Invalidated { first, last });
+        RegionReply::Invalidated
+    }
+
+    // The least gate from `from` on whose grant overlaps the range, was given before this position, and
+    // isn't closed. Each grant is of the whole memory.
+    fn overlapping(&self, from: u32, first: u64, last: u64, before: u64) -> Option<u32>
+        ensures { result ≡ least_open self.now.log.entries (self.now.first_gate, self.now.traits.gates) from first last before }
+    {
+        let _ = last;
+        if first > self.traits.size.saturating_sub(1) {
+            return None;
+        }
+        self.gates.least_given_before(from, before)
+    }
+
+    // Closes a gate that was given, unless it is closed.
+    fn close(&mut self, position: u64, txn: TxnId, time: Ps, gate: u32) -> RegionReply
+        requires fit { IsCloseFit (written_from 0 self.old.log.entries) gate }
+        requires room { is_admitted self.old (RegionCall.Close txn time gate) ≡ true → length self.old.log.entries < self.old.log.room }
+        ensures memory { self.new ≡ after_call self.old position (RegionCall.Close txn time gate) }
+        ensures reply { result ≡ reply_of self.old (RegionCall.Close txn time gate) }
+    {
+        if self.is_closed(gate) {
+            return RegionReply::AlreadyClosed;
+        }
+        let head = self.head(position, txn, time);
+        self.gates.shut(gate);
+        tell(&mut self.log, head, What::Closed { gate });
+        RegionReply::Closed
     }
 
     /// Makes the access of a `RegionCall::Access` on a payload that stays where it is.
@@ -230,7 +430,7 @@ impl Region {
 
     fn access(&mut self, head: Head, way: Way, payload: &mut Payload)
         requires head { head.object ≡ ObjectNo.Memory self.old.number }
-        requires way { IsTransport way }
+        requires way { MovesData way }
         requires zeros { payload.old.command ≡ Read → payload.old.bytes ≡ zeros (length payload.old.bytes) }
         requires room { length self.old.log.entries < self.old.log.room }
         requires room_bytes { payload_cost payload.old ≤ self.old.log.room_bytes }
@@ -260,6 +460,39 @@ impl Region {
         log_debug(&mut self.log, head, payload, moved);
         moved
     }
+}
+
+// What the history reads of an access by this way.
+fn sign_by(way: Way) -> Sign
+    ensures { result ≡ sign_of_way way }
+{
+    match way {
+        Way::Direct(gate) => Sign::Direct { gate },
+        Way::Blocking | Way::FourPhase | Way::Debug => Sign::Plain,
+    }
+}
+
+// Whether a memory allows the command.
+fn is_allowed(traits: &MemoryTraits, command: Command) -> bool
+    ensures { result ≡ is_allowed traits.now command }
+{
+    match command {
+        Command::Read => traits.readable,
+        Command::Write => traits.writable,
+        Command::FetchAdd => traits.readable && traits.writable && traits.fetch_add,
+        Command::Ignore => true,
+    }
+}
+
+// Adds an entry that is no access.
+fn tell(log: &mut Log, head: Head, what: What)
+    requires plain { is_access what ≡ false }
+    requires room { length log.old.entries < log.old.room }
+    ensures { log.new ≡ with_entry log.old (entry_at head what) }
+{
+    let Ok(()) = log.push(head, what) else {
+        unreachable!()
+    };
 }
 
 // Does what an access with this status does: a write puts its bytes, and a read takes them.
@@ -295,7 +528,7 @@ fn operand_of(payload: &Payload) -> [u8; 4]
 fn log_access(log: &mut Log, head: Head, way: Way, operand: &[u8; 4], payload: &Payload)
     requires room { length log.old.entries < log.old.room }
     requires room_bytes { payload_cost payload.now ≤ log.old.room_bytes }
-    requires way { IsTransport way }
+    requires way { MovesData way }
     ensures { log.new ≡ with_entry log.old (entry_at head (told_by way operand.now payload.now)) }
 {
     let facts = Facts {

@@ -36,7 +36,7 @@ invariant_of-self c =
     let stored : c.move_bytes.new.store ≡ store_after c.args.way (status_of s.traits c.args.way a) a s.store.items = rw (c.move_bytes.ensures.store, c.deref_mut.ensures.value, c.check-status.ensures.status, store_after-transport c.args.way (status_of s.traits c.args.way a) a s.store.items c.requires.way, status_of-transport c.args.way s.traits a c.requires.way) refl in
     let size : length c.move_bytes.new.store ≡ length s.store.items = c.move_bytes.auto.store ∙ ap length c.deref_mut.ensures.value in
     let whole = take_at c.move_bytes.new.store (drop (length c.move_bytes.new.store) s.store.items) s.store.len (c.move_bytes.auto.store ∙ c.deref_mut.ensures.len) in
-    rw (whole, log) (IsConsistent-push s.number s.traits s.store.items c.move_bytes.new.store s.log.entries c.args.head c.args.way a (c.requires.head ∙ ap (λ (m : LoggedMemory). Memory m.number) (sym c.self.view_is)) c.self.invariant stored size)
+    rw (whole, log) (IsConsistent-push s.number s.traits s.store.items c.move_bytes.new.store s.gates s.log.entries c.args.head c.args.way a (c.requires.head ∙ ap (λ (m : LoggedMemory). Memory m.number) (sym c.self.view_is)) c.self.invariant stored size)
 
 pub returns-clause-memory : goal.returns-clause-memory
 returns-clause-memory c =
@@ -47,5 +47,5 @@ returns-clause-memory c =
     let after : c.set_hint.new.self ≡ payload_after p r c.if-self.set_hint s.store.items = rw (c.set_hint.ensures, c.set_status.ensures, c.move_bytes.ensures.payload, c.deref_mut.ensures.value, c.check-status.ensures.status) refl in
     let told = told_by-access s.traits s.log.entries s.store.items c.operand_of-operand.result c.args.way p c.if-self.set_hint c.self.invariant.bytes_are c.requires.way c.requires.zeros c.operand_of-operand.ensures in
     let log : c.log_access.new.log ≡ with_entry s.log (entry_at c.args.head (answered s.traits s.log.entries c.args.way a)) = rw (c.log_access.ensures, after) (ap (λ (w : What). with_entry s.log (entry_at c.args.head w)) told) in
-    ap (λ (l : LogView). record { number = s.number; traits = s.traits; first_gate = s.first_gate; log = l }) log
+    ap (λ (l : LogView). record { number = s.number; traits = s.traits; first_gate = s.gates.first; log = l }) log
     ∙ ap (λ (m : LoggedMemory). with_logged m (entry_at c.args.head (answered m.traits m.log.entries c.args.way a))) c.self.view_is

@@ -14,4 +14,4 @@ invariant_of-self c =
     let p = c.args.payload.now in
     let a = debug_access p.address (length p.bytes) in
     let log : c.log_debug.new.log.entries ≡ s.log.entries ++ entry_at c.args.head (answered s.traits s.log.entries Debug a) ∷ [] = rw (c.log_debug.ensures, c.set_status.ensures, c.debug_from-moved.ensures.moved, c.debug_from-moved.ensures.payload, c.deref.ensures.value, length-debugged p s.store.items, take-debugged p s.store.items, c.self.invariant.bytes_are) refl in
-    rw log (IsConsistent-push s.number s.traits s.store.items s.store.items s.log.entries c.args.head Debug a (c.requires.head ∙ ap (λ (m : LoggedMemory). Memory m.number) (sym c.self.view_is)) c.self.invariant refl refl)
+    rw log (IsConsistent-push s.number s.traits s.store.items s.store.items s.gates s.log.entries c.args.head Debug a (c.requires.head ∙ ap (λ (m : LoggedMemory). Memory m.number) (sym c.self.view_is)) c.self.invariant refl refl)
