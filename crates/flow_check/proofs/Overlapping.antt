@@ -11,7 +11,7 @@ use Rattle.flow_check.specs.Reported.{overlapping, overlapping_plan}
 use Rattle.flow_check.specs.Worked.{IsWorked}
 use Rattle.flow_check.proofs.Decide.{find, found}
 use Rattle.flow_check.proofs.DecidePremises.{bounded, premises_of, tested}
-use Rattle.flow_check.proofs.WorkedHistories.{direct_world, first, is_freed, issues, places, worked_by}
+use Rattle.flow_check.proofs.WorkedHistories.{direct_world, first, is_freed, issues, places, ungranted, worked_by}
 use Rattle.flow_check.proofs.WorkedRequests.{RunsRequests}
 
 overlapping_runs : RunsRequests overlapping_plan (entries overlapping)
@@ -47,4 +47,4 @@ each_freed (suc i) s pass q = cc
 
 pub overlapping_works : IsWorked overlapping_plan overlapping
 unfolding overlapping_plan overlapping places
-overlapping_works = worked_by overlapping_plan overlapping (premises_of _ _ _ places overlapping overlapping_world (found (tested _ _ _ places overlapping) refl) (found (bounded overlapping) refl)) overlapping_runs (found (issues overlapping_plan (entries overlapping)) refl) (λ x pass q. each_freed x.initiator x.seq pass q)
+overlapping_works = worked_by overlapping_plan overlapping (premises_of _ _ _ places overlapping overlapping_world (found (tested _ _ _ places overlapping) refl) (found (bounded overlapping) refl)) overlapping_runs (found (issues overlapping_plan (entries overlapping)) refl) (found (ungranted overlapping_plan (entries overlapping)) refl) (λ x pass q. each_freed x.initiator x.seq pass q)

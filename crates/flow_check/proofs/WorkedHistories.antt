@@ -1,5 +1,5 @@
 -- The worked histories meet the premises of the law.
-use Rattle.std.proofs.Common.{◌≡◌, ℕ, zero, suc, ◌<◌, ◌≤◌, List, [], ◌∷◌, Option, Some, None, true, refl, ap, sym, ◌∙◌, arith, subst}
+use Rattle.std.proofs.Common.{◌≡◌, ◌≢◌, ℕ, zero, suc, ◌<◌, ◌≤◌, List, [], ◌∷◌, Option, Some, None, true, refl, ap, sym, ◌∙◌, arith, subst}
 use Rattle.std.specs.Prelude.{MatchOption, slice_get}
 use Rattle.std.specs.List.{AllByRecursion}
 use Rattle.tlm_types.specs.declared.words.ObjectNo.{ObjectNo}
@@ -34,6 +34,8 @@ use Rattle.flow_plan.specs.Valid.{HasNoCycle, LeadsOver, LeadsTo}
 use Rattle.flow_plan.proofs.Backed.{issue_law, traffic_law}
 use Rattle.flow_plan.proofs.Ended.{ended_law}
 use Rattle.flow_plan.proofs.Ways.{world_law}
+use Rattle.grant_model.specs.Laws.{ClosesNothing, HasNoDirect, IsNoClosing}
+use Rattle.good_history.proofs.Ungranted.{ungranted_is_good}
 use Rattle.flow_check.specs.Worked.{IsWorked, accepting, answering, completing, ending, lone, plan_of, refused, refused_plan, routed, routed_plan, write_at}
 use Rattle.flow_check.proofs.Decide.{bind, each, find, found, guard_true, is_same_object, is_same_txn, same_nat}
 use Rattle.flow_check.proofs.DecidePremises.{all, bounded, premises_of, tested}
@@ -79,6 +81,32 @@ issues p h =
     bind (each _ (of_request p (λ before e i q. AllByRecursion (IsWaitedFor p before i q) (requests_of p.platform i before)) (λ before e i q. all (IsWaitedFor p before i q) (not_waited p before i q) (requests_of p.platform i before))) h) (λ w.
     Some (record { others = o; waits = w })))
 
+-- direct initiators, and closings: there are none
+pub record HasNoGrants (p : Plan) (h : List Entry) : Type 0 where
+  pub direct : HasNoDirect p
+  pub closes : ClosesNothing h
+
+pub blocking_apart : Blocking ≢ Direct
+blocking_apart same = cc
+
+pub four_apart : FourPhase ≢ Direct
+four_apart same = cc
+
+abbrev not_direct : (s : Style) → Option (s ≢ Direct)
+not_direct Blocking = Some blocking_apart
+not_direct Direct = None
+not_direct FourPhase = Some four_apart
+
+abbrev not_closed : (v : What) → Option (IsNoClosing v)
+not_closed (Closed gate) = None
+not_closed v = Some tt
+
+abbrev pub ungranted : (p : Plan) (h : List Entry) → Option (HasNoGrants p h)
+ungranted p h =
+    bind (all (λ (i : Initiator). i.row.style ≢ Direct) (λ (i : Initiator). not_direct i.row.style) (initiators_of p)) (λ d.
+    bind (all (λ (e : Entry). IsNoClosing e.what) (λ (e : Entry). not_closed e.what) h) (λ c.
+    Some (record { direct = d; closes = c })))
+
 abbrev pub first : TxnId
 first = record { initiator = 0; seq = 0 }
 
@@ -98,19 +126,15 @@ abbrev HasOne : Plan → Type 0
 HasOne p = (i s : ℕ) (pass : Passage) → (world_of p).passage (record { initiator = i; seq = s }) ≡ Some pass → first ≡ record { initiator = i; seq = s }
 
 -- a history whose accesses are freed
-pub worked_by : (p : Plan) (h : List Event) → Premises (world_of p) (slots_of p) (issue_time p) h → RunsRequests p (entries h) → Issues p (entries h)
+pub worked_by : (p : Plan) (h : List Event) → Premises (world_of p) (slots_of p) (issue_time p) h → RunsRequests p (entries h) → Issues p (entries h) → HasNoGrants p (entries h)
     → ((x : TxnId) (pass : Passage) → (world_of p).passage x ≡ Some pass → Finds (Among h) (IsFreed x)) → IsWorked p h
-worked_by p h pr r i freed = record {
+worked_by p h pr r i g freed = record {
   premises = pr;
-  good = record {
-    sound = record { requests = r.keeps; traffic = issue_law p (entries h) (traffic_law p h pr) i.others i.waits };
-    requests = r.ends;
-    traffic = ended_law p h pr freed;
-  };
+  good = ungranted_is_good p (entries h) g.direct g.closes r.keeps (issue_law p (entries h) (traffic_law p h pr) i.others i.waits) r.ends (ended_law p h pr freed);
 }
 
-worked : (p : Plan) (h : List Event) → Premises (world_of p) (slots_of p) (issue_time p) h → RunsRequests p (entries h) → Issues p (entries h) → HasOne p → Finds (Among h) (IsFreed first) → IsWorked p h
-worked p h pr r i one f = worked_by p h pr r i (λ x pass q. subst (λ (y : TxnId). Finds (Among h) (IsFreed y)) (one x.initiator x.seq pass q) f)
+worked : (p : Plan) (h : List Event) → Premises (world_of p) (slots_of p) (issue_time p) h → RunsRequests p (entries h) → Issues p (entries h) → HasNoGrants p (entries h) → HasOne p → Finds (Among h) (IsFreed first) → IsWorked p h
+worked p h pr r i g one f = worked_by p h pr r i g (λ x pass q. subst (λ (y : TxnId). Finds (Among h) (IsFreed y)) (one x.initiator x.seq pass q) f)
 
 -- the objects that have entries
 unfoldable pub places : List ObjectNo
@@ -137,19 +161,19 @@ lone_one reply response (suc i) s pass q = cc
 
 pub accepting_works : IsWorked (lone Req.Accept Resp.Accept) accepting
 unfolding lone accepting places
-accepting_works = worked (lone Req.Accept Resp.Accept) accepting (premises_of _ _ _ places accepting (lone_world Req.Accept Resp.Accept) (found (tested _ _ _ places accepting) refl) (found (bounded accepting) refl)) accepting_runs (found (issues (lone Req.Accept Resp.Accept) (entries accepting)) refl) (lone_one Req.Accept Resp.Accept) (found (frees accepting) refl)
+accepting_works = worked (lone Req.Accept Resp.Accept) accepting (premises_of _ _ _ places accepting (lone_world Req.Accept Resp.Accept) (found (tested _ _ _ places accepting) refl) (found (bounded accepting) refl)) accepting_runs (found (issues (lone Req.Accept Resp.Accept) (entries accepting)) refl) (found (ungranted (lone Req.Accept Resp.Accept) (entries accepting)) refl) (lone_one Req.Accept Resp.Accept) (found (frees accepting) refl)
 
 pub completing_works : IsWorked (lone Req.Complete Resp.Accept) completing
 unfolding lone completing places
-completing_works = worked (lone Req.Complete Resp.Accept) completing (premises_of _ _ _ places completing (lone_world Req.Complete Resp.Accept) (found (tested _ _ _ places completing) refl) (found (bounded completing) refl)) completing_runs (found (issues (lone Req.Complete Resp.Accept) (entries completing)) refl) (lone_one Req.Complete Resp.Accept) (found (frees completing) refl)
+completing_works = worked (lone Req.Complete Resp.Accept) completing (premises_of _ _ _ places completing (lone_world Req.Complete Resp.Accept) (found (tested _ _ _ places completing) refl) (found (bounded completing) refl)) completing_runs (found (issues (lone Req.Complete Resp.Accept) (entries completing)) refl) (found (ungranted (lone Req.Complete Resp.Accept) (entries completing)) refl) (lone_one Req.Complete Resp.Accept) (found (frees completing) refl)
 
 pub answering_works : IsWorked (lone Req.BeginResp Resp.Accept) answering
 unfolding lone answering places
-answering_works = worked (lone Req.BeginResp Resp.Accept) answering (premises_of _ _ _ places answering (lone_world Req.BeginResp Resp.Accept) (found (tested _ _ _ places answering) refl) (found (bounded answering) refl)) answering_runs (found (issues (lone Req.BeginResp Resp.Accept) (entries answering)) refl) (lone_one Req.BeginResp Resp.Accept) (found (frees answering) refl)
+answering_works = worked (lone Req.BeginResp Resp.Accept) answering (premises_of _ _ _ places answering (lone_world Req.BeginResp Resp.Accept) (found (tested _ _ _ places answering) refl) (found (bounded answering) refl)) answering_runs (found (issues (lone Req.BeginResp Resp.Accept) (entries answering)) refl) (found (ungranted (lone Req.BeginResp Resp.Accept) (entries answering)) refl) (lone_one Req.BeginResp Resp.Accept) (found (frees answering) refl)
 
 pub ending_works : IsWorked (lone Req.EndReq Resp.EndResp) ending
 unfolding lone ending places
-ending_works = worked (lone Req.EndReq Resp.EndResp) ending (premises_of _ _ _ places ending (lone_world Req.EndReq Resp.EndResp) (found (tested _ _ _ places ending) refl) (found (bounded ending) refl)) ending_runs (found (issues (lone Req.EndReq Resp.EndResp) (entries ending)) refl) (lone_one Req.EndReq Resp.EndResp) (found (frees ending) refl)
+ending_works = worked (lone Req.EndReq Resp.EndResp) ending (premises_of _ _ _ places ending (lone_world Req.EndReq Resp.EndResp) (found (tested _ _ _ places ending) refl) (found (bounded ending) refl)) ending_runs (found (issues (lone Req.EndReq Resp.EndResp) (entries ending)) refl) (found (ungranted (lone Req.EndReq Resp.EndResp) (entries ending)) refl) (lone_one Req.EndReq Resp.EndResp) (found (frees ending) refl)
 
 -- platforms whose routers lead to later ones have no cycle
 rising : (p : Platform) → ((r s : ℕ) → LeadsTo p r s → r < s) → HasNoCycle p
@@ -189,7 +213,7 @@ refused_one (suc i) s pass q = cc
 
 pub refused_works : IsWorked refused_plan refused
 unfolding refused_plan refused places
-refused_works = worked refused_plan refused (premises_of _ _ _ places refused refused_world (found (tested _ _ _ places refused) refl) (found (bounded refused) refl)) refused_runs (found (issues refused_plan (entries refused)) refl) refused_one (found (frees refused) refl)
+refused_works = worked refused_plan refused (premises_of _ _ _ places refused refused_world (found (tested _ _ _ places refused) refl) (found (bounded refused) refl)) refused_runs (found (issues refused_plan (entries refused)) refl) (found (ungranted refused_plan (entries refused)) refl) refused_one (found (frees refused) refl)
 
 routed_rises : (r s : ℕ) → LeadsTo routed_plan.platform r s → r < s
 unfolding routed_plan
@@ -229,4 +253,4 @@ routed_one (suc i) s pass q = cc
 
 pub routed_works : IsWorked routed_plan routed
 unfolding routed_plan routed routed_places
-routed_works = worked routed_plan routed (premises_of _ _ _ routed_places routed routed_world (found (tested _ _ _ routed_places routed) refl) (found (bounded routed) refl)) routed_runs (found (issues routed_plan (entries routed)) refl) routed_one (found (frees routed) refl)
+routed_works = worked routed_plan routed (premises_of _ _ _ routed_places routed routed_world (found (tested _ _ _ routed_places routed) refl) (found (bounded routed) refl)) routed_runs (found (issues routed_plan (entries routed)) refl) (found (ungranted routed_plan (entries routed)) refl) routed_one (found (frees routed) refl)

@@ -1,10 +1,12 @@
 -- Each beginning of a sound history is sound.
 use Rattle.tlm_model.proofs.HistoryLemmas.{KeepsRequests-front}
 use Rattle.flow_plan.proofs.Beginnings.{beginnings}
+use Rattle.grant_model.proofs.Beginnings.{grant_beginnings}
 use Rattle.good_history.specs.Laws.{HasSoundBeginnings}
 
 pub sound_beginnings : HasSoundBeginnings
 sound_beginnings p h m s = record {
   requests = KeepsRequests-front p h m s.requests;
   traffic = beginnings p h m s.traffic;
+  grants = grant_beginnings p h m s.grants;
 }

@@ -9,19 +9,17 @@ use Rattle.tlm_types.specs.declared.entry.What.{What}
 use Rattle.tlm_types.specs.declared.entry.What.TheVariants.{Access as Accessed, Granted, Invalidated, Closed, Call, Take, Acquire, Release}
 use Rattle.tlm_model.specs.declared.platform.Platform.{Platform}
 use Rattle.tlm_model.specs.Each.{EachFrom}
-use Rattle.tlm_model.specs.Kept.{KeepsRequests, EndsRequests}
+use Rattle.tlm_model.specs.Kept.{KeepsRequests}
 use Rattle.tlm_model.specs.Plan.{Plan, Initiator, initiators_of}
 use Rattle.tlm_model.specs.Requests.{Request, requests_of}
 use Rattle.tlm_model.specs.Scripts.{IsPlaced, OfRequest}
 use Rattle.tlm_model.proofs.EachLemmas.{EachFrom-weaker}
-use Rattle.tlm_model.proofs.HistoryLemmas.{AllByRecursion-push}
 use Rattle.flow_model.specs.World.{World, Passage}
 use Rattle.flow_model.specs.Events.{Event, number_in, numbered_from}
 use Rattle.flow_model.specs.Platform.{world_of}
 use Rattle.flow_model.specs.Points.{InOrderBy}
 use Rattle.flow_plan.specs.Plans.{HasNoFourPhase, IsAsked, IsDecoupled}
 use Rattle.flow_plan.proofs.Decoupled.{decoupled_traffic, no_passage}
-use Rattle.good_history.specs.Good.{IsGood, IsSound}
 use Rattle.good_history.specs.Laws.{AllDecoupled, DecoupledIsGood, DecoupledIsSound, SoundIsDecoupled}
 
 -- an entry of an access that passes no hop
@@ -85,27 +83,12 @@ pub sound_is_decoupled : SoundIsDecoupled
 sound_is_decoupled p h none s = decoupled_from p none [] [] [] h s.traffic.passes.orders s.requests.scripts.places
 
 pub decoupled_is_sound : DecoupledIsSound
-decoupled_is_sound p h none decoupled k = record { requests = k; traffic = (decoupled_traffic p h none (is_asked p h k) decoupled).0 }
+decoupled_is_sound p h none decoupled k grants = record { requests = k; traffic = (decoupled_traffic p h none (is_asked p h k) decoupled).0; grants = grants }
 
 pub decoupled_is_good : DecoupledIsGood
-decoupled_is_good p h none decoupled k ends = record {
-  sound = decoupled_is_sound p h none decoupled k;
+decoupled_is_good p h none decoupled k grants ends closed = record {
+  sound = decoupled_is_sound p h none decoupled k grants;
   requests = ends;
   traffic = (decoupled_traffic p h none (is_asked p h k) decoupled).1;
+  grants = closed;
 }
-
--- such a history begins, grows by an entry, and ends
-pub sound_empty : (p : Plan) → HasNoFourPhase p → IsSound p []
-sound_empty p none = decoupled_is_sound p [] none tt (record {
-  numbered = tt;
-  legal = tt;
-  scripts = record { replies = tt; ways = tt; order = tt; places = tt };
-  times = tt;
-})
-
-pub sound_grows : (p : Plan) (h : List Entry) (e : Entry) → HasNoFourPhase p → IsSound p h → IsDecoupled e.object e.what → KeepsRequests p (h ++ e ∷ []) → IsSound p (h ++ e ∷ [])
-sound_grows p h e none s decoupled k =
-    decoupled_is_sound p (h ++ e ∷ []) none (AllByRecursion-push (λ (f : Entry). IsDecoupled f.object f.what) h e (sound_is_decoupled p h none s) decoupled) k
-
-pub sound_ends : (p : Plan) (h : List Entry) → HasNoFourPhase p → IsSound p h → EndsRequests p h → IsGood p h
-sound_ends p h none s ends = decoupled_is_good p h none (sound_is_decoupled p h none s) s.requests ends

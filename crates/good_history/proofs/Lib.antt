@@ -1,3 +1,4 @@
 pub mod Beginnings
 pub mod Decoupled
+pub mod Ungranted
 pub mod WorkedRuns

@@ -1,10 +1,8 @@
 -- Runs of a direct initiator, by computing the definitions.
-use Rattle.std.proofs.Common.{◌≡◌, [], refl, arith}
+use Rattle.std.proofs.Common.{◌≡◌, refl, arith}
 use Rattle.std.specs.Fmt.{digits}
-use Rattle.std.specs.Prelude.{◌∷◌, Some}
-use Rattle.tlm_model.specs.declared.operation.Operation.TheVariants.{Write}
 use Rattle.report_model.specs.Report.{report_of, report_lines}
-use Rattle.grant_model.specs.Worked.{EachEndCounts, EachPointCounts, IsDirectRun, MissesJust, aa, asking, causeless, cut_plan, falling, halved, hasty, late, lone_direct, pair_plan, revoked, revoked_plan, revoked_text, unanswered, unasked, unclosed, unused, windowed, windowed_plan, windowed_text}
+use Rattle.grant_model.specs.Worked.{EachEndCounts, EachPointCounts, IsDirectRun, MissesJust, asking, causeless, cut_plan, falling, halved, hasty, late, pair_plan, revoked, revoked_plan, revoked_text, spent, spent_plan, spent_text, unanswered, unasked, unasked_plan, unclosed, unused, windowed, windowed_plan, windowed_text}
 
 pub revoked_is_worked : IsDirectRun revoked_plan revoked revoked_text
 unfolding revoked revoked_plan report_of report_lines digits
@@ -68,6 +66,37 @@ windowed_is_worked = record {
   report = refl;
 }
 
+pub spent_is_worked : IsDirectRun spent_plan spent spent_text
+unfolding spent spent_plan report_of report_lines digits
+spent_is_worked = record {
+  requests = record {
+    kept = record {
+      numbered = (refl, (refl, (refl, (refl, (refl, (refl, (refl, (refl, tt))))))));
+      legal = ((refl, refl), (tt, (tt, (tt, ((refl, refl), (tt, ((refl, refl), (tt, tt))))))));
+      scripts = record {
+        replies = ((refl, refl), (tt, ((refl, refl, refl), (tt, ((refl, refl), ((refl, refl, refl), ((refl, refl), ((refl, refl, refl), tt))))))));
+        ways = (tt, (tt, (tt, (tt, (tt, (tt, (tt, (tt, tt))))))));
+        order = ((refl, refl), (tt, ((refl, refl), (tt, ((refl, refl), ((refl, refl), ((refl, refl), ((refl, refl), tt))))))));
+        places = (tt, (refl, (tt, (refl, (tt, (tt, (tt, (tt, tt))))))));
+      };
+      times = (refl, (refl, (refl, (refl, (refl, (refl, (refl, (refl, tt))))))));
+    };
+    ended = record { answers = (refl, tt) };
+  };
+  kept = record {
+    gates = (tt, ((refl, refl), (tt, ((refl, refl), (tt, (tt, (tt, (tt, tt))))))));
+    wholes = (tt, ((refl, refl, refl), (tt, (tt, (tt, (tt, (tt, (tt, tt))))))));
+    asked = (tt, (refl, (tt, (tt, (tt, (tt, (tt, (tt, tt))))))));
+    answered = (tt, (refl, (refl, (refl, (refl, (refl, (refl, (refl, tt))))))));
+    uses = (tt, (tt, (tt, (tt, (tt, (tt, (tt, (tt, tt))))))));
+    ways = (refl, (tt, (tt, (tt, (refl, (tt, (refl, (tt, tt))))))));
+    closings = (tt, (tt, (tt, (refl, (tt, (tt, (tt, (tt, tt))))))));
+    returns = (refl, (refl, (refl, (refl, (refl, (refl, (refl, (refl, tt))))))));
+  };
+  ended = record { answered = (refl, tt); returned = refl };
+  report = refl;
+}
+
 falling_misses : MissesJust 0 cut_plan falling
 unfolding falling
 falling_misses = record {
@@ -96,7 +125,7 @@ halved_misses = record {
   returns = λ other. (refl, (refl, tt));
 }
 
-unasked_misses : MissesJust 2 (lone_direct (Write 0 aa [] (Some 1) ∷ [])) unasked
+unasked_misses : MissesJust 2 unasked_plan unasked
 unfolding unasked
 unasked_misses = record {
   missed = λ k. let wrong = k.asked.1.0 in cc;

@@ -88,6 +88,25 @@ windowed =
 abbrev pub windowed_text : List ℕ
 windowed_text = codes "tlm-report 1\n0 5 d.0 ram blocking write 0x40 1 be=- sw=1 aa ok\n1 15 d.0 ram granted 0 0x0-0xff both\n2 15 d.1 ram direct:0 read 0x40 1 be=- sw=1 aa ok\n3 30 d.2 ram direct:0 read 0xbf 1 be=- sw=1 00 ok\ninitiator d direct transactions 3 refused 0 syncs 3 end 45\nmemory ram 256\n00000040 aa000000000000000000000000000000\nend 4\n"
 
+-- a memory with one gate gives no other once it is closed
+unfoldable pub spent_plan : Plan
+spent_plan = direct_plan (Memory 0) [] 1 (read_one ∷ Invalidate 0 1 ∷ read_one ∷ Invalidate 0 1 ∷ read_one ∷ Invalidate 0 1 ∷ [])
+
+unfoldable pub spent : List Entry
+spent =
+    entry 0 0 0 (read 0 (0 ∷ []) Ok)
+    ∷ entry 1 0 10 (granted 0)
+    ∷ entry 2 1 10 (Invalidated 0 0)
+    ∷ entry 3 1 10 (Closed 0)
+    ∷ entry 4 2 10 (read 0 (0 ∷ []) Ok)
+    ∷ entry 5 3 20 (Invalidated 0 0)
+    ∷ entry 6 4 20 (read 0 (0 ∷ []) Ok)
+    ∷ entry 7 5 30 (Invalidated 0 0)
+    ∷ []
+
+abbrev pub spent_text : List ℕ
+spent_text = codes "tlm-report 1\n0 0 d.0 ram blocking read 0x0 1 be=- sw=1 00 ok\n1 10 d.0 ram granted 0 0x0-0xff both\n2 10 d.1 ram invalidated 0x0-0x0\n3 10 d.1 ram closed 0\n4 10 d.2 ram blocking read 0x0 1 be=- sw=1 00 ok\n5 20 d.3 ram invalidated 0x0-0x0\n6 20 d.4 ram blocking read 0x0 1 be=- sw=1 00 ok\n7 30 d.5 ram invalidated 0x0-0x0\ninitiator d direct transactions 6 refused 0 syncs 6 end 30\nmemory ram 256\nend 8\n"
+
 -- the run has the points of requests and those of grants, and its report is this text
 pub record IsDirectRun (p : Plan) (h : List Entry) (text : List ℕ) : Type 0 where
   pub requests : IsWorked p h
@@ -159,11 +178,14 @@ cut_plan = lone_direct (write_aa ∷ Invalidate 0 1 ∷ read_one ∷ [])
 abbrev pub pair_plan : Plan
 pair_plan = lone_direct (write_aa ∷ read_one ∷ [])
 
+abbrev pub unasked_plan : Plan
+unasked_plan = lone_direct (Write 0 aa [] (Some 1) ∷ [])
+
 -- for each point a history that misses it alone
 pub record EachPointCounts : Type 0 where
   pub falling_misses : MissesJust 0 cut_plan falling
   pub halved_misses : MissesJust 1 pair_plan halved
-  pub unasked_misses : MissesJust 2 (lone_direct (Write 0 aa [] (Some 1) ∷ [])) unasked
+  pub unasked_misses : MissesJust 2 unasked_plan unasked
   pub unanswered_misses : MissesJust 3 pair_plan unanswered
   pub late_misses : MissesJust 4 cut_plan late
   pub unused_misses : MissesJust 5 pair_plan unused

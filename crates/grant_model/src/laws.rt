@@ -1,10 +1,9 @@
 //! Laws of the points of grants.
-ghost use Rattle.grant_model.specs.Laws.{GrantsChangeNoGood, GrantsChangeNoSound, HasGrantBeginnings, HasSoundBeginningsWithGrants, NothingIsClosed, UngrantedKeepsGrants};
+ghost use Rattle.grant_model.specs.Laws.{HasGrantBeginnings, NothingIsClosed, UngrantedClosesNothing, UngrantedKeepsGrants};
 
 /// Each beginning of a history that has the points of grants has them.
 pub fn beginnings_keep_grants()
-    ensures grants { HasGrantBeginnings }
-    ensures sound { HasSoundBeginningsWithGrants }
+    ensures { HasGrantBeginnings }
 {}
 
 /// Where no initiator is direct and no gate is closed, the points of grants hold.
@@ -12,13 +11,8 @@ pub fn histories_without_grants()
     ensures { UngrantedKeepsGrants }
 {}
 
-/// Without invalidations no gate is closed.
+/// No gate is closed where no script invalidates, and none where no initiator is direct: nobody was given one.
 pub fn nothing_is_closed()
-    ensures { NothingIsClosed }
-{}
-
-/// The points of grants change nothing for plans without direct initiators and invalidations.
-pub fn grants_change_nothing_elsewhere()
-    ensures sound { GrantsChangeNoSound }
-    ensures good { GrantsChangeNoGood }
+    ensures unasked { NothingIsClosed }
+    ensures ungranted { UngrantedClosesNothing }
 {}

@@ -1,5 +1,5 @@
 //! Runs of a direct initiator, made by hand.
-ghost use Rattle.grant_model.specs.Worked.{EachEndCounts, EachPointCounts, IsDirectRun, revoked, revoked_plan, revoked_text, windowed, windowed_plan, windowed_text};
+ghost use Rattle.grant_model.specs.Worked.{EachEndCounts, EachPointCounts, IsDirectRun, revoked, revoked_plan, revoked_text, spent, spent_plan, spent_text, windowed, windowed_plan, windowed_text};
 
 /// An invalidation ends the grant that it overlaps, and the initiator gets another.
 pub fn invalidation_ends_a_grant()
@@ -9,6 +9,11 @@ pub fn invalidation_ends_a_grant()
 /// A grant serves the addresses of a router's window.
 pub fn grant_serves_a_window()
     ensures { IsDirectRun windowed_plan windowed windowed_text }
+{}
+
+/// Once its one gate is closed a memory gives none, and each access of its initiator is blocking.
+pub fn closed_gate_is_not_given_again()
+    ensures { IsDirectRun spent_plan spent spent_text }
 {}
 
 /// For each point there is a history that misses it alone.

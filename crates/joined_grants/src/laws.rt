@@ -2,7 +2,7 @@
 ghost use Rattle.joined_grants.specs.Exact.{PointsTellParts, WorkedHaveParts};
 ghost use Rattle.joined_grants.specs.GateLog.{GivesAsManyGates, GivesNoOtherGates};
 ghost use Rattle.joined_grants.specs.Growing.{GateHasOneGrant, OwnGrantsGrow, OwnGrantsStand};
-ghost use Rattle.joined_grants.specs.Laws.{JoinedIsGoodWithGrants, JoinedIsSoundWithGrants, PartsEndGrants, PartsKeepGrants};
+ghost use Rattle.joined_grants.specs.Laws.{PartsEndGrants, PartsKeepGrants, PartsMakeGood, PartsMakeSound};
 ghost use Rattle.joined_grants.specs.Returning.{PlacesTellReturn, ReturnStays};
 
 /// A joined history has the points of grants.
@@ -15,10 +15,10 @@ pub fn joined_histories_end_grants()
     ensures { PartsEndGrants }
 {}
 
-/// Where no initiator has four phases, such a history is sound, and good.
+/// Where no initiator has four phases, such a history is sound, and good, whichever of its initiators are direct.
 pub fn joined_histories_with_grants_are_good()
-    ensures sound { JoinedIsSoundWithGrants }
-    ensures good { JoinedIsGoodWithGrants }
+    ensures sound { PartsMakeSound }
+    ensures good { PartsMakeGood }
 {}
 
 /// The places of a memory's log tell that an invalidation has returned.

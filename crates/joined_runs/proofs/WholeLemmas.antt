@@ -3,13 +3,15 @@ use Rattle.std.specs.List.{AllByRecursion, list_all}
 use Rattle.std.proofs.Common.{List, [], ◌∷◌, ◌++◌, ap, ◌∙◌}
 use Rattle.tlm_types.specs.declared.entry.Entry.{Entry}
 use Rattle.tlm_model.specs.Each.{EachFrom}
-use Rattle.tlm_model.specs.Plan.{initiators_of}
+use Rattle.tlm_model.specs.Plan.{Plan, initiators_of}
 use Rattle.tlm_model.specs.Requests.{requests_of}
 use Rattle.tlm_model.specs.Scripts.{IsPlaced, RunsScripts, is_settled}
 use Rattle.tlm_model.proofs.HistoryLemmas.{AllByRecursion-weaker}
 use Rattle.flow_plan.specs.Plans.{IsDecoupled}
-use Rattle.good_history.proofs.Decoupled.{decoupled_is_good, decoupled_is_sound}
+use Rattle.good_history.specs.Laws.{AllDecoupled}
+use Rattle.good_history.proofs.Ungranted.{blocking_is_good, blocking_is_sound}
 use Rattle.joined_runs.specs.Own.{own}
+use Rattle.joined_runs.specs.Joined.{IsJoined, OwnDecoupled}
 use Rattle.joined_runs.specs.Laws.{JoinedEndsRequests, JoinedIsGood, JoinedIsSound, JoinedKeepsRequests}
 use Rattle.joined_runs.proofs.ScriptLemmas.{all_joined, own_scripts_join, own_times_join}
 use Rattle.joined_runs.proofs.OwnLemmas.{own_is_enough}
@@ -37,10 +39,14 @@ joined_ends_requests p h ended = record {
       told.all_settled (requests_of p.platform i h) ∙ (ap (list_all (is_settled p.platform i (own i.number h))) told.requests ∙ ends)) ended;
 }
 
+-- and stands at memories
+pub joined_is_decoupled : (p : Plan) (h : List Entry) → OwnDecoupled p h → IsJoined p h → AllDecoupled h
+joined_is_decoupled p h decoupled joined = all_joined p h (λ (e : Entry). IsDecoupled e.object e.what) joined.owners decoupled
+
 pub joined_is_sound : JoinedIsSound
-joined_is_sound p h none decoupled joined =
-    decoupled_is_sound p h none (all_joined p h (λ (e : Entry). IsDecoupled e.object e.what) joined.owners decoupled) (joined_keeps_requests p h joined)
+joined_is_sound p h none direct decoupled closes joined =
+    blocking_is_sound p h none direct (joined_is_decoupled p h decoupled joined) closes (joined_keeps_requests p h joined)
 
 pub joined_is_good : JoinedIsGood
-joined_is_good p h none decoupled joined ended =
-    decoupled_is_good p h none (all_joined p h (λ (e : Entry). IsDecoupled e.object e.what) joined.owners decoupled) (joined_keeps_requests p h joined) (joined_ends_requests p h ended)
+joined_is_good p h none direct decoupled closes joined ended =
+    blocking_is_good p h none direct (joined_is_decoupled p h decoupled joined) closes (joined_keeps_requests p h joined) (joined_ends_requests p h ended)

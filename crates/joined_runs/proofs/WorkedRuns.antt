@@ -1,13 +1,17 @@
 -- The run of two initiators, by computing the definitions.
 use Rattle.std.proofs.Common.{◌≡◌, ◌≢◌, zero, suc, false, nat_eq, refl, arith, lit<}
 use Rattle.std.proofs.lemmas.Bool.Decides.{nat_tests}
-use Rattle.tlm_model.specs.declared.platform.Style.TheVariants.{Blocking, FourPhase}
+use Rattle.tlm_model.specs.declared.platform.Style.TheVariants.{Blocking, Direct, FourPhase}
+use Rattle.grant_model.specs.Laws.{ClosesNothing}
 use Rattle.joined_runs.specs.Joined.{AllHaveEnded, HasLogs, IsJoined, OwnDecoupled}
 use Rattle.joined_runs.specs.Worked.{MeetingIsGood, meeting, meeting_plan}
 use Rattle.joined_runs.proofs.WholeLemmas.{joined_is_good}
 
 blocking : Blocking ≢ FourPhase
 blocking same = cc
+
+undirect : Blocking ≢ Direct
+undirect same = cc
 
 meeting_is_joined : IsJoined meeting_plan meeting
 unfolding meeting meeting_plan
@@ -48,6 +52,10 @@ meeting_is_decoupled : OwnDecoupled meeting_plan meeting
 unfolding meeting meeting_plan
 meeting_is_decoupled = ((tt, (tt, tt)), ((tt, (tt, tt)), tt))
 
+meeting_closes_nothing : ClosesNothing meeting
+unfolding meeting
+meeting_closes_nothing = (tt, (tt, (tt, (tt, tt))))
+
 meeting_has_ended : AllHaveEnded meeting_plan meeting
 unfolding meeting meeting_plan
 meeting_has_ended = (refl, (refl, tt))
@@ -57,6 +65,7 @@ unfolding meeting_plan
 meeting_is_good = record {
   joined = meeting_is_joined;
   decoupled = meeting_is_decoupled;
+  closes = meeting_closes_nothing;
   ended = meeting_has_ended;
-  good = joined_is_good meeting_plan meeting (blocking, (blocking, tt)) meeting_is_decoupled meeting_is_joined meeting_has_ended;
+  good = joined_is_good meeting_plan meeting (blocking, (blocking, tt)) (undirect, (undirect, tt)) meeting_is_decoupled meeting_closes_nothing meeting_is_joined meeting_has_ended;
 }

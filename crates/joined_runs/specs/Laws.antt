@@ -13,6 +13,7 @@ use Rattle.tlm_model.specs.Requests.{Request, requests_of}
 use Rattle.tlm_model.specs.Scripts.{IsPlaced, RunsScripts}
 use Rattle.tlm_model.specs.Times.{HasDecoupledTimes}
 use Rattle.flow_plan.specs.Plans.{HasNoFourPhase}
+use Rattle.grant_model.specs.Laws.{ClosesNothing, HasNoDirect}
 use Rattle.good_history.specs.Good.{IsGood, IsSound}
 use Rattle.joined_runs.specs.Own.{AsksByOwn, IsToldByOwn, own}
 use Rattle.joined_runs.specs.Joined.{AllHaveEnded, HasLogs, HasOwners, IsJoined, OwnDecoupled}
@@ -52,9 +53,9 @@ JoinedKeepsRequests = (p : Plan) (h : List Entry) → IsJoined p h → KeepsRequ
 abbrev pub JoinedEndsRequests : Type 0
 JoinedEndsRequests = (p : Plan) (h : List Entry) → AllHaveEnded p h → EndsRequests p h
 
--- where no initiator has four phases, it is sound, and good
+-- where no initiator has four phases and none is direct, and no gate is closed, it is sound, and good
 abbrev pub JoinedIsSound : Type 0
-JoinedIsSound = (p : Plan) (h : List Entry) → HasNoFourPhase p → OwnDecoupled p h → IsJoined p h → IsSound p h
+JoinedIsSound = (p : Plan) (h : List Entry) → HasNoFourPhase p → HasNoDirect p → OwnDecoupled p h → ClosesNothing h → IsJoined p h → IsSound p h
 
 abbrev pub JoinedIsGood : Type 0
-JoinedIsGood = (p : Plan) (h : List Entry) → HasNoFourPhase p → OwnDecoupled p h → IsJoined p h → AllHaveEnded p h → IsGood p h
+JoinedIsGood = (p : Plan) (h : List Entry) → HasNoFourPhase p → HasNoDirect p → OwnDecoupled p h → ClosesNothing h → IsJoined p h → AllHaveEnded p h → IsGood p h

@@ -13,6 +13,7 @@ use Rattle.tlm_model.specs.declared.platform.Target.TheVariants.{Memory}
 use Rattle.tlm_model.specs.Plan.{Plan}
 use Rattle.tlm_model.specs.Worked.{read, wrote}
 use Rattle.good_history.specs.Good.{IsGood}
+use Rattle.grant_model.specs.Laws.{ClosesNothing}
 use Rattle.joined_runs.specs.Joined.{AllHaveEnded, IsJoined, OwnDecoupled}
 
 -- a blocking initiator on the memory
@@ -53,5 +54,6 @@ meeting =
 pub record MeetingIsGood : Type 0 where
   pub joined : IsJoined meeting_plan meeting
   pub decoupled : OwnDecoupled meeting_plan meeting
+  pub closes : ClosesNothing meeting
   pub ended : AllHaveEnded meeting_plan meeting
   pub good : IsGood meeting_plan meeting

@@ -33,12 +33,13 @@ pub fn joined_histories_end_requests()
     ensures { JoinedEndsRequests }
 {}
 
-/// Where no initiator has four phases, a joined history is sound.
+/// Where all initiators are blocking and no gate is closed, a joined history is sound. Four-phase and direct initiators
+/// keep more than these parts: the crates above join theirs.
 pub fn joined_histories_are_sound()
     ensures { JoinedIsSound }
 {}
 
-/// A joined history is good, where each initiator has ended its script.
+/// Such a history is good, where each initiator has ended its script.
 pub fn joined_histories_are_good()
     ensures { JoinedIsGood }
 {}

@@ -6,13 +6,14 @@
 //!
 //! - `specs/Accesses` counts the entries of accesses, `specs/Driven` says what an initiator knows of its entries and its
 //!   wallet, `specs/Ended` what stands once all have finished, `specs/Issued` when requests were issued and what was waited for.
-//! - `specs/Laws` has the laws: the premises of the law of four-phase traffic, its points, and that the history is good.
+//! - `specs/Laws` has the laws: the premises of the law of four-phase traffic, its points, those of requests, and that the history
+//!   is good.
 //! - `specs/Worked` has a run by hand that leaves all this.
 //!
 //! Nothing here runs: each function carries a law.
 #![tactic(auto)]
 
-ghost use Rattle.joined_traffic.specs.Laws.{EndedHasPremises, EndedHasTraffic, EndedIsGood, EndedIsSound};
+ghost use Rattle.joined_traffic.specs.Laws.{EndedHasPremises, EndedHasRequests, EndedHasTraffic, EndedIsGood, EndedIsSound, UngrantedHasGrants};
 ghost use Rattle.joined_traffic.specs.Worked.{CompletingHasEnded};
 
 /// What initiators, hops, pools and memories leave at the end of a run has the premises of the law of four-phase
@@ -27,11 +28,17 @@ pub fn ended_runs_have_traffic()
     ensures { EndedHasTraffic }
 {}
 
-/// A run that has ended leaves a good history, where initiators of all styles run side by side, and each of its
-/// beginnings is sound.
+/// It runs the scripts of the initiators, and answers all that they ask for.
+pub fn ended_runs_have_requests()
+    ensures { EndedHasRequests }
+{}
+
+/// A run that has ended leaves a good history, where initiators of all styles run side by side and the points of grants
+/// hold, and each of its beginnings is sound. Without direct initiators and invalidations they hold.
 pub fn ended_runs_are_good()
     ensures good { EndedIsGood }
     ensures beginnings { EndedIsSound }
+    ensures ungranted { UngrantedHasGrants }
 {}
 
 /// A run by hand leaves all of this: one access, which its memory completes with its answer.

@@ -2,15 +2,19 @@
 use Rattle.std.proofs.Common.{◌≡◌, ◌≢◌, ℕ, zero, suc, ◌+◌, ◌<◌, List, [], ◌∷◌, length, Ok, Some, slice_get, refl, sym, subst, ◌∙◌, arith}
 use Rattle.std.specs.List.{AllByRecursion}
 use Rattle.tlm_model.specs.declared.operation.Operation.{Operation}
+use Rattle.tlm_model.specs.declared.operation.Operation.TheVariants.{Invalidate}
 use Rattle.tlm_model.specs.declared.platform.InitiatorRow.{InitiatorRow}
 use Rattle.tlm_model.specs.declared.platform.Platform.{Platform}
 use Rattle.tlm_model.specs.declared.platform.Style.{Style}
 use Rattle.tlm_model.specs.declared.platform.Style.TheVariants.{Blocking, Direct, FourPhase}
 use Rattle.tlm_model.specs.Plan.{Plan, Initiator, initiators_from, initiators_of}
+use Rattle.tlm_model.proofs.HistoryLemmas.{AllByRecursion-weaker}
 use Rattle.flow_plan.specs.Plans.{HasNoFourPhase}
 use Rattle.flow_plan.proofs.Ways.{initiator_from}
+use Rattle.grant_model.specs.Laws.{HasNoDirect, HasNoInvalidation, IsNoInvalidation}
 use Rattle.platform_model.specs.Reading.{rows_from}
 use Rattle.platform_model.proofs.ReadLemmas.{bind_ok}
+use Rattle.traffic_script.specs.Proper.{AreProper, IsProper}
 use Rattle.route_plan.specs.Shape.{checked_acyclic, checked_depth, checked_memory_named, checked_router_named, checked_shape, checked_single, checked_style, checked_windowed}
 use Rattle.route_plan.specs.Valid.{IsValid}
 use Rattle.run_outcome.proofs.ListLemmas.{within}
@@ -63,11 +67,33 @@ blocking_at p valid n i is = blocking_from 0 n p.platform.initiators p.scripts i
 pub blocking_apart : (style : Style) → style ≡ Blocking → style ≢ FourPhase
 blocking_apart style is four = let wrong : Blocking ≡ FourPhase = sym is ∙ four in cc
 
-none_from : (n : ℕ) (rows : List InitiatorRow) (scripts : List (List Operation)) → AllByRecursion (λ (row : InitiatorRow). row.style ≡ Blocking) rows → AllByRecursion (λ i. i.row.style ≢ FourPhase) (initiators_from n rows scripts)
-none_from n [] scripts all = tt
-none_from n (row ∷ rows) [] all = tt
-none_from n (row ∷ rows) (script ∷ scripts) all = (blocking_apart row.style all.0, none_from (n + 1) rows scripts all.1)
+direct_apart : (style : Style) → style ≡ Blocking → style ≢ Direct
+direct_apart style is direct = let wrong : Blocking ≡ Direct = sym is ∙ direct in cc
+
+-- what holds of each row holds of each initiator, and so with scripts
+rows_hold : (P Q : Style → Type 0) → ((style : Style) → P style → Q style) → (n : ℕ) (rows : List InitiatorRow) (scripts : List (List Operation)) → AllByRecursion (λ (row : InitiatorRow). P row.style) rows → AllByRecursion (λ i. Q i.row.style) (initiators_from n rows scripts)
+rows_hold P Q f n [] scripts all = tt
+rows_hold P Q f n (row ∷ rows) [] all = tt
+rows_hold P Q f n (row ∷ rows) (script ∷ scripts) all = (f row.style all.0, rows_hold P Q f (n + 1) rows scripts all.1)
+
+scripts_hold : (P Q : List Operation → Type 0) → ((script : List Operation) → P script → Q script) → (n : ℕ) (rows : List InitiatorRow) (scripts : List (List Operation)) → AllByRecursion P scripts → AllByRecursion (λ i. Q i.script) (initiators_from n rows scripts)
+scripts_hold P Q f n [] scripts all = tt
+scripts_hold P Q f n (row ∷ rows) [] all = tt
+scripts_hold P Q f n (row ∷ rows) (script ∷ scripts) all = (f script all.0, scripts_hold P Q f (n + 1) rows scripts all.1)
 
 -- the initiators of a valid plan have no four phases
 pub no_fourphase : (p : Plan) → IsValid p → HasNoFourPhase p
-no_fourphase p valid = none_from 0 p.platform.initiators p.scripts (are_blocking p.platform valid.shape.checked)
+no_fourphase p valid = rows_hold (λ style. style ≡ Blocking) (λ style. style ≢ FourPhase) blocking_apart 0 p.platform.initiators p.scripts (are_blocking p.platform valid.shape.checked)
+
+-- and aren't direct
+pub no_direct : (p : Plan) → IsValid p → HasNoDirect p
+no_direct p valid = rows_hold (λ style. style ≡ Blocking) (λ style. style ≢ Direct) direct_apart 0 p.platform.initiators p.scripts (are_blocking p.platform valid.shape.checked)
+
+proper_invalidates_nothing : (op : Operation) → IsProper op → IsNoInvalidation op
+proper_invalidates_nothing (Invalidate a n) proper = absurd proper
+proper_invalidates_nothing op proper = tt
+
+-- and their scripts invalidate nothing
+pub no_invalidation : (p : Plan) → IsValid p → HasNoInvalidation p
+no_invalidation p valid =
+    scripts_hold AreProper (AllByRecursion IsNoInvalidation) (λ script proper. AllByRecursion-weaker IsProper IsNoInvalidation script proper_invalidates_nothing proper.each) 0 p.platform.initiators p.scripts valid.proper
