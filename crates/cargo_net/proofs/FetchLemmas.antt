@@ -1,11 +1,12 @@
 -- What the log of a hop and what vouches for its items tell of what was fetched.
-use Rattle.std.proofs.Common.{◌≡◌, ◌⊎◌, ℕ, ◌+◌, ◌*◌, ◌<◌, List, [], ◌∷◌, map, get_or, true, Some, refl, sym, ◌∙◌, ap, arith, subst, inl, inr}
+use Rattle.std.proofs.Common.{◌≡◌, ◌⊎◌, ℕ, ◌+◌, ◌*◌, ◌<◌, List, [], ◌∷◌, map, get_or, true, Option, Some, None, refl, sym, ◌∙◌, ap, arith, subst, inl, inr}
 use Rattle.std.specs.Prelude.{◌/◌, is_some, slice_get}
 use Rattle.std.specs.Option.{unwrap_or}
 use Rattle.std.proofs.lemmas.Grind.{common_steps}
 use Rattle.atomic_table.specs.Seated.{TableId}
 use Rattle.view_lists.specs.Lists.{Has}
 use Rattle.view_lists.proofs.Members.{has_mapped}
+use Rattle.one_history.specs.declared.entry.Entry.{Entry as HistoryEntry}
 use Rattle.one_history.specs.declared.view.Frame.{Frame}
 use Rattle.one_history.specs.declared.view.View.{View}
 use Rattle.tlm_types.specs.declared.entry.Content.{Content}
@@ -14,7 +15,10 @@ use Rattle.tlm_types.specs.declared.words.ObjectNo.{ObjectNo}
 use Rattle.tlm_types.specs.declared.words.ObjectNo.TheVariants.{Hop}
 use Rattle.tlm_types.specs.declared.words.Phase.TheVariants as Phases
 use Rattle.tlm_types.specs.declared.words.ReqMode.{ReqMode}
+use Rattle.tlm_types.specs.declared.words.RespMode.{RespMode}
+use Rattle.tlm_types.specs.declared.words.RespMode.TheVariants as Resps
 use Rattle.tlm_types.specs.declared.words.TlmSync.{TlmSync}
+use Rattle.tlm_types.specs.declared.words.TxnId.{TxnId}
 use Rattle.tlm_model.specs.Plan.{Plan}
 use Rattle.base_phases.specs.declared.phases.LaneState.{LaneState}
 use Rattle.base_phases.specs.declared.phases.LaneState.TheVariants.{Free, Requested, Waiting, Responding}
@@ -22,22 +26,24 @@ use Rattle.base_phases.specs.Phases.{next_state}
 use Rattle.token_book.specs.Account.{Slip}
 use Rattle.shared_object.specs.Standing.{AreVouched}
 use Rattle.shared_object.specs.Written.{placed}
-use Rattle.hop_model.specs.Answers.{request_answer}
+use Rattle.hop_model.specs.Answers.{request_answer, response_answer}
 use Rattle.flow_model.specs.World.{Passage, hop_at, is_refused, row_of}
-use Rattle.flow_model.specs.Events.{Among, Event, IsCall, entries}
+use Rattle.flow_model.specs.Events.{Among, Event, FindsAt, IsCall, entries}
 use Rattle.flow_model.specs.Platform.{world_of}
 use Rattle.numbered_log.specs.Logged.{written_by}
 use Rattle.numbered_log.proofs.Ordered.{among_has, each_has}
 use Rattle.hop_object.specs.View.{HopView}
 use Rattle.hop_object.specs.Lanes.{name_at, waits}
-use Rattle.hop_object.specs.States.{is_down, number_of_state}
+use Rattle.hop_object.specs.States.{is_down, number_of_state, state_by}
 use Rattle.hop_object.specs.Hops.{Follows, board_of, reached_of, rules_of}
-use Rattle.hop_object.specs.Calls.{FetchesDown}
+use Rattle.hop_object.specs.Calls.{FetchesDown, FetchesUp, TakesUp}
+use Rattle.hop_object.specs.Laws.{OwedNames, state_with}
 use Rattle.hop_object.specs.Objects.{given_by}
 use Rattle.hop_object.specs.declared.lane.Lane.{Lane}
 use Rattle.hop_object.specs.declared.lane.Side.TheVariants as Sides
-use Rattle.hop_object.specs.declared.call.HopCall.TheVariants.{FetchDown}
-use Rattle.hop_object.specs.declared.call.HopReply.TheVariants.{Down}
+use Rattle.hop_object.specs.declared.call.HopCall.TheVariants.{FetchDown, FetchUp}
+use Rattle.hop_object.specs.declared.call.HopReply.TheVariants.{Down, Up}
+use Rattle.hop_object.specs.declared.call.HopTraits.{HopTraits}
 use Rattle.hop_object.proofs.LegLemmas.{both, small}
 use Rattle.hop_object.proofs.Places.{at_place, read_middle}
 use Rattle.hop_object.proofs.ReplyLaws.{fetched_sent, reply_names}
@@ -49,10 +55,12 @@ use Rattle.cargo_model.specs.Modes.{IsByMode}
 use Rattle.cargo_model.proofs.Called.{answers_fit}
 use Rattle.cargo_model.proofs.Modes.{are_by_modes}
 use Rattle.cargo_model.proofs.Origins.{only_object, stands}
+use Rattle.cargo_model.proofs.Up.{fetches}
 use Rattle.cargo_net.specs.Carried.{IsAtSide, IsCarried}
-use Rattle.cargo_net.specs.Fetched.{HasFetchedRequest, IsHopThere, down_reply}
-use Rattle.cargo_net.specs.Hops.{HasAnswered, MeetsHop}
+use Rattle.cargo_net.specs.Fetched.{HasEndLeg, HasFetchedRequest, HasFetchedResponse, IsHopThere, down_reply, mode_above, up_reply}
+use Rattle.cargo_net.specs.Hops.{HasAnswered, IsLegOfLane, MeetsHop}
 use Rattle.cargo_net.specs.declared.fetches.FetchedRequest.{FetchedRequest}
+use Rattle.cargo_net.specs.declared.fetches.FetchedResponse.{FetchedResponse}
 use Rattle.cargo_net.proofs.Lists.{read_there}
 
 among_entries : (es : List Event) (e : Event) → Among es e → Among (entries es) e.entry
@@ -80,6 +88,25 @@ same_hop a b e = cc
 down_only : {A B : Type 0} (way : A ⊎ B) → IsAtSide Sides.Down way → A
 down_only (inl a) at = a
 down_only (inr b) at = absurd at
+
+up_only : {A B : Type 0} (way : A ⊎ B) → IsAtSide Sides.Up way → B
+up_only (inl a) at = absurd at
+up_only (inr b) at = b
+
+-- the leg of END_RESP comes with the response where it was accepted
+end_leg : (frame : Frame Plan) (tokens : TableId) (number : ℕ) (known : List (HistoryEntry Content)) (x : TxnId) (mode : RespMode) (leg : Option Slip) → state_by (response_answer mode) ≡ state_with leg
+    → ((l : Slip) → leg ≡ Some l → IsLegOfLane frame tokens number known x Responding l) → HasEndLeg frame tokens number known x mode leg
+end_leg frame tokens number known x Resps.Accept None leads of = cc
+end_leg frame tokens number known x Resps.Accept (Some l) leads of = of l refl
+end_leg frame tokens number known x Resps.EndResp None leads of = tt
+end_leg frame tokens number known x Resps.EndResp (Some l) leads of = cc
+end_leg frame tokens number known x Resps.Complete None leads of = tt
+end_leg frame tokens number known x Resps.Complete (Some l) leads of = cc
+
+-- a hop stays what it is where a response is fetched
+stays : (v : HopView Cargo) (i : ℕ) (w : HopView Cargo) (leg : Option Slip) (x : TxnId) (time : ℕ) (item : Cargo) → TakesUp v i w leg x time item → (w.number ≡ v.number) × (w.traits ≡ v.traits)
+stays v i w None x time item t = (ap (λ (y : HopView Cargo). y.number) t.after, ap (λ (y : HopView Cargo). y.traits) t.after)
+stays v i w (Some leg) x time item t = (ap (λ (y : HopView Cargo). y.number) t.after, ap (λ (y : HopView Cargo). y.traits) t.after)
 
 module _ (frame : Frame Plan) (tokens : TableId) (number own : ℕ) (note back : View Content Plan) (h : IsHopThere frame.world number) where
   abbrev p : Plan
@@ -158,4 +185,59 @@ module _ (frame : Frame Plan) (tokens : TableId) (number own : ℕ) (note back :
         };
         fits = fits;
         responds = still_to_come (row_of (world_of p) v.pass v.hop) sent.answer r.state fits sent.leads open_lane;
+      }
+
+  -- the leg that comes with a response is that of the lane of x
+  leg_up : (v : HopView Cargo) → MeetsHop frame tokens number own note.known v → (i : ℕ) (w : HopView Cargo) (leg : Option Slip) (x : TxnId) (time : ℕ) (item : Cargo) → TakesUp v i w leg x time item → OwedNames w leg x
+      → Follows w → w.number ≡ h.hop → ((d : _) → Has (map (placed number) (map written_by w.log.events)) d → Has back.known d) → (l : Slip) → leg ≡ Some l → IsLegOfLane frame tokens number back.known x Responding l
+  leg_up v meets i w None x time item t names follows same knows l q = absurd (none l q)
+    where
+      none : (l : Slip) → None ≡ Some l → ⊥
+      none l q = cc
+  leg_up v meets i w (Some m) x time item t names follows same knows l q = subst (IsLegOfLane frame tokens number back.known x Responding) (one m l q) leg_of
+    where
+      one : (a b : Slip) → Some a ≡ Some b → a ≡ b
+      one a b q = cc
+
+      leg_of : IsLegOfLane frame tokens number back.known x Responding m
+      leg_of = record {
+        table = ap (λ (d : Slip). d.table) t.leg_is ∙ meets.built_for.book.0;
+        owner = ap (λ (d : Slip). d.owner) t.leg_is ∙ meets.built_for.book.1;
+        entry = placed number (written_by names.event);
+        has = has_logged w follows same knows names.event names.known;
+        object = refl;
+        txn = names.is.0.call.txn;
+        name = place_named t.lane.position 3 names.event.position m.name (omega arith) (ap (λ (d : Slip). d.name) t.leg_is ∙ ap (λ (s : LaneState). name_at t.lane.position s) (sym t.state_is)) names.is.1;
+      }
+
+  -- a response that was fetched
+  pub fetched_up : (r : FetchedResponse) (a : HasAnswered frame tokens number own note back FetchUp (up_reply (Some r))) → Follows a.after → AreVouched (IsCarried p tokens number) (given_by a.before FetchUp (up_reply (Some r))) back.known →
+      HasFetchedResponse frame tokens number r back.known
+  fetched_up r a follows vouched =
+      let f : FetchesUp a.before a.after (Some (r.leg, r.txn, r.at, r.cargo)) = a.applied in
+      let carried = vouched (r.txn, (Sides.Up, r.cargo)) (0, refl) in
+      let v = carried.vouched in
+      let is_hop : h.hop ≡ hop_at v.pass v.hop = way_is v.pass v.hop v.place in
+      let as_was = stays a.before f.0 a.after r.leg r.txn r.at r.cargo f.2 in
+      let same : a.after.number ≡ h.hop = as_was.0 ∙ met_is a.before a.met in
+      let sent = fetched_sent a.before (unwrap_or a.position 0) FetchUp (Up (Some (r.leg, r.txn, r.at, r.cargo))) a.after a.met.state a.applied in
+      let names = reply_names a.before (unwrap_or a.position 0) FetchUp (Up (Some (r.leg, r.txn, r.at, r.cargo))) a.after follows a.applied in
+      let mode : a.after.traits.resp ≡ mode_above p v.pass v.hop =
+      ap (λ (t : HopTraits). t.resp) as_was.1 ∙ a.met.built_for.world.resp ∙ ap (λ (o : ℕ). ((world_of p).hop o).resp) (sym (same_hop _ _ a.met.built_for.world.object) ∙ met_is a.before a.met ∙ is_hop) in
+      let by_mode : IsByMode (rules_of a.after) (Call Phases.BeginResp sent.answer) =
+      subst (IsByMode (rules_of a.after)) sent.call.is.what (are_by_modes (rules_of a.after) (entries a.after.log.events) (board_of a.after) (reached_of a.after follows) sent.call.event.entry (among_entries a.after.log.events sent.call.event sent.call.known)) in
+      let answer : sent.answer ≡ response_answer (mode_above p v.pass v.hop) = by_mode ∙ ap response_answer mode in
+      let made : FindsAt (Known p.platform back.known) (IsCall r.txn (hop_at v.pass v.hop) Phases.BeginResp (response_answer (mode_above p v.pass v.hop))) r.at = record {
+        event = sent.call.event;
+        known = log_known a.after follows same a.enters.knows sent.call.event sent.call.known;
+        is = subst (λ (b : TlmSync). IsCall r.txn (hop_at v.pass v.hop) Phases.BeginResp b sent.call.event) answer (subst (λ (o : ℕ). IsCall r.txn o Phases.BeginResp sent.answer sent.call.event) (same ∙ is_hop) sent.call.is);
+        time = sent.call.time;
+      } in
+      record {
+        pass = v.pass;
+        hop = v.hop;
+        place = v.place;
+        up = fetches (record { p = p; tokens = tokens; entries = back.known; x = r.txn; pass = v.pass; c = r.cargo }) v.hop (up_only v.way carried.side) (record { event = made.event; known = made.known; is = made.is });
+        leg_of = end_leg frame tokens number back.known r.txn (mode_above p v.pass v.hop) r.leg (subst (λ (b : TlmSync). state_by b ≡ state_with r.leg) answer sent.leads) (leg_up a.before a.met f.0 a.after r.leg r.txn r.at r.cargo f.2 names follows same a.enters.knows);
+        made = made;
       }

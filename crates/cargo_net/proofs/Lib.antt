@@ -6,3 +6,11 @@ pub mod EndsResponse
 pub mod RespondsLemmas
 pub mod BeginsLemmas
 pub mod FetchLemmas
+pub mod AskedLemmas
+pub mod ServeLemmas
+pub mod ForwardLemmas
+pub mod ObjectsOnce
+pub mod PoolLemmas
+pub mod Grown
+pub mod StartLemmas
+pub mod DescendLemmas

@@ -15,6 +15,13 @@ pub from_pull : (tokens table : TableId) (number at : ℕ) (old new : Purse) →
 from_pull tokens table number at old new q t is of left bytes =
     subst (λ (n : ℕ). Pulls tokens n 0 old new) q (record { of = subst (λ (i : TableId). IsOf i new) t of; places = ap (λ (w : Purse). w.places) is; left = left; bytes_left = bytes })
 
+-- the same of a ticket for so many bytes
+pub from_pull_for : (tokens table : TableId) (number at logged bytes : ℕ) (old new : Purse) → at ≡ number → bytes ≡ logged → table ≡ tokens → new ≡ pulled table old at bytes → IsOf table new
+    → ((o : ℕ) → left_of new o ≡ cond (o == at) (left_of old at - 1) (left_of old o)) → ((o : ℕ) → bytes_of new o ≡ cond (o == at) (bytes_of old at - bytes) (bytes_of old o)) → Pulls tokens number logged old new
+from_pull_for tokens table number at logged bytes old new q b t is of left bytes_left =
+    subst (λ (n : ℕ). Pulls tokens n logged old new) q
+    (subst (λ (d : ℕ). Pulls tokens at d old new) b (record { of = subst (λ (i : TableId). IsOf i new) t of; places = ap (λ (w : Purse). w.places) is; left = left; bytes_left = bytes_left }))
+
 some_place : (pocket : Option Pocket) → 0 < left_in pocket → IsSome pocket
 some_place None some = absurd (omega arith)
 some_place (Some p) some = refl

@@ -12,8 +12,9 @@ use Rattle.tlm_types.specs.declared.words.TxnId.{TxnId}
 use Rattle.tlm_model.specs.Plan.{Plan}
 use Rattle.base_phases.specs.declared.phases.LaneState.{LaneState}
 use Rattle.token_book.specs.Account.{Slip}
-use Rattle.shared_object.specs.Standing.{Meets, place}
-use Rattle.shared_object.specs.Steps.{Enters}
+use Rattle.token_book.specs.declared.ticket.Ticket.{Ticket}
+use Rattle.shared_object.specs.Standing.{AreVouched, Meets, place}
+use Rattle.shared_object.specs.Steps.{Enters, unspent}
 use Rattle.flow_model.specs.World.{Passage, hop_at, hop_count}
 use Rattle.flow_model.specs.Events.{Among, Finds, IsTake}
 use Rattle.flow_model.specs.Platform.{passage_of}
@@ -21,12 +22,13 @@ use Rattle.numbered_log.specs.Logged.{written_by}
 use Rattle.hop_object.specs.View.{HopView}
 use Rattle.hop_object.specs.Hops.{Follows}
 use Rattle.hop_object.specs.Lanes.{name_at}
-use Rattle.hop_object.specs.Objects.{Applied, built_of, content_by, is_admitted}
+use Rattle.hop_object.specs.Objects.{Applied, built_of, content_by, given_by, is_admitted}
 use Rattle.hop_object.specs.declared.call.HopCall.{HopCall}
 use Rattle.hop_object.specs.declared.call.HopReply.{HopReply}
 use Rattle.hop_object.specs.declared.call.HopTraits.{HopTraits}
 use Rattle.cargo_model.specs.declared.cargo.Cargo.{Cargo}
 use Rattle.cargo_model.specs.Known.{Known, object_number, objects_of}
+use Rattle.cargo_net.specs.Carried.{IsCarried}
 use Rattle.cargo_net.specs.Traffic.{IsHopBuilt}
 
 -- a hop that may stand at this place, where these entries are known
@@ -42,6 +44,14 @@ pub record HasAnswered (frame : Frame Plan) (tokens : TableId) (number own : ℕ
   pub met : MeetsHop frame tokens number own note.known before
   pub enters : Enters frame number (map written_by before.log.events) (map written_by after.log.events) (is_admitted before call) (content_by before call) note back position
   pub applied : Applied before (unwrap_or position 0) call reply after
+
+-- The same, and what came of it: the hop is one that its log gives, known entries vouch for what it gave, and the ticket is back where no entry was
+-- made.
+pub record HasStepped (frame : Frame Plan) (tokens : TableId) (number own : ℕ) (note back : View Content Plan) (call : HopCall Cargo) (ticket : Option Ticket) (reply : HopReply Cargo) (left : Option Ticket) : Type 0 where
+  pub answered : HasAnswered frame tokens number own note back call reply
+  pub follows : Follows answered.after
+  pub given : AreVouched (IsCarried frame.world tokens number) (given_by answered.before call reply) back.known
+  pub left_is : left ≡ unspent answered.position ticket
 
 -- hop k of the way of x has this number in the history, and the Take of x is known
 pub record IsOnWay (p : Plan) (number : ℕ) (known : List (Entry Content)) (x : TxnId) (pass : Passage) (k : ℕ) : Type 0 where

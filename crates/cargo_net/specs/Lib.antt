@@ -1,3 +1,4 @@
+pub mod Gates
 pub mod Traffic
 pub mod Carried
 pub mod Grows
@@ -9,3 +10,10 @@ pub mod Answered
 pub mod Begins
 pub mod Tried
 pub mod Fetched
+pub mod Memories
+pub mod Serves
+pub mod Forwards
+pub mod Pools
+pub mod Taken
+pub mod Starts
+pub mod Descends

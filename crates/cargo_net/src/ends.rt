@@ -8,12 +8,13 @@ ghost use Rattle.hop_object.specs.declared.call.HopReply.TheVariants.{EndedReq, 
 ghost use Rattle.cargo_net.specs.Hops.{HasAnswered};
 ghost use Rattle.cargo_net.specs.Ends.{HasEndedRequest, HasEndedResponse, IsEndedReq, IsEndedResp, MayEndRequest, MayEndResponse};
 
-use crate::law::TrafficLaw;
+use crate::law::TlmLaw;
+use crate::steps::step_hop;
 use cargo_model::Cargo;
 use hop_object::{Hop, HopCall, HopReply, Leg};
 use one_history::{History, Note};
 use route_plan::Plan;
-use shared_object::{Naming, Shared, Stepped, Unstepped};
+use shared_object::{Naming, Shared};
 use std::sync::Wait;
 use tlm_types::{Content, Ps};
 use token_book::{Ticket, Tokens};
@@ -32,16 +33,16 @@ fn ended_req(reply: HopReply<Cargo>) -> (Leg, Ps)
 /// Makes END_REQ on a hop, by the leg of a lane whose request is open and a ticket of the hop, which is
 /// spent (IEEE 1666-2011, clause 15.2). It is tried at `at` picoseconds, and answers the leg of the same
 /// lane, which waits for its response, and the time of the entry. It can't fail.
-pub fn end_req<R: Wait, N: Naming<Plan, TrafficLaw>>(
-    hop: &Shared<Hop<Cargo>, Plan, TrafficLaw, N>,
+pub fn end_req<R: Wait, N: Naming<Plan, TlmLaw>>(
+    hop: &Shared<Hop<Cargo>, Plan, TlmLaw, N>,
     rt: &R,
-    history: &History<Content, Plan, TrafficLaw>,
+    history: &History<Content, Plan, TlmLaw>,
     tickets: &Tokens,
-    note: Note<Content, Plan, TrafficLaw>,
+    note: Note<Content, Plan, TlmLaw>,
     leg: Leg,
     ticket: Ticket,
     at: Ps,
-) -> (Leg, Ps, Note<Content, Plan, TrafficLaw>)
+) -> (Leg, Ps, Note<Content, Plan, TlmLaw>)
     requires history { (history.now.table ≡ N.table) × (history.now.frame ≡ N.frame) }
     requires tickets { tickets.now ≡ N.tokens }
     requires note { IsNote N.table note }
@@ -55,33 +56,17 @@ pub fn end_req<R: Wait, N: Naming<Plan, TrafficLaw>>(
     ensures ended { (may : MayEndRequest N.frame N.tokens hop.now.number leg at note.knows.known) →
         HasEndedRequest N.frame N.tokens hop.now.number at may.x may.pass may.hop result.0 result.1 result.2.knows.known }
 {
-    match hop.step(
+    let (reply, note, _) = step_hop(
+        hop,
         rt,
         history,
         tickets,
         note,
         Some(ticket),
         HopCall::EndReq { leg, at },
-    ) {
-        Ok(
-            Stepped {
-                reply,
-                position: _,
-                note,
-                ticket: _,
-            },
-        ) => {
-            let (leg, time) = ended_req(reply);
-            (leg, time, note)
-        }
-        Err(
-            Unstepped {
-                note: _,
-                ticket: _,
-                call: _,
-            },
-        ) => unreachable!(),
-    }
+    );
+    let (leg, time) = ended_req(reply);
+    (leg, time, note)
 }
 
 // The answer to END_RESP.
@@ -98,16 +83,16 @@ fn ended_resp(reply: HopReply<Cargo>) -> Ps
 /// Makes END_RESP on a hop, by the leg of a lane whose response is open and a ticket of the hop, which is
 /// spent (IEEE 1666-2011, clause 15.2). It is tried at `at` picoseconds, and answers the time of the
 /// entry. It can't fail.
-pub fn end_resp<R: Wait, N: Naming<Plan, TrafficLaw>>(
-    hop: &Shared<Hop<Cargo>, Plan, TrafficLaw, N>,
+pub fn end_resp<R: Wait, N: Naming<Plan, TlmLaw>>(
+    hop: &Shared<Hop<Cargo>, Plan, TlmLaw, N>,
     rt: &R,
-    history: &History<Content, Plan, TrafficLaw>,
+    history: &History<Content, Plan, TlmLaw>,
     tickets: &Tokens,
-    note: Note<Content, Plan, TrafficLaw>,
+    note: Note<Content, Plan, TlmLaw>,
     leg: Leg,
     ticket: Ticket,
     at: Ps,
-) -> (Ps, Note<Content, Plan, TrafficLaw>)
+) -> (Ps, Note<Content, Plan, TlmLaw>)
     requires history { (history.now.table ≡ N.table) × (history.now.frame ≡ N.frame) }
     requires tickets { tickets.now ≡ N.tokens }
     requires note { IsNote N.table note }
@@ -121,28 +106,14 @@ pub fn end_resp<R: Wait, N: Naming<Plan, TrafficLaw>>(
     ensures ended { (may : MayEndResponse N.frame N.tokens hop.now.number leg at note.knows.known) →
         HasEndedResponse N.frame at may.x may.pass may.hop result.0 result.1.knows.known }
 {
-    match hop.step(
+    let (reply, note, _) = step_hop(
+        hop,
         rt,
         history,
         tickets,
         note,
         Some(ticket),
         HopCall::EndResp { leg, at },
-    ) {
-        Ok(
-            Stepped {
-                reply,
-                position: _,
-                note,
-                ticket: _,
-            },
-        ) => (ended_resp(reply), note),
-        Err(
-            Unstepped {
-                note: _,
-                ticket: _,
-                call: _,
-            },
-        ) => unreachable!(),
-    }
+    );
+    (ended_resp(reply), note)
 }

@@ -9,13 +9,14 @@ ghost use Rattle.cargo_net.specs.Wallets.{item_given};
 ghost use Rattle.cargo_net.specs.Begins.{IsBegunReply, MayBegin};
 ghost use Rattle.cargo_net.specs.Tried.{begun_reply, tried_note, IsTried};
 
-use crate::law::TrafficLaw;
+use crate::law::TlmLaw;
+use crate::steps::step_hop;
 use crate::wallets::put_back;
 use cargo_model::Cargo;
 use hop_object::{Begun, Hop, HopCall, HopReply, Leg};
 use one_history::{History, Note};
 use route_plan::Plan;
-use shared_object::{Naming, Shared, Stepped, Unstepped};
+use shared_object::{Naming, Shared};
 use std::sync::Wait;
 use tlm_types::{Content, Ps, TlmSync, TxnId};
 use token_book::Tokens;
@@ -27,7 +28,7 @@ pub enum Tried {
     Left {
         answer: TlmSync,
         at: Ps,
-        note: Note<Content, Plan, TrafficLaw>,
+        note: Note<Content, Plan, TlmLaw>,
     },
     /// The response comes by return: the payload is to be served at the time of the entry. The leg is that
     /// of END_RESP, where it is owed.
@@ -36,7 +37,7 @@ pub enum Tried {
         at: Ps,
         leg: Option<Leg>,
         cargo: Cargo,
-        note: Note<Content, Plan, TrafficLaw>,
+        note: Note<Content, Plan, TlmLaw>,
     },
     /// A request is open, by this transaction, or no lane is free of so many that are in use. The payload
     /// comes back as it was.
@@ -44,7 +45,7 @@ pub enum Tried {
         holder: Option<TxnId>,
         live: u32,
         cargo: Cargo,
-        note: Note<Content, Plan, TrafficLaw>,
+        note: Note<Content, Plan, TlmLaw>,
     },
 }
 
@@ -63,12 +64,12 @@ fn begun_answer(reply: HopReply<Cargo>) -> Begun<Cargo>
 /// It is tried at `at` picoseconds. `Left` and `Now` spend the ticket. `Busy` comes exactly where a request
 /// is open on the hop or no lane is free: no entry is made, and payload and tickets come back. It can't fail
 /// otherwise.
-pub fn begin_req<R: Wait, N: Naming<Plan, TrafficLaw>>(
-    hop: &Shared<Hop<Cargo>, Plan, TrafficLaw, N>,
+pub fn begin_req<R: Wait, N: Naming<Plan, TlmLaw>>(
+    hop: &Shared<Hop<Cargo>, Plan, TlmLaw, N>,
     rt: &R,
-    history: &History<Content, Plan, TrafficLaw>,
+    history: &History<Content, Plan, TlmLaw>,
     tickets: &Tokens,
-    note: Note<Content, Plan, TrafficLaw>,
+    note: Note<Content, Plan, TlmLaw>,
     cargo: Cargo,
     at: Ps,
 ) -> Tried
@@ -87,7 +88,8 @@ pub fn begin_req<R: Wait, N: Naming<Plan, TrafficLaw>>(
     let number = hop.number();
     let ticket = cargo.baton.wallet.pull(tickets, number, 0);
     let txn = cargo.baton.txn();
-    match hop.step(
+    let (reply, note, ticket) = step_hop(
+        hop,
         rt,
         history,
         tickets,
@@ -98,41 +100,26 @@ pub fn begin_req<R: Wait, N: Naming<Plan, TrafficLaw>>(
             at,
             item: cargo,
         },
-    ) {
-        Ok(
-            Stepped {
-                reply,
-                position: _,
-                note,
-                ticket,
-            },
-        ) => match begun_answer(reply) {
-            Begun::Left { answer, at } => Tried::Left { answer, at, note },
-            Begun::Now {
-                answer,
-                at,
-                leg,
-                item,
-            } => Tried::Now {
-                answer,
-                at,
-                leg,
-                cargo: item,
-                note,
-            },
-            Begun::Busy { holder, live, item } => Tried::Busy {
-                holder,
-                live,
-                cargo: put_back(tickets, number, ticket, item),
-                note,
-            },
+    );
+    match begun_answer(reply) {
+        Begun::Left { answer, at } => Tried::Left { answer, at, note },
+        Begun::Now {
+            answer,
+            at,
+            leg,
+            item,
+        } => Tried::Now {
+            answer,
+            at,
+            leg,
+            cargo: item,
+            note,
         },
-        Err(
-            Unstepped {
-                note: _,
-                ticket: _,
-                call: _,
-            },
-        ) => unreachable!(),
+        Begun::Busy { holder, live, item } => Tried::Busy {
+            holder,
+            live,
+            cargo: put_back(tickets, number, ticket, item),
+            note,
+        },
     }
 }

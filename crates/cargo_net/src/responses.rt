@@ -9,13 +9,14 @@ ghost use Rattle.cargo_net.specs.Wallets.{item_given};
 ghost use Rattle.cargo_net.specs.Responds.{IsResponded, MayRespond};
 ghost use Rattle.cargo_net.specs.Answered.{answered_note, responded_reply, IsAnsweredAs};
 
-use crate::law::TrafficLaw;
+use crate::law::TlmLaw;
+use crate::steps::step_hop;
 use crate::wallets::put_back;
 use cargo_model::Cargo;
 use hop_object::{Hop, HopCall, HopReply, Leg, Responded};
 use one_history::{History, Note};
 use route_plan::Plan;
-use shared_object::{Naming, Shared, Stepped, Unstepped};
+use shared_object::{Naming, Shared};
 use std::sync::Wait;
 use tlm_types::{Content, Ps, TlmSync, TxnId};
 use token_book::Tokens;
@@ -27,14 +28,14 @@ pub enum Answered {
     Sent {
         answer: TlmSync,
         at: Ps,
-        note: Note<Content, Plan, TrafficLaw>,
+        note: Note<Content, Plan, TlmLaw>,
     },
     /// A response is open, by this transaction. Leg and payload come back as they were.
     Busy {
         holder: TxnId,
         leg: Leg,
         cargo: Cargo,
-        note: Note<Content, Plan, TrafficLaw>,
+        note: Note<Content, Plan, TlmLaw>,
     },
 }
 
@@ -53,12 +54,12 @@ fn responded(reply: HopReply<Cargo>) -> Responded<Cargo>
 /// (IEEE 1666-2011, clause 15.2). It is tried at `at` picoseconds. `Sent` spends the ticket and hands the
 /// payload to the component upstream. `Busy` comes exactly where a response is open on the hop: no entry
 /// is made, and leg, payload and tickets come back. It can't fail otherwise.
-pub fn backward<R: Wait, N: Naming<Plan, TrafficLaw>>(
-    hop: &Shared<Hop<Cargo>, Plan, TrafficLaw, N>,
+pub fn backward<R: Wait, N: Naming<Plan, TlmLaw>>(
+    hop: &Shared<Hop<Cargo>, Plan, TlmLaw, N>,
     rt: &R,
-    history: &History<Content, Plan, TrafficLaw>,
+    history: &History<Content, Plan, TlmLaw>,
     tickets: &Tokens,
-    note: Note<Content, Plan, TrafficLaw>,
+    note: Note<Content, Plan, TlmLaw>,
     leg: Leg,
     cargo: Cargo,
     at: Ps,
@@ -77,7 +78,8 @@ pub fn backward<R: Wait, N: Naming<Plan, TrafficLaw>>(
     let mut cargo = cargo;
     let number = hop.number();
     let ticket = cargo.baton.wallet.pull(tickets, number, 0);
-    match hop.step(
+    let (reply, note, ticket) = step_hop(
+        hop,
         rt,
         history,
         tickets,
@@ -88,29 +90,14 @@ pub fn backward<R: Wait, N: Naming<Plan, TrafficLaw>>(
             at,
             item: cargo,
         },
-    ) {
-        Ok(
-            Stepped {
-                reply,
-                position: _,
-                note,
-                ticket,
-            },
-        ) => match responded(reply) {
-            Responded::Sent { answer, at } => Answered::Sent { answer, at, note },
-            Responded::Busy { holder, leg, item } => Answered::Busy {
-                holder,
-                leg,
-                cargo: put_back(tickets, number, ticket, item),
-                note,
-            },
+    );
+    match responded(reply) {
+        Responded::Sent { answer, at } => Answered::Sent { answer, at, note },
+        Responded::Busy { holder, leg, item } => Answered::Busy {
+            holder,
+            leg,
+            cargo: put_back(tickets, number, ticket, item),
+            note,
         },
-        Err(
-            Unstepped {
-                note: _,
-                ticket: _,
-                call: _,
-            },
-        ) => unreachable!(),
     }
 }

@@ -24,105 +24,99 @@ use Rattle.cargo_net.proofs.PayloadWallets.{from_pull}
 use Rattle.cargo_net.proofs.BeginsLemmas.{backed, goes_back, kept, left, now, refused_back, vouched}
 use Rattle.cargo_net.proofs.requests.begin_req.Goals as goal
 
--- src/requests.rt:90:11
-pub step-requires-clause-backed : goal.step-requires-clause-backed
-step-requires-clause-backed g c = λ o q meets admitted late. (
+pub step_hop-reply-requires-clause-backed : goal.step_hop-reply-requires-clause-backed
+step_hop-reply-requires-clause-backed g c = λ o q meets admitted. (
     let w = c.pull-ticket.new.self in
     let pull = from_pull g.N.Naming.tokens c.args.tickets.now c.args.hop.now.number c.number-number.result c.args.cargo.baton.wallet w c.number-number.ensures c.requires.tickets c.pull-ticket.ensures.wallet c.pull-ticket.ensures.of c.pull-ticket.ensures.left c.pull-ticket.ensures.bytes in
     subst (λ (t : TxnId). Backs g.N.Naming.frame.world (all_known g.N.Naming.frame g.N.Naming.tokens c.args.hop.now.number c.args.hop.now.own c.args.note.knows c.args.cargo.baton.txn c.requires.may.pass c.requires.may.hop c.requires.may.way o meets) (placed c.args.hop.now.number (wrote q (content_by o (BeginReq t c.args.at (with_wallet c.args.cargo w)))))) (sym c.txn-txn.ensures)
     (backed g.N.Naming.frame g.N.Naming.tokens c.args.hop.now.number c.args.hop.now.own c.args.cargo c.args.at c.args.note.knows c.requires.may w pull o q meets admitted)
     )
 
--- src/requests.rt:90:11
-pub step-requires-clause-vouched : goal.step-requires-clause-vouched
-step-requires-clause-vouched g c = λ o meets. (
+pub step_hop-reply-requires-clause-vouched : goal.step_hop-reply-requires-clause-vouched
+step_hop-reply-requires-clause-vouched g c = λ o meets. (
     let w = c.pull-ticket.new.self in
     let pull = from_pull g.N.Naming.tokens c.args.tickets.now c.args.hop.now.number c.number-number.result c.args.cargo.baton.wallet w c.number-number.ensures c.requires.tickets c.pull-ticket.ensures.wallet c.pull-ticket.ensures.of c.pull-ticket.ensures.left c.pull-ticket.ensures.bytes in
     subst (λ (t : TxnId). AreVouched (IsCarried g.N.Naming.frame.world g.N.Naming.tokens c.args.hop.now.number) (brought_by o (BeginReq t c.args.at (with_wallet c.args.cargo w))) c.args.note.knows.known) (sym c.txn-txn.ensures)
     (vouched g.N.Naming.frame g.N.Naming.tokens c.args.hop.now.number c.args.hop.now.own c.args.cargo c.args.at c.args.note.knows c.requires.may w pull o meets)
     )
 
--- src/requests.rt:126:24
 pub put_back-requires-clause-of : goal.put_back-requires-clause-of
 put_back-requires-clause-of g c =
     let w = c.pull-ticket.new.self in
     let pull = from_pull g.N.Naming.tokens c.args.tickets.now c.args.hop.now.number c.number-number.result c.args.cargo.baton.wallet w c.number-number.ensures c.requires.tickets c.pull-ticket.ensures.wallet c.pull-ticket.ensures.of c.pull-ticket.ensures.left c.pull-ticket.ensures.bytes in
-    let s = c.in-Ok.ensures.answer in
-    let a : HasAnswered g.N.Naming.frame g.N.Naming.tokens c.args.hop.now.number c.args.hop.now.own c.args.note.knows c.in-Ok.field-0.note.knows (BeginReq c.args.cargo.baton.txn c.args.at (with_wallet c.args.cargo c.pull-ticket.new.self)) (Begun (Busy c.in-Busy.holder c.in-Busy.live c.in-Busy.item)) = record {
-      before = s.0;
-      after = s.1;
-      position = c.in-Ok.field-0.position;
-      met = s.2;
-      enters = subst (λ (t : TxnId). Enters g.N.Naming.frame c.args.hop.now.number (map written_by s.0.log.events) (map written_by s.1.log.events) (is_admitted s.0 (BeginReq t c.args.at (with_wallet c.args.cargo c.pull-ticket.new.self))) (content_by s.0 (BeginReq t c.args.at (with_wallet c.args.cargo c.pull-ticket.new.self))) c.args.note.knows c.in-Ok.field-0.note.knows c.in-Ok.field-0.position) c.txn-txn.ensures s.3;
-      applied = subst (λ (t : TxnId). Applied s.0 (unwrap_or c.in-Ok.field-0.position 0) (BeginReq t c.args.at (with_wallet c.args.cargo c.pull-ticket.new.self)) (Begun (Busy c.in-Busy.holder c.in-Busy.live c.in-Busy.item)) s.1) c.txn-txn.ensures
-          (subst (λ (r : HopReply Cargo). Applied s.0 (unwrap_or c.in-Ok.field-0.position 0) (BeginReq c.txn-txn.result c.args.at (with_wallet c.args.cargo c.pull-ticket.new.self)) r s.1) c.in-Busy.ensures s.4);
+    let s = c.step_hop-reply.ensures.stepped.answered in
+    let a : HasAnswered g.N.Naming.frame g.N.Naming.tokens c.args.hop.now.number c.args.hop.now.own c.args.note.knows c.step_hop-reply.result.1.knows (BeginReq c.args.cargo.baton.txn c.args.at (with_wallet c.args.cargo c.pull-ticket.new.self)) (Begun (Busy c.in-Busy.holder c.in-Busy.live c.in-Busy.item)) = record {
+      before = s.before;
+      after = s.after;
+      position = c.step_hop-reply.ensures.stepped.answered.position;
+      met = s.met;
+      enters = subst (λ (t : TxnId). Enters g.N.Naming.frame c.args.hop.now.number (map written_by s.before.log.events) (map written_by s.after.log.events) (is_admitted s.before (BeginReq t c.args.at (with_wallet c.args.cargo c.pull-ticket.new.self))) (content_by s.before (BeginReq t c.args.at (with_wallet c.args.cargo c.pull-ticket.new.self))) c.args.note.knows c.step_hop-reply.result.1.knows c.step_hop-reply.ensures.stepped.answered.position) c.txn-txn.ensures s.enters;
+      applied = subst (λ (t : TxnId). Applied s.before (unwrap_or c.step_hop-reply.ensures.stepped.answered.position 0) (BeginReq t c.args.at (with_wallet c.args.cargo c.pull-ticket.new.self)) (Begun (Busy c.in-Busy.holder c.in-Busy.live c.in-Busy.item)) s.after) c.txn-txn.ensures
+          (subst (λ (r : HopReply Cargo). Applied s.before (unwrap_or c.step_hop-reply.ensures.stepped.answered.position 0) (BeginReq c.txn-txn.result c.args.at (with_wallet c.args.cargo c.pull-ticket.new.self)) r s.after) c.in-Busy.ensures s.applied);
     } in
-    let r = refused_back g.N.Naming.frame g.N.Naming.tokens c.args.hop.now.number c.args.hop.now.own c.args.cargo c.args.at c.args.note.knows c.requires.may w pull c.in-Ok.field-0.note.knows c.in-Busy.holder c.in-Busy.live c.in-Busy.item a in
+    let r = refused_back g.N.Naming.frame g.N.Naming.tokens c.args.hop.now.number c.args.hop.now.own c.args.cargo c.args.at c.args.note.knows c.requires.may w pull c.step_hop-reply.result.1.knows c.in-Busy.holder c.in-Busy.live c.in-Busy.item a in
     subst (λ (d : Cargo). IsOf c.args.tickets.now d.baton.wallet) (sym r) c.pull-ticket.ensures.of
 
--- src/requests.rt:126:24
 pub put_back-requires-clause-ticket : goal.put_back-requires-clause-ticket
 put_back-requires-clause-ticket g c =
     let w = c.pull-ticket.new.self in
     let pull = from_pull g.N.Naming.tokens c.args.tickets.now c.args.hop.now.number c.number-number.result c.args.cargo.baton.wallet w c.number-number.ensures c.requires.tickets c.pull-ticket.ensures.wallet c.pull-ticket.ensures.of c.pull-ticket.ensures.left c.pull-ticket.ensures.bytes in
-    let s = c.in-Ok.ensures.answer in
-    let a : HasAnswered g.N.Naming.frame g.N.Naming.tokens c.args.hop.now.number c.args.hop.now.own c.args.note.knows c.in-Ok.field-0.note.knows (BeginReq c.args.cargo.baton.txn c.args.at (with_wallet c.args.cargo c.pull-ticket.new.self)) (Begun (Busy c.in-Busy.holder c.in-Busy.live c.in-Busy.item)) = record {
-      before = s.0;
-      after = s.1;
-      position = c.in-Ok.field-0.position;
-      met = s.2;
-      enters = subst (λ (t : TxnId). Enters g.N.Naming.frame c.args.hop.now.number (map written_by s.0.log.events) (map written_by s.1.log.events) (is_admitted s.0 (BeginReq t c.args.at (with_wallet c.args.cargo c.pull-ticket.new.self))) (content_by s.0 (BeginReq t c.args.at (with_wallet c.args.cargo c.pull-ticket.new.self))) c.args.note.knows c.in-Ok.field-0.note.knows c.in-Ok.field-0.position) c.txn-txn.ensures s.3;
-      applied = subst (λ (t : TxnId). Applied s.0 (unwrap_or c.in-Ok.field-0.position 0) (BeginReq t c.args.at (with_wallet c.args.cargo c.pull-ticket.new.self)) (Begun (Busy c.in-Busy.holder c.in-Busy.live c.in-Busy.item)) s.1) c.txn-txn.ensures
-          (subst (λ (r : HopReply Cargo). Applied s.0 (unwrap_or c.in-Ok.field-0.position 0) (BeginReq c.txn-txn.result c.args.at (with_wallet c.args.cargo c.pull-ticket.new.self)) r s.1) c.in-Busy.ensures s.4);
+    let s = c.step_hop-reply.ensures.stepped.answered in
+    let a : HasAnswered g.N.Naming.frame g.N.Naming.tokens c.args.hop.now.number c.args.hop.now.own c.args.note.knows c.step_hop-reply.result.1.knows (BeginReq c.args.cargo.baton.txn c.args.at (with_wallet c.args.cargo c.pull-ticket.new.self)) (Begun (Busy c.in-Busy.holder c.in-Busy.live c.in-Busy.item)) = record {
+      before = s.before;
+      after = s.after;
+      position = c.step_hop-reply.ensures.stepped.answered.position;
+      met = s.met;
+      enters = subst (λ (t : TxnId). Enters g.N.Naming.frame c.args.hop.now.number (map written_by s.before.log.events) (map written_by s.after.log.events) (is_admitted s.before (BeginReq t c.args.at (with_wallet c.args.cargo c.pull-ticket.new.self))) (content_by s.before (BeginReq t c.args.at (with_wallet c.args.cargo c.pull-ticket.new.self))) c.args.note.knows c.step_hop-reply.result.1.knows c.step_hop-reply.ensures.stepped.answered.position) c.txn-txn.ensures s.enters;
+      applied = subst (λ (t : TxnId). Applied s.before (unwrap_or c.step_hop-reply.ensures.stepped.answered.position 0) (BeginReq t c.args.at (with_wallet c.args.cargo c.pull-ticket.new.self)) (Begun (Busy c.in-Busy.holder c.in-Busy.live c.in-Busy.item)) s.after) c.txn-txn.ensures
+          (subst (λ (r : HopReply Cargo). Applied s.before (unwrap_or c.step_hop-reply.ensures.stepped.answered.position 0) (BeginReq c.txn-txn.result c.args.at (with_wallet c.args.cargo c.pull-ticket.new.self)) r s.after) c.in-Busy.ensures s.applied);
     } in
-    let r = refused_back g.N.Naming.frame g.N.Naming.tokens c.args.hop.now.number c.args.hop.now.own c.args.cargo c.args.at c.args.note.knows c.requires.may w pull c.in-Ok.field-0.note.knows c.in-Busy.holder c.in-Busy.live c.in-Busy.item a in
+    let r = refused_back g.N.Naming.frame g.N.Naming.tokens c.args.hop.now.number c.args.hop.now.own c.args.cargo c.args.at c.args.note.knows c.requires.may w pull c.step_hop-reply.result.1.knows c.in-Busy.holder c.in-Busy.live c.in-Busy.item a in
     let entry = c.pull-ticket.ensures.entry ∙ ap (λ (t : TableId). entry_right t c.number-number.result) c.requires.tickets ∙ ap (λ (n : ℕ). entry_right g.N.Naming.tokens n) c.number-number.ensures in
-    let back = goes_back g.N.Naming.frame g.N.Naming.tokens c.args.hop.now.number c.args.hop.now.own c.args.cargo c.args.at c.args.note.knows c.requires.may w pull c.in-Ok.field-0.note.knows c.in-Busy.holder c.in-Busy.live c.in-Busy.item a c.pull-ticket.result c.in-Ok.field-0.ticket entry c.in-Ok.ensures.ticket in
-    subst (λ (d : Cargo). GoesBack c.args.tickets.now c.number-number.result d.baton.wallet c.in-Ok.field-0.ticket) (sym r)
-    (subst (λ (t : TableId). GoesBack t c.number-number.result w c.in-Ok.field-0.ticket) (sym c.requires.tickets)
-    (subst (λ (n : ℕ). GoesBack g.N.Naming.tokens n w c.in-Ok.field-0.ticket) (sym c.number-number.ensures) back))
+    let back = goes_back g.N.Naming.frame g.N.Naming.tokens c.args.hop.now.number c.args.hop.now.own c.args.cargo c.args.at c.args.note.knows c.requires.may w pull c.step_hop-reply.result.1.knows c.in-Busy.holder c.in-Busy.live c.in-Busy.item a c.pull-ticket.result c.step_hop-reply.result.2 entry c.step_hop-reply.ensures.stepped.left_is in
+    subst (λ (d : Cargo). GoesBack c.args.tickets.now c.number-number.result d.baton.wallet c.step_hop-reply.result.2) (sym r)
+    (subst (λ (t : TableId). GoesBack t c.number-number.result w c.step_hop-reply.result.2) (sym c.requires.tickets)
+    (subst (λ (n : ℕ). GoesBack g.N.Naming.tokens n w c.step_hop-reply.result.2) (sym c.number-number.ensures) back))
 
--- src/requests.rt:66:1
 pub returns-in-Left-clause-tried : goal.returns-in-Left-clause-tried
 returns-in-Left-clause-tried g c = λ may. (
     let w = c.pull-ticket.new.self in
     let pull = from_pull g.N.Naming.tokens c.args.tickets.now c.args.hop.now.number c.number-number.result c.args.cargo.baton.wallet w c.number-number.ensures c.requires.tickets c.pull-ticket.ensures.wallet c.pull-ticket.ensures.of c.pull-ticket.ensures.left c.pull-ticket.ensures.bytes in
-    let s = c.in-Ok.ensures.answer in
-    let a : HasAnswered g.N.Naming.frame g.N.Naming.tokens c.args.hop.now.number c.args.hop.now.own c.args.note.knows c.in-Ok.field-0.note.knows (BeginReq c.args.cargo.baton.txn c.args.at (with_wallet c.args.cargo c.pull-ticket.new.self)) (Begun (Left c.in-Left.answer c.in-Left.at)) = record {
-      before = s.0;
-      after = s.1;
-      position = c.in-Ok.field-0.position;
-      met = s.2;
-      enters = subst (λ (t : TxnId). Enters g.N.Naming.frame c.args.hop.now.number (map written_by s.0.log.events) (map written_by s.1.log.events) (is_admitted s.0 (BeginReq t c.args.at (with_wallet c.args.cargo c.pull-ticket.new.self))) (content_by s.0 (BeginReq t c.args.at (with_wallet c.args.cargo c.pull-ticket.new.self))) c.args.note.knows c.in-Ok.field-0.note.knows c.in-Ok.field-0.position) c.txn-txn.ensures s.3;
-      applied = subst (λ (t : TxnId). Applied s.0 (unwrap_or c.in-Ok.field-0.position 0) (BeginReq t c.args.at (with_wallet c.args.cargo c.pull-ticket.new.self)) (Begun (Left c.in-Left.answer c.in-Left.at)) s.1) c.txn-txn.ensures
-          (subst (λ (r : HopReply Cargo). Applied s.0 (unwrap_or c.in-Ok.field-0.position 0) (BeginReq c.txn-txn.result c.args.at (with_wallet c.args.cargo c.pull-ticket.new.self)) r s.1) c.in-Left.ensures s.4);
+    let s = c.step_hop-reply.ensures.stepped.answered in
+    let a : HasAnswered g.N.Naming.frame g.N.Naming.tokens c.args.hop.now.number c.args.hop.now.own c.args.note.knows c.step_hop-reply.result.1.knows (BeginReq c.args.cargo.baton.txn c.args.at (with_wallet c.args.cargo c.pull-ticket.new.self)) (Begun (Left c.in-Left.answer c.in-Left.at)) = record {
+      before = s.before;
+      after = s.after;
+      position = c.step_hop-reply.ensures.stepped.answered.position;
+      met = s.met;
+      enters = subst (λ (t : TxnId). Enters g.N.Naming.frame c.args.hop.now.number (map written_by s.before.log.events) (map written_by s.after.log.events) (is_admitted s.before (BeginReq t c.args.at (with_wallet c.args.cargo c.pull-ticket.new.self))) (content_by s.before (BeginReq t c.args.at (with_wallet c.args.cargo c.pull-ticket.new.self))) c.args.note.knows c.step_hop-reply.result.1.knows c.step_hop-reply.ensures.stepped.answered.position) c.txn-txn.ensures s.enters;
+      applied = subst (λ (t : TxnId). Applied s.before (unwrap_or c.step_hop-reply.ensures.stepped.answered.position 0) (BeginReq t c.args.at (with_wallet c.args.cargo c.pull-ticket.new.self)) (Begun (Left c.in-Left.answer c.in-Left.at)) s.after) c.txn-txn.ensures
+          (subst (λ (r : HopReply Cargo). Applied s.before (unwrap_or c.step_hop-reply.ensures.stepped.answered.position 0) (BeginReq c.txn-txn.result c.args.at (with_wallet c.args.cargo c.pull-ticket.new.self)) r s.after) c.in-Left.ensures s.applied);
     } in (
-      left g.N.Naming.frame g.N.Naming.tokens c.args.hop.now.number c.args.hop.now.own c.args.cargo c.args.at c.args.note.knows may w pull c.in-Ok.field-0.note.knows c.in-Left.answer c.in-Left.at a,
-      subst (λ (r : HopReply Cargo). c.in-Ok.field-0.note.knows.looks ≡ c.args.note.knows.looks ++ (c.args.hop.now.number, look_of r) ∷ []) c.in-Left.ensures c.in-Ok.ensures.look,
+      left g.N.Naming.frame g.N.Naming.tokens c.args.hop.now.number c.args.hop.now.own c.args.cargo c.args.at c.args.note.knows may w pull c.step_hop-reply.result.1.knows c.in-Left.answer c.in-Left.at a,
+      subst (λ (r : HopReply Cargo). c.step_hop-reply.result.1.knows.looks ≡ c.args.note.knows.looks ++ (c.args.hop.now.number, look_of r) ∷ []) c.in-Left.ensures c.step_hop-reply.ensures.look,
     )
     )
 
--- src/requests.rt:66:1
 pub returns-in-Now-clause-tried : goal.returns-in-Now-clause-tried
 returns-in-Now-clause-tried g c = λ may. (
     let w = c.pull-ticket.new.self in
     let pull = from_pull g.N.Naming.tokens c.args.tickets.now c.args.hop.now.number c.number-number.result c.args.cargo.baton.wallet w c.number-number.ensures c.requires.tickets c.pull-ticket.ensures.wallet c.pull-ticket.ensures.of c.pull-ticket.ensures.left c.pull-ticket.ensures.bytes in
-    let s = c.in-Ok.ensures.answer in
-    let a : HasAnswered g.N.Naming.frame g.N.Naming.tokens c.args.hop.now.number c.args.hop.now.own c.args.note.knows c.in-Ok.field-0.note.knows (BeginReq c.args.cargo.baton.txn c.args.at (with_wallet c.args.cargo c.pull-ticket.new.self)) (Begun (Now c.in-Now.answer c.in-Now.at c.in-Now.leg c.in-Now.item)) = record {
-      before = s.0;
-      after = s.1;
-      position = c.in-Ok.field-0.position;
-      met = s.2;
-      enters = subst (λ (t : TxnId). Enters g.N.Naming.frame c.args.hop.now.number (map written_by s.0.log.events) (map written_by s.1.log.events) (is_admitted s.0 (BeginReq t c.args.at (with_wallet c.args.cargo c.pull-ticket.new.self))) (content_by s.0 (BeginReq t c.args.at (with_wallet c.args.cargo c.pull-ticket.new.self))) c.args.note.knows c.in-Ok.field-0.note.knows c.in-Ok.field-0.position) c.txn-txn.ensures s.3;
-      applied = subst (λ (t : TxnId). Applied s.0 (unwrap_or c.in-Ok.field-0.position 0) (BeginReq t c.args.at (with_wallet c.args.cargo c.pull-ticket.new.self)) (Begun (Now c.in-Now.answer c.in-Now.at c.in-Now.leg c.in-Now.item)) s.1) c.txn-txn.ensures
-          (subst (λ (r : HopReply Cargo). Applied s.0 (unwrap_or c.in-Ok.field-0.position 0) (BeginReq c.txn-txn.result c.args.at (with_wallet c.args.cargo c.pull-ticket.new.self)) r s.1) c.in-Now.ensures s.4);
+    let s = c.step_hop-reply.ensures.stepped.answered in
+    let a : HasAnswered g.N.Naming.frame g.N.Naming.tokens c.args.hop.now.number c.args.hop.now.own c.args.note.knows c.step_hop-reply.result.1.knows (BeginReq c.args.cargo.baton.txn c.args.at (with_wallet c.args.cargo c.pull-ticket.new.self)) (Begun (Now c.in-Now.answer c.in-Now.at c.in-Now.leg c.in-Now.item)) = record {
+      before = s.before;
+      after = s.after;
+      position = c.step_hop-reply.ensures.stepped.answered.position;
+      met = s.met;
+      enters = subst (λ (t : TxnId). Enters g.N.Naming.frame c.args.hop.now.number (map written_by s.before.log.events) (map written_by s.after.log.events) (is_admitted s.before (BeginReq t c.args.at (with_wallet c.args.cargo c.pull-ticket.new.self))) (content_by s.before (BeginReq t c.args.at (with_wallet c.args.cargo c.pull-ticket.new.self))) c.args.note.knows c.step_hop-reply.result.1.knows c.step_hop-reply.ensures.stepped.answered.position) c.txn-txn.ensures s.enters;
+      applied = subst (λ (t : TxnId). Applied s.before (unwrap_or c.step_hop-reply.ensures.stepped.answered.position 0) (BeginReq t c.args.at (with_wallet c.args.cargo c.pull-ticket.new.self)) (Begun (Now c.in-Now.answer c.in-Now.at c.in-Now.leg c.in-Now.item)) s.after) c.txn-txn.ensures
+          (subst (λ (r : HopReply Cargo). Applied s.before (unwrap_or c.step_hop-reply.ensures.stepped.answered.position 0) (BeginReq c.txn-txn.result c.args.at (with_wallet c.args.cargo c.pull-ticket.new.self)) r s.after) c.in-Now.ensures s.applied);
     } in
-    let r = now g.N.Naming.frame g.N.Naming.tokens c.args.hop.now.number c.args.hop.now.own c.args.cargo c.args.at c.args.note.knows may w pull c.in-Ok.field-0.note.knows c.in-Now.answer c.in-Now.at c.in-Now.leg c.in-Now.item a in (
+    let r = now g.N.Naming.frame g.N.Naming.tokens c.args.hop.now.number c.args.hop.now.own c.args.cargo c.args.at c.args.note.knows may w pull c.step_hop-reply.result.1.knows c.in-Now.answer c.in-Now.at c.in-Now.leg c.in-Now.item a in (
       r.0,
       r.1,
       given r.2,
       r.3,
-      subst (λ (r : HopReply Cargo). c.in-Ok.field-0.note.knows.looks ≡ c.args.note.knows.looks ++ (c.args.hop.now.number, look_of r) ∷ []) c.in-Now.ensures c.in-Ok.ensures.look,
+      subst (λ (r : HopReply Cargo). c.step_hop-reply.result.1.knows.looks ≡ c.args.note.knows.looks ++ (c.args.hop.now.number, look_of r) ∷ []) c.in-Now.ensures c.step_hop-reply.ensures.look,
     )
     )
   where
@@ -130,27 +124,44 @@ returns-in-Now-clause-tried g c = λ may. (
     given is =
         is ∙ ap (with_wallet c.args.cargo) (c.pull-ticket.ensures.wallet ∙ ap (λ (t : TableId). pulled t c.args.cargo.baton.wallet c.number-number.result 0) c.requires.tickets ∙ ap (λ (n : ℕ). pulled g.N.Naming.tokens c.args.cargo.baton.wallet n 0) c.number-number.ensures)
 
--- src/requests.rt:66:1
 pub returns-in-Busy-clause-tried : goal.returns-in-Busy-clause-tried
 returns-in-Busy-clause-tried g c = λ may. (
     let w = c.pull-ticket.new.self in
     let pull = from_pull g.N.Naming.tokens c.args.tickets.now c.args.hop.now.number c.number-number.result c.args.cargo.baton.wallet w c.number-number.ensures c.requires.tickets c.pull-ticket.ensures.wallet c.pull-ticket.ensures.of c.pull-ticket.ensures.left c.pull-ticket.ensures.bytes in
-    let s = c.in-Ok.ensures.answer in
-    let a : HasAnswered g.N.Naming.frame g.N.Naming.tokens c.args.hop.now.number c.args.hop.now.own c.args.note.knows c.in-Ok.field-0.note.knows (BeginReq c.args.cargo.baton.txn c.args.at (with_wallet c.args.cargo c.pull-ticket.new.self)) (Begun (Busy c.in-Busy.holder c.in-Busy.live c.in-Busy.item)) = record {
-      before = s.0;
-      after = s.1;
-      position = c.in-Ok.field-0.position;
-      met = s.2;
-      enters = subst (λ (t : TxnId). Enters g.N.Naming.frame c.args.hop.now.number (map written_by s.0.log.events) (map written_by s.1.log.events) (is_admitted s.0 (BeginReq t c.args.at (with_wallet c.args.cargo c.pull-ticket.new.self))) (content_by s.0 (BeginReq t c.args.at (with_wallet c.args.cargo c.pull-ticket.new.self))) c.args.note.knows c.in-Ok.field-0.note.knows c.in-Ok.field-0.position) c.txn-txn.ensures s.3;
-      applied = subst (λ (t : TxnId). Applied s.0 (unwrap_or c.in-Ok.field-0.position 0) (BeginReq t c.args.at (with_wallet c.args.cargo c.pull-ticket.new.self)) (Begun (Busy c.in-Busy.holder c.in-Busy.live c.in-Busy.item)) s.1) c.txn-txn.ensures
-          (subst (λ (r : HopReply Cargo). Applied s.0 (unwrap_or c.in-Ok.field-0.position 0) (BeginReq c.txn-txn.result c.args.at (with_wallet c.args.cargo c.pull-ticket.new.self)) r s.1) c.in-Busy.ensures s.4);
+    let s = c.step_hop-reply.ensures.stepped.answered in
+    let a : HasAnswered g.N.Naming.frame g.N.Naming.tokens c.args.hop.now.number c.args.hop.now.own c.args.note.knows c.step_hop-reply.result.1.knows (BeginReq c.args.cargo.baton.txn c.args.at (with_wallet c.args.cargo c.pull-ticket.new.self)) (Begun (Busy c.in-Busy.holder c.in-Busy.live c.in-Busy.item)) = record {
+      before = s.before;
+      after = s.after;
+      position = c.step_hop-reply.ensures.stepped.answered.position;
+      met = s.met;
+      enters = subst (λ (t : TxnId). Enters g.N.Naming.frame c.args.hop.now.number (map written_by s.before.log.events) (map written_by s.after.log.events) (is_admitted s.before (BeginReq t c.args.at (with_wallet c.args.cargo c.pull-ticket.new.self))) (content_by s.before (BeginReq t c.args.at (with_wallet c.args.cargo c.pull-ticket.new.self))) c.args.note.knows c.step_hop-reply.result.1.knows c.step_hop-reply.ensures.stepped.answered.position) c.txn-txn.ensures s.enters;
+      applied = subst (λ (t : TxnId). Applied s.before (unwrap_or c.step_hop-reply.ensures.stepped.answered.position 0) (BeginReq t c.args.at (with_wallet c.args.cargo c.pull-ticket.new.self)) (Begun (Busy c.in-Busy.holder c.in-Busy.live c.in-Busy.item)) s.after) c.txn-txn.ensures
+          (subst (λ (r : HopReply Cargo). Applied s.before (unwrap_or c.step_hop-reply.ensures.stepped.answered.position 0) (BeginReq c.txn-txn.result c.args.at (with_wallet c.args.cargo c.pull-ticket.new.self)) r s.after) c.in-Busy.ensures s.applied);
     } in
-    let r = refused_back g.N.Naming.frame g.N.Naming.tokens c.args.hop.now.number c.args.hop.now.own c.args.cargo c.args.at c.args.note.knows may w pull c.in-Ok.field-0.note.knows c.in-Busy.holder c.in-Busy.live c.in-Busy.item a in
+    let r = refused_back g.N.Naming.frame g.N.Naming.tokens c.args.hop.now.number c.args.hop.now.own c.args.cargo c.args.at c.args.note.knows may w pull c.step_hop-reply.result.1.knows c.in-Busy.holder c.in-Busy.live c.in-Busy.item a in
     let put = subst (λ (t : TableId). IsPutBack t c.args.hop.now.number c.in-Busy.item c.put_back.result) c.requires.tickets (subst (λ (n : ℕ). IsPutBack c.args.tickets.now n c.in-Busy.item c.put_back.result) c.number-number.ensures c.put_back.ensures) in
-    let k = kept g.N.Naming.frame g.N.Naming.tokens c.args.hop.now.number c.args.hop.now.own c.args.cargo c.args.at c.args.note.knows may w pull c.in-Ok.field-0.note.knows.known s.3.knew c.in-Busy.item c.put_back.result r put in (
+    let k = kept g.N.Naming.frame g.N.Naming.tokens c.args.hop.now.number c.args.hop.now.own c.args.cargo c.args.at c.args.note.knows may w pull c.step_hop-reply.result.1.knows.known s.enters.knew c.in-Busy.item c.put_back.result r put in (
       k.0,
       k.1,
       k.2,
-      subst (λ (r : HopReply Cargo). c.in-Ok.field-0.note.knows.looks ≡ c.args.note.knows.looks ++ (c.args.hop.now.number, look_of r) ∷ []) c.in-Busy.ensures c.in-Ok.ensures.look,
+      subst (λ (r : HopReply Cargo). c.step_hop-reply.result.1.knows.looks ≡ c.args.note.knows.looks ++ (c.args.hop.now.number, look_of r) ∷ []) c.in-Busy.ensures c.step_hop-reply.ensures.look,
     )
     )
+
+pub returns-in-Busy-clause-answer : goal.returns-in-Busy-clause-answer
+returns-in-Busy-clause-answer g c =
+    let w = c.pull-ticket.new.self in
+    let pull = from_pull g.N.Naming.tokens c.args.tickets.now c.args.hop.now.number c.number-number.result c.args.cargo.baton.wallet w c.number-number.ensures c.requires.tickets c.pull-ticket.ensures.wallet c.pull-ticket.ensures.of c.pull-ticket.ensures.left c.pull-ticket.ensures.bytes in
+    let s = c.step_hop-reply.ensures.stepped.answered in
+    let a : HasAnswered g.N.Naming.frame g.N.Naming.tokens c.args.hop.now.number c.args.hop.now.own c.args.note.knows c.step_hop-reply.result.1.knows (BeginReq c.args.cargo.baton.txn c.args.at (with_wallet c.args.cargo c.pull-ticket.new.self)) (Begun (Busy c.in-Busy.holder c.in-Busy.live c.in-Busy.item)) = record {
+      before = s.before;
+      after = s.after;
+      position = c.step_hop-reply.ensures.stepped.answered.position;
+      met = s.met;
+      enters = subst (λ (t : TxnId). Enters g.N.Naming.frame c.args.hop.now.number (map written_by s.before.log.events) (map written_by s.after.log.events) (is_admitted s.before (BeginReq t c.args.at (with_wallet c.args.cargo c.pull-ticket.new.self))) (content_by s.before (BeginReq t c.args.at (with_wallet c.args.cargo c.pull-ticket.new.self))) c.args.note.knows c.step_hop-reply.result.1.knows c.step_hop-reply.ensures.stepped.answered.position) c.txn-txn.ensures s.enters;
+      applied = subst (λ (t : TxnId). Applied s.before (unwrap_or c.step_hop-reply.ensures.stepped.answered.position 0) (BeginReq t c.args.at (with_wallet c.args.cargo c.pull-ticket.new.self)) (Begun (Busy c.in-Busy.holder c.in-Busy.live c.in-Busy.item)) s.after) c.txn-txn.ensures
+          (subst (λ (r : HopReply Cargo). Applied s.before (unwrap_or c.step_hop-reply.ensures.stepped.answered.position 0) (BeginReq c.txn-txn.result c.args.at (with_wallet c.args.cargo c.pull-ticket.new.self)) r s.after) c.in-Busy.ensures s.applied);
+    } in
+    let r = refused_back g.N.Naming.frame g.N.Naming.tokens c.args.hop.now.number c.args.hop.now.own c.args.cargo c.args.at c.args.note.knows c.requires.may w pull c.step_hop-reply.result.1.knows c.in-Busy.holder c.in-Busy.live c.in-Busy.item a in
+    subst (λ (d : Cargo). HasAnswered g.N.Naming.frame g.N.Naming.tokens c.args.hop.now.number c.args.hop.now.own c.args.note.knows c.step_hop-reply.result.1.knows (BeginReq c.args.cargo.baton.txn c.args.at d) (Begun (Busy c.in-Busy.holder c.in-Busy.live d))) (ap (with_wallet c.args.cargo) (c.pull-ticket.ensures.wallet ∙ ap (λ (t : TableId). pulled t c.args.cargo.baton.wallet c.number-number.result 0) c.requires.tickets ∙ ap (λ (n : ℕ). pulled g.N.Naming.tokens c.args.cargo.baton.wallet n 0) c.number-number.ensures))
+    (subst (λ (i : Cargo). HasAnswered g.N.Naming.frame g.N.Naming.tokens c.args.hop.now.number c.args.hop.now.own c.args.note.knows c.step_hop-reply.result.1.knows (BeginReq c.args.cargo.baton.txn c.args.at (with_wallet c.args.cargo c.pull-ticket.new.self)) (Begun (Busy c.in-Busy.holder c.in-Busy.live i))) r a)

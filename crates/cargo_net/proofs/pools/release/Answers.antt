@@ -1,0 +1,15 @@
+use Rattle.std.proofs.Common.{subst}
+use Rattle.payload_pool.specs.declared.call.PoolCall.TheVariants.{Release}
+use Rattle.payload_pool.specs.declared.call.PoolReply.{PoolReply}
+use Rattle.cargo_net.specs.Pools.{HasPooled}
+use Rattle.cargo_net.proofs.PoolLemmas.{release_backed, released}
+use Rattle.cargo_net.proofs.pools.release.Goals as goal
+
+pub step_pool-reply-requires-clause-backed : goal.step_pool-reply-requires-clause-backed
+step_pool-reply-requires-clause-backed g c = λ o q meets there. release_backed g.N.Naming.frame g.N.Naming.tokens c.args.pool.now.number c.args.pool.now.own c.args.hold c.args.at c.args.note.knows c.requires.may o q meets there
+
+pub returns-clause-released : goal.returns-clause-released
+returns-clause-released g c = λ may. (
+    released g.N.Naming.frame g.N.Naming.tokens c.args.pool.now.number c.args.pool.now.own c.args.hold c.args.at c.args.note.knows may c.step_pool-reply.result.1.knows c.released.result
+    (subst (λ (r : PoolReply). HasPooled g.N.Naming.frame g.N.Naming.tokens c.args.pool.now.number c.args.pool.now.own c.args.note.knows c.step_pool-reply.result.1.knows (Release c.args.hold c.args.at) r) c.released.ensures c.step_pool-reply.ensures.pooled.pooled)
+    )

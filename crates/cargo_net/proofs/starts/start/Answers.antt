@@ -1,0 +1,11 @@
+use Rattle.cargo_net.proofs.StartLemmas.{may_acquire, started}
+use Rattle.cargo_net.proofs.starts.start.Goals as goal
+
+pub acquire-requires-clause-may : goal.acquire-requires-clause-may
+acquire-requires-clause-may g c = may_acquire g.N.Naming.frame g.N.Naming.tokens c.args.pool.now.number c.args.baton c.args.at c.args.note.knows.known c.requires.may
+
+pub returns-clause-started : goal.returns-clause-started
+returns-clause-started g c = λ may. (
+    started g.N.Naming.frame g.N.Naming.tokens c.args.pool.now.number c.args.baton c.args.at c.args.note.knows.known may c.acquire.result.1.knows.known c.acquire.ensures.knew c.acquire.result.0.baton c.acquire.result.0.hold
+    (c.acquire.ensures.acquired (may_acquire g.N.Naming.frame g.N.Naming.tokens c.args.pool.now.number c.args.baton c.args.at c.args.note.knows.known may))
+    )
