@@ -11,7 +11,7 @@ ghost use Rattle.shared_object.specs.Steps.{IsNote};
 ghost use Rattle.token_book.specs.Purse.{IsOf};
 ghost use Rattle.region_object.specs.Call.{payload_cost};
 ghost use Rattle.region_object.specs.declared.call.RegionCall.TheVariants.{Access, Debug};
-ghost use Rattle.plat_build.specs.Calls.{CanPay, IsCalled, OneTicketLess, route_at};
+ghost use Rattle.plat_build.specs.Calls.{CanPay, HasNoPassage, IsCalled, OneTicketLess, route_at};
 
 use generic_payload::Payload;
 use plat_build::{Carried, Net, PlatNote, Reach, TlmLaw};
@@ -27,7 +27,8 @@ use token_book::Wallet;
 /// latency and translates the address, and arrives at a memory, where it is one entry, at the time of
 /// arrival. The time that comes back is `at` and the latency of the whole route. Where a router on the
 /// way has no window for the address, the status is ADDRESS_ERROR, there is no entry, and the latency
-/// of that router counts too.
+/// of that router counts too. It is for initiators that aren't of four phases: the transaction passes no
+/// hop.
 pub fn b_transport<N: Naming<Plan, TlmLaw>, R: Wait>(
     net: &Net<N>,
     rt: &R,
@@ -40,6 +41,7 @@ pub fn b_transport<N: Naming<Plan, TlmLaw>, R: Wait>(
 ) -> Carried
     requires who { who < length net.now.platform.initiators }
     requires buffer { payload.command ≡ Read → payload.bytes ≡ zeros (length payload.bytes) }
+    requires passage { HasNoPassage net.now txn }
 
     // Who pays for it.
     requires note { IsNote N.table note }
@@ -90,6 +92,7 @@ pub fn b_transport_along<N: Naming<Plan, TlmLaw>, B: Reach<N>, R: Wait>(
 ) -> Carried
     requires memory { route.now.memory < length N.frame.world.platform.memories }
     requires buffer { payload.command ≡ Read → payload.bytes ≡ zeros (length payload.bytes) }
+    requires passage { HasNoPassage N.frame.world txn }
 
     // Who pays for it.
     requires note { IsNote N.table note }
@@ -138,6 +141,7 @@ pub fn transport_dbg<N: Naming<Plan, TlmLaw>, R: Wait>(
 ) -> Carried
     requires who { who < length net.now.platform.initiators }
     requires read { payload.command ≡ Read }
+    requires passage { HasNoPassage net.now txn }
 
     // Who pays for it.
     requires note { IsNote N.table note }

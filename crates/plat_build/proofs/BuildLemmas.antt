@@ -1,6 +1,5 @@
 -- What was opened for a plan is what building its net needs.
-use Rattle.std.proofs.Common.{◌≡◌, ℕ, ◌≤◌, ◌*◌, List, [], ◌++◌, length, take, drop, sym, ap, subst, ◌∙◌, arith}
-use Rattle.std.proofs.Math.Seq.{take-append_seam}
+use Rattle.std.proofs.Common.{◌≡◌, ℕ, ◌≤◌, ◌*◌, List, [], length, sym, ap, subst, ◌∙◌, arith}
 use Rattle.atomic_table.specs.Seated.{TableId}
 use Rattle.one_history.specs.declared.view.Frame.{Frame}
 use Rattle.one_history.specs.declared.view.View.{View}
@@ -10,11 +9,13 @@ use Rattle.one_history.specs.Seats.{AreFresh}
 use Rattle.token_book.specs.Account.{Account, AreFresh as AreFreshBooks}
 use Rattle.tlm_types.specs.declared.entry.Content.{Content}
 use Rattle.tlm_model.specs.Plan.{Plan}
+use Rattle.platform_model.specs.Bounded.{IsBounded}
 use Rattle.plat_build.specs.Kept.{AreFreshFrom, AreFreshBooksFrom}
-use Rattle.plat_build.specs.Objects.{frame_of, notes_of, objects_of}
+use Rattle.cargo_model.specs.Known.{objects_of}
+use Rattle.plat_build.specs.Objects.{frame_of, notes_of}
 use Rattle.plat_build.specs.Opened.{IsOpened}
 use Rattle.plat_build.proofs.KeptLemmas.{books_from, seats_from}
-use Rattle.plat_build.proofs.ObjectLemmas.{count_planned, more_objects}
+use Rattle.plat_build.proofs.ObjectLemmas.{count_planned, few_objects}
 
 -- what the net of a plan is built of
 pub record MayBuild (table tokens : TableId) (frame : Frame Plan) (p : Plan) (seats : List (Held Content Plan)) (note : Held Content Plan) (books : List Account) : Type 0 where
@@ -23,8 +24,8 @@ pub record MayBuild (table tokens : TableId) (frame : Frame Plan) (p : Plan) (se
   pub places : length seats ≡ length (objects_of p.platform)
   pub fresh_seats : AreFreshFrom table frame 0 seats
   pub fresh_books : AreFreshBooksFrom tokens 0 books
-  pub enough_seats : length p.platform.memories ≤ length seats
-  pub enough_books : length p.platform.memories ≤ length books
+  pub twice : length books ≡ 2 * length frame.planned
+  pub few : length frame.planned ≤ 336
   pub note_of : note.table ≡ table
   pub notes : note.knows.notes ≡ notes_of p.platform
   pub unseen : note.knows.seen ≡ 0
@@ -33,8 +34,8 @@ pub record MayBuild (table tokens : TableId) (frame : Frame Plan) (p : Plan) (se
   pub outside : note.knows.stays ≡ []
 
 pub may_build : (table tokens : TableId) (frame : Frame Plan) (p : Plan) (table_there tokens_there : TableId) (frame_there : Frame Plan) (seats : List (Held Content Plan)) (note : Held Content Plan) (books : List Account)
-    → IsOpened table_there tokens_there frame_there seats note books → table_there ≡ table → frame_there ≡ frame → tokens_there ≡ tokens → p ≡ frame.world → MayBuild table tokens frame p seats note books
-may_build table tokens frame p table_there tokens_there frame_there seats note books h same_table same_frame same_tokens plan =
+    → IsOpened table_there tokens_there frame_there seats note books → table_there ≡ table → frame_there ≡ frame → tokens_there ≡ tokens → p ≡ frame.world → IsBounded p.platform → MayBuild table tokens frame p seats note books
+may_build table tokens frame p table_there tokens_there frame_there seats note books h same_table same_frame same_tokens plan bounded =
     let made : frame ≡ frame_of p = sym same_frame ∙ (h.made ∙ (ap (λ (f : Frame Plan). frame_of f.world) same_frame ∙ ap frame_of (sym plan))) in
     let planned : length seats ≡ length frame.planned = h.seat_count ∙ ap (λ (f : Frame Plan). length f.planned) same_frame in
     let places : length seats ≡ length (objects_of p.platform) = planned ∙ (ap (λ (f : Frame Plan). length f.planned) made ∙ count_planned p) in
@@ -48,8 +49,8 @@ may_build table tokens frame p table_there tokens_there frame_there seats note b
       places = places;
       fresh_seats = seats_from table frame seats seats_fresh;
       fresh_books = books_from tokens books books_fresh;
-      enough_seats = omega (arith, places, more_objects p.platform);
-      enough_books = omega (arith, places, planned, twice, more_objects p.platform);
+      twice = twice;
+      few = omega (arith, planned, places, few_objects p.platform bounded);
       note_of = h.note_of ∙ same_table;
       notes = ap (λ (v : View Content Plan). v.notes) knows ∙ ap (λ (f : Frame Plan). f.notes) made;
       unseen = ap (λ (v : View Content Plan). v.seen) knows;
@@ -57,7 +58,3 @@ may_build table tokens frame p table_there tokens_there frame_there seats note b
       unlooked = ap (λ (v : View Content Plan). v.looks) knows;
       outside = ap (λ (v : View Content Plan). v.stays) knows;
     }
-
--- a list whose items were all written anew
-pub written_back : {A : Type 0} (old new : List A) (n : ℕ) → n ≡ length new → take n (new ++ drop (length new) old) ≡ new
-written_back old new n all = ap (λ (k : ℕ). take k (new ++ drop (length new) old)) all ∙ take-append_seam new (drop (length new) old)

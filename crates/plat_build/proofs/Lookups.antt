@@ -45,6 +45,16 @@ some_below P [] k h = absurd h
 some_below P (x ∷ xs) zero h = omega arith
 some_below P (x ∷ xs) (suc k) h = omega (arith, some_below P xs k h)
 
+pub short_at : {A : Type 0} (xs : List A) (k : ℕ) (x : A) → slice_get xs k ≡ Some x → k < length xs
+short_at [] k x at = cc
+short_at (y ∷ xs) zero x at = omega arith
+short_at (y ∷ xs) (suc k) x at = omega (arith, short_at xs k x at)
+
+pub get_at : {A : Type 0} (xs : List A) (k : ℕ) (d : A) → k < length xs → slice_get xs k ≡ Some (get_or xs k d)
+get_at [] k d below = absurd (omega arith)
+get_at (y ∷ xs) zero d below = refl
+get_at (y ∷ xs) (suc k) d below = get_at xs k d (omega arith)
+
 -- the row that a loop over the rows reads
 pub row_at : {A : Type 0} (rows xs : List A) (k : ℕ) (x : A) → rows ≡ xs → k < length rows → x ≡ get_or rows k x → slice_get xs k ≡ Some x
 row_at rows xs k x same below is = subst (λ l. slice_get l k ≡ Some x) same (slice_get_read rows (length rows) k x refl below is)

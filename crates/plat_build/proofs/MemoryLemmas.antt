@@ -1,6 +1,6 @@
 -- A memory is built as the plan says.
-use Rattle.std.proofs.Common.{◌≡◌, ℕ, ◌-◌, ◌<◌, [], length, take, sum, get_or, Option, Some, None, refl, sym, ap, subst, ◌∙◌, arith}
-use Rattle.std.specs.Prelude.{IsSomeAnd, slice_get, slice_index_or}
+use Rattle.std.proofs.Common.{◌≡◌, ℕ, ◌<◌, [], length, take, sum, get_or, Option, Some, None, refl, sym, ap, subst, ◌∙◌}
+use Rattle.std.specs.Prelude.{IsSomeAnd, slice_get}
 use Rattle.atomic_table.specs.Seated.{TableId}
 use Rattle.one_history.specs.declared.view.Frame.{Frame}
 use Rattle.shared_object.specs.Written.{own_number}
@@ -11,27 +11,15 @@ use Rattle.tlm_model.specs.declared.platform.MemoryRow.{MemoryRow}
 use Rattle.tlm_model.specs.Plan.{Plan}
 use Rattle.region_object.specs.Region.{LoggedMemory}
 use Rattle.region_object.specs.Written.{built_of}
-use Rattle.route_plan.specs.Planned.{planned_at}
-use Rattle.plat_build.specs.Built.{IsMemoryBuilt}
-use Rattle.plat_build.specs.Objects.{frame_of, gates_at, gates_of, row_gates}
+use Rattle.cargo_net.specs.Traffic.{IsMemoryBuilt}
+use Rattle.cargo_net.specs.Gates.{gates_at, gates_of, row_gates}
+use Rattle.plat_build.specs.Objects.{frame_of}
 use Rattle.plat_build.proofs.Lookups.{some_below}
-use Rattle.plat_build.proofs.ObjectLemmas.{gates_at_memory, planned_at_memory}
+use Rattle.plat_build.proofs.ObjectLemmas.{gates_at_memory}
 
 -- a memory with an empty log
 abbrev pub blank_memory : ℕ → MemoryTraits → ℕ → ℕ → ℕ → LoggedMemory
 blank_memory m traits first_gate entries bytes = record { number = m; traits = traits; first_gate = first_gate; log = record { entries = []; room = entries; room_bytes = bytes } }
-
--- its room is what is planned
-pub room_planned : (p : Plan) (f : Frame Plan) (m owner entries bytes first_gate : ℕ) (traits : MemoryTraits) (memory : LoggedMemory) → f ≡ frame_of p → owner ≡ m → m < length p.platform.memories → memory ≡ blank_memory m traits first_gate entries bytes → entries ≡ planned_at p (Memory m)
-    → memory.log.room - length memory.log.entries ≡ slice_index_or f.planned owner 0
-room_planned p f m owner entries bytes first_gate traits memory frame mine below is planned =
-    let none : entries - 0 ≡ entries = omega arith in
-    ap (λ (r : LoggedMemory). r.log.room - length r.log.entries) is
-    ∙ (none
-    ∙ (planned
-    ∙ (sym (planned_at_memory p m below)
-    ∙ (ap (λ (x : Frame Plan). slice_index_or x.planned m 0) (sym frame)
-    ∙ ap (λ (k : ℕ). slice_index_or f.planned k 0) (sym mine)))))
 
 gates_in_row : (traits : MemoryTraits) (o : Option MemoryRow) → IsSomeAnd o (λ (row : MemoryRow). traits ≡ row.traits) → traits.gates ≡ row_gates o
 gates_in_row traits None h = absurd h

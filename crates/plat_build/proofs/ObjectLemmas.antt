@@ -19,7 +19,11 @@ use Rattle.route_plan.specs.Planned.{planned_at}
 use Rattle.route_plan.specs.Valid.{IsObject, checked_plan, hop_count, planned_in_all}
 use Rattle.route_plan.proofs.NumberLemmas.{window_hop-le}
 use Rattle.route_plan.proofs.TotalLemmas.{few_in_all}
-use Rattle.plat_build.specs.Objects.{gates_at, gates_of, has_pool, is_used, objects_of, planned_of, pools_of, row_gates, row_has_pool}
+use Rattle.cargo_model.specs.Known.{has_pool, is_used, objects_of, row_has_pool}
+use Rattle.cargo_net.specs.Gates.{gates_at, gates_of, row_gates}
+use Rattle.plat_build.specs.Objects.{HasObject, planned_of, pools_of}
+use Rattle.plat_build.proofs.Lookups.{short_at}
+use Rattle.std.proofs.lemmas.Option.{get_or_from_slice_get}
 
 below_range : (n : ℕ) → All (λ k. k < n) (range_with_len 0 n)
 below_range n i d within =
@@ -38,6 +42,10 @@ all_there p =
     (All-append P (map Memory memories) (map Hop hops) (All-map P Memory memories (below_range (length p.memories))) (All-map P Hop hops (below_range (hop_count p))))
     (All-filter (is_used p) P (map Pool pools) (All-map P Pool pools (below_range (length p.initiators))))
 
+-- the object of a number is one of the plan
+pub object_there : (p : Platform) (k : ℕ) (o : ObjectNo) → HasObject p k o → IsObject p o
+object_there p k o at = subst (IsObject p) (get_or_from_slice_get (objects_of p) k o o at) (all_there p k o (short_at (objects_of p) k o at))
+
 pub few_hops : (p : Platform) → IsBounded p → hop_count p ≤ 288
 few_hops p h =
     let f : RouterRow → ℕ = λ row. length row.windows in
@@ -46,7 +54,7 @@ few_hops p h =
     let bound = window_hop-le p n h in
     omega (arith, bound, whole, length-take n p.routers, h.router_count)
 
-count_of : (p : Platform) → length (objects_of p) ≡ length p.memories + hop_count p + length (pools_of p (length p.initiators))
+pub count_of : (p : Platform) → length (objects_of p) ≡ length p.memories + hop_count p + length (pools_of p (length p.initiators))
 unfolding objects_of
 count_of p =
     let m = map Memory (range_with_len 0 (length p.memories)) in
@@ -95,7 +103,8 @@ few_planned p limits =
       sum_by-map f Pool i,
     )
 
-memory_at : (p : Platform) (m : ℕ) (d : ObjectNo) → m < length p.memories → get_or (objects_of p) m d ≡ Memory m
+-- at a memory's place stands the memory
+pub memory_at : (p : Platform) (m : ℕ) (d : ObjectNo) → m < length p.memories → get_or (objects_of p) m d ≡ Memory m
 unfolding objects_of
 memory_at p m d below =
     let r = range_with_len 0 (length p.memories) in
@@ -115,6 +124,12 @@ number_at p f m below =
     let within : m < length (objects_of p) = omega (arith, more_objects p) in
     get_or-map f (objects_of p) m (Memory m) 0 within ∙ ap f (memory_at p m (Memory m) below)
 
+-- what is planned of the object of a number
+pub planned_at_object : (p : Plan) (k : ℕ) (o : ObjectNo) → HasObject p.platform k o → get_or (planned_of p) k 0 ≡ planned_at p o
+unfolding planned_of
+planned_at_object p k o at =
+    get_or-map (planned_at p) (objects_of p.platform) k o 0 (short_at (objects_of p.platform) k o at) ∙ ap (planned_at p) (get_or_from_slice_get (objects_of p.platform) k o o at)
+
 -- the number at a memory's place
 pub planned_at_memory : (p : Plan) (m : ℕ) → m < length p.platform.memories → get_or (planned_of p) m 0 ≡ planned_at p (Memory m)
 unfolding planned_of
@@ -123,6 +138,10 @@ planned_at_memory p m below = number_at p.platform (λ o. planned_at p o) m belo
 pub gates_at_memory : (p : Platform) (m : ℕ) → m < length p.memories → get_or (gates_of p) m 0 ≡ gates_at p (Memory m)
 unfolding gates_of
 gates_at_memory p m below = number_at p (λ o. gates_at p o) m below
+
+pub gates_at_object : (p : Platform) (k : ℕ) (o : ObjectNo) → HasObject p k o → get_or (gates_of p) k 0 ≡ gates_at p o
+unfolding gates_of
+gates_at_object p k o at = get_or-map (gates_at p) (objects_of p) k o 0 (short_at (objects_of p) k o at) ∙ ap (gates_at p) (get_or_from_slice_get (objects_of p) k o o at)
 
 pub count_gates : (p : Platform) → length (gates_of p) ≡ length (objects_of p)
 unfolding gates_of
@@ -149,7 +168,8 @@ pushed_more f front xs ys n so_far pushed =
     ∙ (append_assoc front (map f (range_with_len 0 n)) (f n ∷ [])
     ∙ ap (λ (l : List ObjectNo). front ++ l) (sym (map-range_with_len_more f 0 n n (zero-add n)))))
 
-pool_at : (p : Platform) (n : ℕ) (row : InitiatorRow) → slice_get p.initiators n ≡ Some row → is_used p (Pool n) ≡ has_pool row.style
+-- an initiator has a pool by its style
+pub pool_at : (p : Platform) (n : ℕ) (row : InitiatorRow) → slice_get p.initiators n ≡ Some row → is_used p (Pool n) ≡ has_pool row.style
 pool_at p n row at = ap row_has_pool at
 
 -- one pool more, if the initiator has one

@@ -11,7 +11,9 @@ use Rattle.tlm_model.specs.Plan.{Plan}
 use Rattle.platform_model.specs.Bounded.{IsBounded}
 use Rattle.route_plan.specs.Planned.{planned_at}
 use Rattle.route_plan.specs.Valid.{checked_plan, hop_count}
-use Rattle.plat_build.specs.Objects.{frame_of, gates_at, gates_of, notes_of, objects_of, planned_of, pools_of}
+use Rattle.cargo_model.specs.Known.{objects_of}
+use Rattle.cargo_net.specs.Gates.{gates_at, gates_of}
+use Rattle.plat_build.specs.Objects.{frame_of, notes_of, planned_of, pools_of}
 use Rattle.plat_build.proofs.GateLemmas.{few_gates}
 use Rattle.plat_build.proofs.ObjectLemmas.{count_gates, count_planned, few_planned, more_objects}
 

@@ -8,7 +8,7 @@ use Rattle.atomic_table.specs.Seated.{TableId}
 use Rattle.view_lists.specs.Lists.{Has}
 use Rattle.view_lists.proofs.Keys.{of_key-has}
 use Rattle.view_lists.proofs.Members.{has_none}
-use Rattle.view_lists.proofs.Places.{each_put, empty}
+use Rattle.view_lists.proofs.Places.{at_short, each_put, empty}
 use Rattle.one_history.specs.declared.entry.Entry.{Entry}
 use Rattle.one_history.specs.declared.view.Frame.{Frame}
 use Rattle.one_history.specs.declared.view.View.{View}
@@ -17,47 +17,52 @@ use Rattle.one_history.specs.Held.{Held}
 use Rattle.one_history.specs.Lists.{entries_at, object_of}
 use Rattle.one_history.specs.Moves.{number_of, own_of}
 use Rattle.one_history.specs.Seats.{AreSeats, IsMerge}
-use Rattle.shared_object.specs.Standing.{IsSeat}
+use Rattle.shared_object.specs.Standing.{IsSeat, Numbers}
 use Rattle.shared_object.specs.Written.{Written, placed}
 use Rattle.token_book.specs.Purse.{Purse, IsOf, left_of}
 use Rattle.tlm_types.specs.declared.entry.Content.{Content}
-use Rattle.tlm_types.specs.declared.words.ObjectNo.TheVariants.{Memory}
+use Rattle.tlm_types.specs.declared.words.ObjectNo.{ObjectNo}
+use Rattle.tlm_types.specs.declared.words.ObjectNo.TheVariants.{Memory, Hop, Pool}
 use Rattle.tlm_model.specs.Plan.{Plan}
 use Rattle.route_plan.specs.Counted.{share_at}
+use Rattle.route_plan.specs.Valid.{hop_count}
 use Rattle.route_plan.proofs.TotalLemmas.{shares_add_up}
-use Rattle.plat_build.specs.Kept.{AreFreshFrom}
-use Rattle.plat_build.specs.Objects.{frame_of}
-use Rattle.plat_build.specs.Unused.{AddUp, AreUnused, HasTicketsFrom, HaveTicketsFrom, IsUnused}
-use Rattle.plat_build.proofs.ObjectLemmas.{planned_at_memory}
+use Rattle.cargo_model.specs.Known.{object_number}
+use Rattle.plat_build.specs.Net.{AreHops, AreMemories, ArePools}
+use Rattle.plat_build.specs.Objects.{HasObject, frame_of, pools_start}
+use Rattle.plat_build.specs.Unused.{AddUp, AreNumberedFrom, AreUnused, HasTicketsFrom, HaveTicketsFrom, IsThere, IsUnused}
+use Rattle.plat_build.proofs.IdleLemmas.{pool_listed}
+use Rattle.plat_build.proofs.NumberLemmas.{hop_number, hop_there, memory_there, pool_at_place}
+use Rattle.plat_build.proofs.ObjectLemmas.{planned_at_object}
 
 -- the tickets that the plan counts are all that is planned
 pub add_up : (p : Plan) (f : Frame Plan) → f ≡ frame_of p → length p.scripts ≡ length p.platform.initiators → AddUp f
-add_up p f is scripts = subst AddUp (sym is) (λ m below. planned_at_memory p m below ∙ sym (shares_add_up p (Memory m) scripts))
+add_up p f is scripts = subst AddUp (sym is) (λ k o at. planned_at_object p k o at ∙ sym (shares_add_up p o scripts))
 
--- The tickets of memory n are retired from the wallets of the first k initiators, and those of later memories from none.
+-- The tickets of object n are retired from the wallets of the first k initiators, and those of later objects from none.
 pub record AreLeftTo (tokens : TableId) (p : Plan) (n k : ℕ) (wallets : List Purse) : Type 0 where
   pub count : length wallets ≡ length p.platform.initiators
   pub each : (i : ℕ) (w : Purse) → get_elem? wallets i ≡ some w → HasTicketsFrom tokens p (n + 1) i w
-  pub here : (i : ℕ) (w : Purse) → k ≤ i → get_elem? wallets i ≡ some w → left_of w n ≡ share_at p i (Memory n)
+  pub here : (i : ℕ) (w : Purse) (o : ObjectNo) → k ≤ i → get_elem? wallets i ≡ some w → HasObject p.platform n o → left_of w n ≡ share_at p i o
 
-pub left_begin : (tokens : TableId) (p : Plan) (n : ℕ) (wallets : List Purse) → n < length p.platform.memories → HaveTicketsFrom tokens p n wallets → AreLeftTo tokens p n 0 wallets
-left_begin tokens p n wallets below h = record {
+pub left_begin : (tokens : TableId) (p : Plan) (n : ℕ) (wallets : List Purse) → HaveTicketsFrom tokens p n wallets → AreLeftTo tokens p n 0 wallets
+left_begin tokens p n wallets h = record {
   count = h.count;
-  each = λ i w at. let t = h.each i w at in record { of = t.of; left = λ m late less. t.left m (omega arith) less };
-  here = λ i w late at. (h.each i w at).left n (omega arith) below;
+  each = λ i w at. let t = h.each i w at in record { of = t.of; left = λ m o late there. t.left m o (omega arith) there };
+  here = λ i w o late at there. (h.each i w at).left n o (omega arith) there;
 }
 
 pub left_next : (tokens : TableId) (p : Plan) (n k : ℕ) (wallets : List Purse) (w v : Purse) → AreLeftTo tokens p n k wallets → get_elem? wallets k ≡ some w → IsOf tokens v → ((o : ℕ) → o ≢ n → left_of v o ≡ left_of w o)
     → AreLeftTo tokens p n (k + 1) (set wallets k v)
 left_next tokens p n k wallets w v h at of others =
-    let P : ℕ → Purse → Type 0 = λ j u. HasTicketsFrom tokens p (n + 1) j u × (k + 1 ≤ j → left_of u n ≡ share_at p j (Memory n)) in
+    let P : ℕ → Purse → Type 0 = λ j u. HasTicketsFrom tokens p (n + 1) j u × ((o : ObjectNo) → k + 1 ≤ j → HasObject p.platform n o → left_of u n ≡ share_at p j o) in
     let old = h.each k w at in
-    let new : HasTicketsFrom tokens p (n + 1) k v = record { of = of; left = λ m late less. others m (λ e. omega arith) ∙ old.left m late less } in
-    let all = each_put P wallets k v (λ j u ne there. (h.each j u there, (λ more. h.here j u (omega arith) there))) (new, (λ more. absurd (omega arith))) in
+    let new : HasTicketsFrom tokens p (n + 1) k v = record { of = of; left = λ m o late there. others m (λ e. omega arith) ∙ old.left m o late there } in
+    let all = each_put P wallets k v (λ j u ne there. (h.each j u there, (λ o more is. h.here j u o (omega arith) there is))) (new, (λ o more is. absurd (omega arith))) in
     record {
       count = length-set wallets k v ∙ h.count;
       each = λ i u there. (all i u there).0;
-      here = λ i u late there. (all i u there).1 late;
+      here = λ i u o late there is. (all i u there).1 o late is;
     }
 
 pub left_end : (tokens : TableId) (p : Plan) (n k : ℕ) (wallets : List Purse) → AreLeftTo tokens p n k wallets → HaveTicketsFrom tokens p (n + 1) wallets
@@ -73,26 +78,32 @@ unused_is table frame m room out left sum entries seat is planned shares book re
   own = is.own ∙ ap (map (placed m)) (empty entries (omega arith));
 }
 
--- what stands in two lists joined
-at_either : {A : Type 0} (l m : List A) (k : ℕ) (x : A) → get_elem? (l ++ m) k ≡ some x → (get_elem? l k ≡ some x) ⊎ ((j : ℕ) × (length l + j ≡ k) × (get_elem? m j ≡ some x))
-at_either [] m k x at = inr (k, omega arith, at)
-at_either (y ∷ l) m zero x at = inl at
-at_either (y ∷ l) m (suc k) x at = ⊎_elim (λ t. inl t) (λ t. inr (t.0, (let is = t.1 in omega arith), t.2)) (at_either l m k x at)
+-- the numbers of memories, hops and pools
+pub memories_numbered : (frame : Frame Plan) (p : Plan) (n : ℕ) (memories : List Numbers) → p ≡ frame.world → n ≡ 0 → AreMemories p memories → AreNumberedFrom frame n memories
+memories_numbered frame p n memories world none are k s at =
+    let q = frame.world in
+    let below : k < length q.platform.memories = omega (arith, at_short memories k s at, are.count, ap (λ (x : Plan). length x.platform.memories) world) in
+    let same : k ≡ n + k = omega arith in
+    (ap (λ (t : Numbers). t.number) (are.each k s at) ∙ same, subst (IsThere q.platform) same (Memory k, memory_there q.platform k below))
 
--- those of the memories and those of the objects after them
-pub all_unused : (table : TableId) (frame : Frame Plan) (n : ℕ) (seats more : List (Held Content Plan)) → AreUnused table frame seats → length seats ≡ n → AreFreshFrom table frame n more → AreUnused table frame (seats ++ more)
-all_unused table frame n seats more unused count fresh o s at = ⊎_elim
-    (λ (here : get_elem? seats o ≡ some s). unused o s here)
-    (λ (past : (j : ℕ) × (length seats + j ≡ o) × (get_elem? more j ≡ some s)).
-    let is = fresh past.0 s past.2 in
-    let place : n + past.0 ≡ o = (let p = past.1 in omega arith) in
-    record {
-      of = is.0;
-      framed = ap (λ (v : View Content Plan). v.frame) is.1;
-      numbered = ap number_of is.1 ∙ place;
-      own = ap own_of is.1;
-    })
-    (at_either seats more o s at)
+pub hops_numbered : (frame : Frame Plan) (p : Plan) (n : ℕ) (hops : List Numbers) → p ≡ frame.world → n ≡ length frame.world.platform.memories → AreHops p.platform hops → AreNumberedFrom frame n hops
+hops_numbered frame p n hops world first are k s at =
+    let q = frame.world in
+    let below : k < hop_count p.platform = omega (arith, at_short hops k s at, are.count) in
+    let below_too : k < hop_count q.platform = subst (λ (x : Plan). k < hop_count x.platform) world below in
+    let same : length q.platform.memories + k ≡ n + k = ap (λ (j : ℕ). j + k) (sym first) in (
+      ap (λ (t : Numbers). t.number) (are.each k s at) ∙ (ap (λ (x : Plan). object_number x.platform (Hop k)) world ∙ (hop_number q.platform k below_too ∙ same)),
+      subst (IsThere q.platform) same (Hop k, hop_there q.platform k below_too),
+    )
+
+pub pools_numbered : (frame : Frame Plan) (p : Plan) (n : ℕ) (pools : List Numbers) → p ≡ frame.world → n ≡ pools_start frame.world.platform → ArePools p.platform pools → AreNumberedFrom frame n pools
+pools_numbered frame p n pools world first are k s at =
+    let q = frame.world in
+    let is = pool_at_place p.platform k s.own (pool_listed p pools k s are at) in
+    let same : pools_start p.platform + k ≡ n + k = ap (λ (x : Plan). pools_start x.platform + k) world ∙ ap (λ (j : ℕ). j + k) (sym first) in (
+      ap (λ (t : Numbers). t.number) (are.each k s at) ∙ (is.0 ∙ same),
+      subst (λ (x : Plan). IsThere x.platform (n + k)) world (subst (IsThere p.platform) same (Pool s.own, is.1)),
+    )
 
 pub seats_unused : (table there : TableId) (frame made : Frame Plan) (seats : List (Held Content Plan)) → there ≡ table → made ≡ frame → AreUnused table frame seats → AreSeats there made seats
 seats_unused table there frame made seats same_table same_frame unused o s at = let is = unused o s at in (is.of ∙ sym same_table, is.framed ∙ ap Some (sym same_frame), is.numbered)

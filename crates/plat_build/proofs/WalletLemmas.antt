@@ -1,5 +1,6 @@
--- The tickets of memories, in the wallets and out of the books.
+-- The tickets of objects, in the wallets and out of the books.
 use Rattle.std.proofs.Common.{◌≡◌, ◌≢◌, ℕ, ◌+◌, ◌<◌, ◌≤◌, ◌==◌, Bool, true, false, cond, List, length, set, get_or, sum_by, Option, Some, None, refl, sym, ap, subst, ⊎_elim, ◌∙◌, zero-add, arith, length-set}
+use Rattle.std.specs.Prelude.{slice_get}
 use Rattle.std.specs.List.{range_with_len}
 use Rattle.std.specs.FinMap as fin
 use Rattle.std.proofs.lemmas.Bool.{cases_eq, cond-true, cond-false, eq-eqb, ne_eqb}
@@ -12,10 +13,11 @@ use Rattle.token_book.specs.Pocket.{Pocket}
 use Rattle.token_book.specs.Purse.{Purse, empty_purse, left_in, bytes_left_in, left_of, bytes_of, HasPlace, HasRoom, IsOf, put_in}
 use Rattle.token_book.proofs.Pulls.{left_of-put_in, bytes_of-put_in, IsOf-put_in}
 use Rattle.token_book.proofs.Rooms.{room_within, place-empty, place-put_in}
-use Rattle.tlm_types.specs.declared.words.ObjectNo.TheVariants.{Memory}
+use Rattle.tlm_types.specs.declared.words.ObjectNo.{ObjectNo}
 use Rattle.tlm_model.specs.Plan.{Plan}
-use Rattle.route_plan.specs.Counted.{share_at, logged_share_at}
-use Rattle.plat_build.specs.Objects.{objects_of}
+use Rattle.route_plan.specs.Counted.{share_at}
+use Rattle.cargo_model.specs.Known.{objects_of}
+use Rattle.plat_build.specs.Objects.{HasObject, bytes_at}
 use Rattle.plat_build.specs.Tickets.{AreStocked, AreStockedTo, GotRights, IsStocked}
 use Rattle.plat_build.proofs.Lookups.{at_index, at_read}
 use Rattle.plat_build.proofs.ObjectLemmas.{sum_by-map}
@@ -68,29 +70,36 @@ got_rights tokens w o tickets bytes all few =
       few = few_put v u o refl (few_put w t o refl (λ q has. let less = few q has in omega arith));
     }
 
--- a wallet that got the tickets of one memory more
-pub stocked_more : (tokens : TableId) (p : Plan) (n i : ℕ) (w v : Purse) → IsStocked tokens p n i w → GotRights tokens n (share_at p i (Memory n)) (logged_share_at p i n) w v → IsStocked tokens p (n + 1) i v
-stocked_more tokens p n i w v h got = record {
+-- there is one object of a number
+one_at : (p : Plan) (k n : ℕ) (o q : ObjectNo) → k ≡ n → HasObject p.platform n q → HasObject p.platform k o → q ≡ o
+one_at p k n o q same there here = some_same q o (sym there ∙ (ap (λ (j : ℕ). slice_get (objects_of p.platform) j) (sym same) ∙ here))
+  where
+    some_same : (x y : ObjectNo) → Some x ≡ Some y → x ≡ y
+    some_same x y e = cc
+
+-- a wallet that got the tickets of one object more
+pub stocked_more : (tokens : TableId) (p : Plan) (n i : ℕ) (q : ObjectNo) (w v : Purse) → HasObject p.platform n q → IsStocked tokens p n i w → GotRights tokens n (share_at p i q) (bytes_at p i q) w v → IsStocked tokens p (n + 1) i v
+stocked_more tokens p n i q w v there h got = record {
   of = got.of;
   places = got.places ∙ h.places;
-  left = λ m less. ⊎_elim
-      (λ (same : m ≡ n). got.left m ∙ cond-true (m == n) (share_at p i (Memory n)) (left_of w m) (eq-eqb m n same) ∙ ap (λ (k : ℕ). share_at p i (Memory k)) (sym same))
-      (λ (other : m ≢ n). got.left m ∙ cond-false (m == n) (share_at p i (Memory n)) (left_of w m) (ne_eqb m n other) ∙ h.left m (omega arith))
-      (cases_eq m n);
-  bytes = λ m less. ⊎_elim
-      (λ (same : m ≡ n). got.bytes_too m ∙ cond-true (m == n) (logged_share_at p i n) (bytes_of w m) (eq-eqb m n same) ∙ ap (logged_share_at p i) (sym same))
-      (λ (other : m ≢ n). got.bytes_too m ∙ cond-false (m == n) (logged_share_at p i n) (bytes_of w m) (ne_eqb m n other) ∙ h.bytes m (omega arith))
-      (cases_eq m n);
+  left = λ k o less here. ⊎_elim
+      (λ (same : k ≡ n). got.left k ∙ cond-true (k == n) (share_at p i q) (left_of w k) (eq-eqb k n same) ∙ ap (share_at p i) (one_at p k n o q same there here))
+      (λ (other : k ≢ n). got.left k ∙ cond-false (k == n) (share_at p i q) (left_of w k) (ne_eqb k n other) ∙ h.left k o (omega arith) here)
+      (cases_eq k n);
+  bytes = λ k o less here. ⊎_elim
+      (λ (same : k ≡ n). got.bytes_too k ∙ cond-true (k == n) (bytes_at p i q) (bytes_of w k) (eq-eqb k n same) ∙ ap (bytes_at p i) (one_at p k n o q same there here))
+      (λ (other : k ≢ n). got.bytes_too k ∙ cond-false (k == n) (bytes_at p i q) (bytes_of w k) (ne_eqb k n other) ∙ h.bytes k o (omega arith) here)
+      (cases_eq k n);
   few = got.few;
 }
 
--- an empty wallet has the tickets of no memory
+-- an empty wallet has the tickets of no object
 pub stocked_none : (tokens : TableId) (p : Plan) (i : ℕ) (w : Purse) → w ≡ empty_purse (length (objects_of p.platform)) → IsOf tokens w → IsStocked tokens p 0 i w
 stocked_none tokens p i w is all = record {
   of = all;
   places = ap (λ (v : Purse). v.places) is;
-  left = λ m less. absurd (omega arith);
-  bytes = λ m less. absurd (omega arith);
+  left = λ k o less here. absurd (omega arith);
+  bytes = λ k o less here. absurd (omega arith);
   few = λ o has. absurd (place-empty (length (objects_of p.platform)) o (subst (λ (v : Purse). HasPlace v o) is has));
 }
 

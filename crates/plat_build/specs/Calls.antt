@@ -1,21 +1,21 @@
 -- A call at a memory of a net, and what a wallet gives for it.
-use Rattle.std.specs.Prelude.{ℕ, ◌≡◌, ◌+◌, ◌-◌, ◌<◌, ◌≤◌, ◌==◌, IsSomeAnd, List, length, map, Option, slice_get, if◌then◌else◌}
+use Rattle.std.specs.Prelude.{ℕ, ◌≡◌, ◌+◌, ◌-◌, ◌<◌, ◌≤◌, ◌==◌, IsSomeAnd, List, length, map, Option, None, slice_get, if◌then◌else◌}
 use Rattle.view_lists.specs.Lists.{Has, Within}
 use Rattle.one_history.specs.declared.view.View.{View}
 use Rattle.shared_object.specs.Written.{Written, placed, written_at}
 use Rattle.token_book.specs.Purse.{Purse, left_of, bytes_of}
 use Rattle.tlm_types.specs.declared.entry.Content.{Content}
+use Rattle.tlm_types.specs.declared.words.TxnId.{TxnId}
 use Rattle.tlm_model.specs.declared.platform.MemoryRow.{MemoryRow}
 use Rattle.tlm_model.specs.Log.{IsLog}
 use Rattle.tlm_model.specs.Plan.{Plan}
+use Rattle.flow_model.specs.Platform.{passage_of}
 use Rattle.generic_payload.specs.Payload.{PayloadView}
 use Rattle.route_plan.specs.declared.step.Route.{Route}
 use Rattle.route_plan.specs.Plans.{walk_at}
 use Rattle.route_plan.specs.Routes.{route_by}
 use Rattle.region_object.specs.declared.call.RegionCall.{RegionCall}
-use Rattle.region_object.specs.declared.call.RegionReply.{RegionReply}
-use Rattle.region_object.specs.declared.call.RegionReply.TheVariants.{Accessed, Moved}
-use Rattle.region_object.specs.Call.{payload_cost}
+use Rattle.region_object.specs.Call.{payload_cost, returned}
 use Rattle.region_object.specs.Region.{LoggedMemory, after_call, reply_of}
 use Rattle.region_object.specs.Written.{written_from}
 
@@ -23,15 +23,14 @@ use Rattle.region_object.specs.Written.{written_from}
 abbrev pub route_at : Plan → ℕ → ℕ → Option Route
 route_at p initiator address = route_by (walk_at p initiator address)
 
+-- x is no access of a four-phase initiator: it passes no hop
+abbrev pub HasNoPassage : Plan → TxnId → Type 0
+HasNoPassage p x = passage_of p x ≡ None
+
 -- the wallet has a ticket of the memory at the end of a route, for the bytes of this payload
 pub record CanPay (payload : PayloadView) (w : Purse) (route : Route) : Type 0 where
   pub left : 0 < left_of w route.memory
   pub bytes : payload_cost payload ≤ bytes_of w route.memory
-
--- the payload that a memory hands back
-abbrev pub returned : RegionReply → PayloadView
-returned (Accessed payload) = payload
-returned (Moved payload moved) = payload
 
 -- what a memory has written
 abbrev pub entries_of : LoggedMemory → List Written

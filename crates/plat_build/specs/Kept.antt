@@ -1,5 +1,5 @@
 -- What is seen of what waits to be handed out, and what is handed out.
-use Rattle.std.specs.Prelude.{ℕ, ◌≡◌, ◌<◌, ◌+◌, Bool, true, List, [], length, replicate, Option, Some, IsSomeAnd, slice_get}
+use Rattle.std.specs.Prelude.{ℕ, ◌≡◌, ◌+◌, Bool, true, List, [], length, replicate, Option, Some, IsSomeAnd, slice_get}
 use mathlib.Core.Option.{some}
 use lib.ListN.{get_elem?}
 use Rattle.atomic_table.specs.Seated.{TableId}
@@ -10,15 +10,16 @@ use Rattle.shared_object.specs.Steps.{IsNote}
 use Rattle.token_book.specs.Account.{Account, fresh as fresh_book}
 use Rattle.token_book.specs.Purse.{Purse, IsOf, left_of, bytes_of}
 use Rattle.tlm_types.specs.declared.entry.Content.{Content}
-use Rattle.tlm_types.specs.declared.words.ObjectNo.TheVariants.{Memory}
+use Rattle.tlm_types.specs.declared.words.ObjectNo.{ObjectNo}
 use Rattle.tlm_model.specs.declared.operation.Operation.{Operation}
 use Rattle.tlm_model.specs.declared.platform.Platform.{Platform}
 use Rattle.tlm_model.specs.Plan.{Plan}
 use Rattle.generic_payload.specs.Payload.{new_payload}
 use Rattle.script_engine.specs.State.{begun_engine}
-use Rattle.route_plan.specs.Counted.{share_at, logged_share_at}
+use Rattle.route_plan.specs.Counted.{share_at}
 use Rattle.plat_build.specs.declared.kept.Start.{Start}
-use Rattle.plat_build.specs.Objects.{objects_of}
+use Rattle.cargo_model.specs.Known.{objects_of}
+use Rattle.plat_build.specs.Objects.{HasObject, bytes_at}
 
 -- for each initiator, each router and each memory, whether what it gets still waits
 pub record Waiting : Type 0 where
@@ -37,12 +38,12 @@ pub record IsBlank (table : TableId) (note : Held Content Plan) : Type 0 where
   pub known : note.knows.known ≡ []
   pub looks : note.knows.looks ≡ []
 
--- the wallet of an initiator: a place for each object, as many tickets of each memory as the plan counts for this initiator, and as many bytes
+-- the wallet of an initiator: a place for each object, as many tickets of it as the plan counts for this initiator, and as many bytes
 pub record HasShares (tokens : TableId) (p : Plan) (initiator : ℕ) (w : Purse) : Type 0 where
   pub of : IsOf tokens w
   pub places : w.places ≡ length (objects_of p.platform)
-  pub left : (m : ℕ) → m < length p.platform.memories → left_of w m ≡ share_at p initiator (Memory m)
-  pub bytes : (m : ℕ) → m < length p.platform.memories → bytes_of w m ≡ logged_share_at p initiator m
+  pub left : (k : ℕ) (o : ObjectNo) → HasObject p.platform k o → left_of w k ≡ share_at p initiator o
+  pub bytes : (k : ℕ) (o : ObjectNo) → HasObject p.platform k o → bytes_of w k ≡ bytes_at p initiator o
 
 -- what an initiator starts with: its whole script, a new payload, a note that has seen nothing, and its tickets
 pub record IsStart (table tokens : TableId) (p : Plan) (initiator : ℕ) (s : Start) : Type 0 where

@@ -1,13 +1,16 @@
 // The building of nets.
-ghost use Rattle.std.specs.Prelude.{◌≡◌, ◌+◌, ◌<◌, [], All, IfOk, length};
-ghost use Rattle.plat_build.specs.Kept.{all_waiting, AreFreshFrom, IsBlank};
+ghost use Rattle.std.specs.Prelude.{◌≡◌, ◌<◌, [], All, IfOk, length};
+ghost use Rattle.plat_build.specs.Kept.{all_waiting, IsBlank};
 
+use crate::hops::make_hops;
 use crate::kept::Kept;
-use crate::law::{PlatHistory, PlatNote, PlatSeat, TlmLaw};
+use crate::law::{PlatHistory, PlatNote, TlmLaw};
 use crate::memories::make_memories;
 use crate::net::Net;
 use crate::objects::notes_of;
 use crate::opened::Opened;
+use crate::pools::make_pools;
+use crate::supplies::Supplies;
 use crate::wallets::empty_wallets;
 use route_plan::Plan;
 use shared_object::Naming;
@@ -21,8 +24,6 @@ pub struct Built<N: Naming<Plan, TlmLaw>> {
     pub net: Net<N>,
     /// What waits to be handed out.
     pub kept: Kept<N>,
-    /// The seats of the hops and pools, in order, which aren't built.
-    pub seats: Vec<PlatSeat>,
 }
 
 // So many notes of a note that stands for as many.
@@ -46,10 +47,11 @@ fn make_notes(
     Ok(notes)
 }
 
-/// Builds the net of a plan: every memory, with room in its log for all that is planned, and for each
-/// initiator an engine, a payload with room for 4,096 bytes, a note and a wallet with its tickets, and a
-/// note for each router and memory. What was opened was opened for this plan, and N names its history
-/// and its tokens. The history is empty. Its only error is want of memory.
+/// Builds the net of a plan: every memory, every hop, and the pool of each four-phase initiator, with room in
+/// its log for all that is planned, and for each initiator an engine, a payload with room for 4,096 bytes, a
+/// note and a wallet with its tickets, and a note for each router and memory. What was opened was opened for
+/// this plan, and N names its history and its tokens. The history is empty. Its only error is want of
+/// memory.
 pub fn build<N: Naming<Plan, TlmLaw>>(
     alloc: Global,
     opened: Opened,
@@ -60,22 +62,22 @@ pub fn build<N: Naming<Plan, TlmLaw>>(
     requires plan { plan.now ≡ N.frame.world }
     ensures net { IfOk result (λ built. built.net ≡ plan.now) }
     ensures kept { IfOk result (λ built. built.kept ≡ all_waiting plan.now.platform) }
-    ensures seats { IfOk result (λ built. AreFreshFrom N.table N.frame (length plan.now.platform.memories) built.seats.items) }
-    ensures count { IfOk result (λ built. length built.seats.items + length plan.now.platform.memories ≡ length N.frame.planned) }
 {
     let _ = plan.platform();
     let Opened {
         history,
-        mut seats,
+        seats,
         note,
         tickets,
-        mut books,
+        books,
     } = opened;
-    let count = notes_of(plan);
-    let mut wallets = empty_wallets(alloc, &tickets, plan, seats.len() as u32)?;
-    let memories = make_memories::<N>(alloc, plan, &tickets, &mut seats, &mut books, &mut wallets)?;
-    let notes = make_notes(alloc, &history, note, count)?;
-    let kept = Kept::new(alloc, plan, notes, wallets)?;
-    let net = Net::of_parts(plan.copy(alloc)?, history, tickets, memories);
-    Ok(Built { net, kept, seats })
+    let wallets = empty_wallets(alloc, &tickets, plan, seats.len() as u32)?;
+    let mut supplies = Supplies::<N>::new(seats, books, wallets)?;
+    let memories = make_memories::<N>(alloc, plan, &tickets, &mut supplies)?;
+    let hops = make_hops::<N>(alloc, plan, &tickets, &mut supplies)?;
+    let pools = make_pools::<N>(alloc, plan, &tickets, &mut supplies)?;
+    let notes = make_notes(alloc, &history, note, notes_of(plan))?;
+    let kept = Kept::new(alloc, plan, notes, supplies.into_wallets())?;
+    let net = Net::of_parts(plan.copy(alloc)?, history, tickets, memories, hops, pools);
+    Ok(Built { net, kept })
 }

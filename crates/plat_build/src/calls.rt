@@ -5,9 +5,9 @@ ghost use Rattle.tlm_types.specs.declared.words.Command.TheVariants.{Read};
 ghost use Rattle.tlm_types.specs.declared.words.Response.TheVariants.{AddressError};
 ghost use Rattle.shared_object.specs.Steps.{IsNote};
 ghost use Rattle.token_book.specs.Purse.{IsOf, bytes_of, left_of};
-ghost use Rattle.region_object.specs.Call.{IsFit, cost_of, payload_cost, payload_of};
+ghost use Rattle.region_object.specs.Call.{HasPayload, IsFit, cost_of, payload_cost, payload_of, returned, txn_of};
 ghost use Rattle.region_object.specs.declared.call.RegionCall.TheVariants.{Debug};
-ghost use Rattle.plat_build.specs.Calls.{CanPay, IsCalled, OneTicketLess, returned, route_at};
+ghost use Rattle.plat_build.specs.Calls.{CanPay, HasNoPassage, IsCalled, OneTicketLess, route_at};
 
 use crate::law::{PlatNote, TlmLaw};
 use crate::net::Net;
@@ -30,17 +30,22 @@ pub struct Carried {
 
 // The payload that a memory hands back.
 pub(crate) fn returned(reply: RegionReply) -> Payload
+    requires { HasPayload reply }
     ensures { result ≡ returned reply }
 {
     match reply {
-        RegionReply::Accessed { payload } | RegionReply::Moved { payload, .. } => payload,
+        RegionReply::Accessed { payload }
+        | RegionReply::Moved { payload, .. }
+        | RegionReply::Direct { payload } => payload,
+        _ => unreachable!(),
     }
 }
 
 impl<N: Naming<Plan, TlmLaw>> Net<N> {
     /// Makes a call at the memory with this number, as one entry of the history. The note comes back
     /// knowing all that the memory has written, and the wallet has one ticket of that memory less, for
-    /// the bytes of the call. It takes no memory, and no lock is held afterwards.
+    /// the bytes of the call. It takes no memory, and no lock is held afterwards. An access of a four-phase
+    /// initiator is made by what its hops carry, and never so.
     pub fn call_memory<R: Wait>(
         &self,
         rt: &R,
@@ -51,6 +56,7 @@ impl<N: Naming<Plan, TlmLaw>> Net<N> {
     ) -> (Payload, PlatNote)
         requires memory { memory < length self.now.platform.memories }
         requires fit { IsFit call }
+        requires passage { HasNoPassage self.now (txn_of call) }
 
         // Who pays for it.
         requires note { IsNote N.table note }
@@ -105,6 +111,7 @@ impl<N: Naming<Plan, TlmLaw>> Net<N> {
     ) -> Carried
         requires who { who < length self.now.platform.initiators }
         requires read { payload.command ≡ Read }
+        requires passage { HasNoPassage self.now txn }
 
         // Who pays for it.
         requires note { IsNote N.table note }

@@ -1,5 +1,6 @@
 // What waits to be handed out: what each initiator starts with, and the notes of routers and memories.
 ghost use Rattle.std.specs.Prelude.{◌≡◌, ◌+◌, ◌<◌, ◌≤◌, true, false, All, IsSome, length, map, replicate, slice_get, slice_set, is_some, IfOk, OnOk};
+ghost use Rattle.cargo_model.specs.Known.{objects_of};
 ghost use Rattle.plat_build.specs.Kept.{all_waiting, AreBlank, AreStarts, IsBlank, IsStart};
 ghost use Rattle.plat_build.specs.Objects.{notes_of};
 ghost use Rattle.plat_build.specs.Tickets.{AreStocked, IsStocked};
@@ -61,7 +62,7 @@ impl<N: Naming<Plan, TlmLaw>> Kept<N> {
         requires plan { plan.now ≡ N.frame.world }
         requires notes { All (IsBlank N.table) notes.items }
         requires count { length notes.items ≡ notes_of plan.now.platform }
-        requires wallets { AreStocked N.tokens plan.now (length plan.now.platform.memories) wallets.items }
+        requires wallets { AreStocked N.tokens plan.now (length (objects_of plan.now.platform)) wallets.items }
         ensures { IfOk result (λ kept. kept ≡ all_waiting plan.now.platform) }
     {
         let platform = plan.platform();
@@ -78,7 +79,7 @@ impl<N: Naming<Plan, TlmLaw>> Kept<N> {
 
     /// Hands out what the initiator with this number starts with: the engine with its whole script, a
     /// new payload with room for 4,096 bytes, a note that has seen nothing, and a wallet with its
-    /// tickets of each memory.
+    /// tickets of each object.
     pub fn start(&mut self, initiator: u32) -> Start
         requires { slice_get self.old.starts initiator ≡ Some true }
         ensures start { IsStart N.table N.tokens N.frame.world initiator result }
@@ -186,7 +187,7 @@ fn make_start<N: Naming<Plan, TlmLaw>>(
 ) -> Result<Start, Memory>
     requires initiator { initiator < length plan.now.platform.initiators }
     requires note { IsBlank N.table note }
-    requires wallet { IsStocked N.tokens plan.now (length plan.now.platform.memories) initiator wallet }
+    requires wallet { IsStocked N.tokens plan.now (length (objects_of plan.now.platform)) initiator wallet }
     ensures { IfOk result (IsStart N.table N.tokens plan.now initiator) }
 {
     let script = plan.script(initiator).copy(alloc)?;
@@ -208,7 +209,7 @@ fn make_starts<N: Naming<Plan, TlmLaw>>(
 ) -> Result<Vec<Option<Start>>, Memory>
     requires notes { All (IsBlank N.table) notes.items }
     requires enough { length plan.now.platform.initiators ≤ length notes.items }
-    requires wallets { AreStocked N.tokens plan.now (length plan.now.platform.memories) wallets.items }
+    requires wallets { AreStocked N.tokens plan.now (length (objects_of plan.now.platform)) wallets.items }
     ensures starts { IfOk result (λ starts. AreStarts N.table N.tokens plan.now starts.items) }
     ensures all { IfOk result (λ starts. map (λ start. is_some start) starts.items ≡ replicate (length plan.now.platform.initiators) true) }
 {

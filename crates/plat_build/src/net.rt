@@ -1,9 +1,11 @@
 // The net: what threads share of a platform.
 ghost use Rattle.std.specs.Prelude.{◌≡◌, ◌<◌, length};
-ghost use Rattle.plat_build.specs.Net.{memory_numbers};
+ghost use Rattle.view_lists.specs.Lists.{Has};
+ghost use Rattle.route_plan.specs.Valid.{hop_count};
+ghost use Rattle.plat_build.specs.Net.{hop_numbers, memory_numbers, pool_numbers, HasPool, HasPoolOf};
 
 use crate::calls::returned;
-use crate::law::{PlatHistory, PlatNote, SharedMemory, TlmLaw};
+use crate::law::{PlatHistory, PlatNote, SharedHop, SharedMemory, SharedPool, TlmLaw};
 use crate::reach::Reach;
 use generic_payload::Payload;
 use region_object::RegionCall;
@@ -21,19 +23,22 @@ pub struct Net<N: Naming<Plan, TlmLaw>> {
     history: PlatHistory,
     tickets: Tokens,
     memories: Vec<SharedMemory<N>>,
+    hops: Vec<SharedHop<N>>,
+    pools: Vec<SharedPool<N>>,
 }
 
 impl<N: Naming<Plan, TlmLaw>> Model for Net<N> {
     ghost use Rattle.std.specs.Prelude.{◌≡◌};
     ghost use Rattle.tlm_model.specs.Plan as model;
-    ghost use Rattle.plat_build.specs.Net.{AreMemories};
+    ghost use Rattle.plat_build.specs.Net.{AreHops, AreMemories, ArePools};
 
     ghost Value = { model.Plan };
 
     ghost view = { λ n. n.plan };
 
     ghost invariant = { λ n. (n.plan ≡ N.frame.world) × (n.history.table ≡ N.table) × (n.history.frame ≡ N.frame)
-        × (n.tickets ≡ N.tokens) × AreMemories n.plan n.memories.items };
+        × (n.tickets ≡ N.tokens) × AreMemories n.plan n.memories.items
+        × AreHops n.plan.platform n.hops.items × ArePools n.plan.platform n.pools.items };
 }
 
 /// What a net consists of.
@@ -42,21 +47,27 @@ pub struct NetParts<N: Naming<Plan, TlmLaw>> {
     pub history: PlatHistory,
     pub tickets: Tokens,
     pub memories: Vec<SharedMemory<N>>,
+    pub hops: Vec<SharedHop<N>>,
+    pub pools: Vec<SharedPool<N>>,
 }
 
 impl<N: Naming<Plan, TlmLaw>> Net<N> {
-    ghost use Rattle.plat_build.specs.Net.{AreMemories};
+    ghost use Rattle.plat_build.specs.Net.{AreHops, AreMemories, ArePools};
 
     pub(crate) fn of_parts(
         plan: Plan,
         history: PlatHistory,
         tickets: Tokens,
         memories: Vec<SharedMemory<N>>,
+        hops: Vec<SharedHop<N>>,
+        pools: Vec<SharedPool<N>>,
     ) -> Net<N>
         requires plan { plan ≡ N.frame.world }
         requires history { (history.table ≡ N.table) × (history.frame ≡ N.frame) }
         requires tickets { tickets ≡ N.tokens }
         requires memories { AreMemories plan memories.items }
+        requires hops { AreHops plan.platform hops.items }
+        requires pools { ArePools plan.platform pools.items }
         ensures { result ≡ plan }
     {
         Net {
@@ -64,6 +75,8 @@ impl<N: Naming<Plan, TlmLaw>> Net<N> {
             history,
             tickets,
             memories,
+            hops,
+            pools,
         }
     }
 
@@ -97,25 +110,61 @@ impl<N: Naming<Plan, TlmLaw>> Net<N> {
         &self.memories[number as usize]
     }
 
-    /// The history, the tokens, and the memories in order.
+    /// The hop with this number.
+    pub fn hop(&self, number: u32) -> &SharedHop<N>
+        requires { number < hop_count self.now.platform }
+        ensures { result.now ≡ hop_numbers self.now.platform number }
+    {
+        &self.hops[number as usize]
+    }
+
+    /// The pool of the initiator with this number, which is of four phases.
+    pub fn pool(&self, initiator: u32) -> &SharedPool<N>
+        requires { HasPool self.now.platform initiator }
+        ensures { result.now ≡ pool_numbers self.now.platform initiator }
+    {
+        pool_of(&self.pools, initiator)
+    }
+
+    /// The history, the tokens, and the memories, hops and pools in order.
     pub fn into_parts(self) -> NetParts<N>
         ensures world { self ≡ N.frame.world }
         ensures history { (result.history.table ≡ N.table) × (result.history.frame ≡ N.frame) }
         ensures tickets { result.tickets ≡ N.tokens }
         ensures memories { AreMemories self result.memories.items }
+        ensures hops { AreHops self.platform result.hops.items }
+        ensures pools { ArePools self.platform result.pools.items }
     {
         let Net {
             plan: _,
             history,
             tickets,
             memories,
+            hops,
+            pools,
         } = self;
         NetParts {
             history,
             tickets,
             memories,
+            hops,
+            pools,
         }
     }
+}
+
+// The one of these pools that is the initiator's.
+fn pool_of<N: Naming<Plan, TlmLaw>>(pools: &[SharedPool<N>], initiator: u32) -> &SharedPool<N>
+    requires { HasPoolOf pools.now initiator }
+    ensures own { result.now.own ≡ initiator }
+    ensures has { Has pools.now result.now }
+{
+    for pool in pools {
+        if pool.own_number() == initiator {
+            return pool;
+        }
+    }
+    unreachable!()
 }
 
 impl<N: Naming<Plan, TlmLaw>> Reach<N> for Net<N> {

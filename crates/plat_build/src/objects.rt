@@ -4,7 +4,9 @@ ghost use Rattle.std.specs.List.{range_with_len};
 ghost use Rattle.tlm_types.specs.declared.words.ObjectNo.TheVariants.{Memory as MemoryObject, Hop as HopObject, Pool as PoolObject};
 ghost use Rattle.route_plan.specs.Planned.{planned_at};
 ghost use Rattle.route_plan.specs.Valid.{hop_count, IsObject};
-ghost use Rattle.plat_build.specs.Objects.{gates_at, has_pool, notes_of, objects_of, pools_of};
+ghost use Rattle.cargo_model.specs.Known.{has_pool, objects_of};
+ghost use Rattle.cargo_net.specs.Gates.{gates_at};
+ghost use Rattle.plat_build.specs.Objects.{notes_of, pools_of};
 
 use route_plan::Plan;
 use std::alloc::{AllocError, Global};
@@ -49,7 +51,7 @@ fn push_hops(objects: &mut Vec<ObjectNo>, plan: &Plan) -> Result<(), AllocError>
     Ok(())
 }
 
-fn has_pool(style: Style) -> bool
+pub(crate) fn has_pool(style: Style) -> bool
     ensures { result ≡ has_pool style }
 {
     match style {

@@ -2,8 +2,8 @@
 ghost use Rattle.std.specs.Prelude.{◌≡◌, ◌<◌, ◌≤◌, length};
 ghost use Rattle.shared_object.specs.Steps.{IsNote};
 ghost use Rattle.token_book.specs.Purse.{IsOf, bytes_of, left_of};
-ghost use Rattle.region_object.specs.Call.{IsFit, cost_of, payload_of};
-ghost use Rattle.plat_build.specs.Calls.{IsCalled, OneTicketLess};
+ghost use Rattle.region_object.specs.Call.{IsFit, cost_of, payload_of, txn_of};
+ghost use Rattle.plat_build.specs.Calls.{HasNoPassage, IsCalled, OneTicketLess};
 
 use crate::law::{PlatNote, TlmLaw};
 use crate::net::Net;
@@ -31,6 +31,7 @@ pub trait Reach<N: Naming<Plan, TlmLaw>> {
     ) -> (Payload, PlatNote)
         requires memory { memory < length N.frame.world.platform.memories }
         requires fit { IsFit call }
+        requires passage { HasNoPassage N.frame.world (txn_of call) }
         requires note { IsNote N.table note }
         requires wallet { IsOf N.tokens wallet.old }
         requires ticket { (0 < left_of wallet.old memory) × (cost_of call ≤ bytes_of wallet.old memory) }

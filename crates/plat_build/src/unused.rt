@@ -1,21 +1,18 @@
 // The end of a history of whose net nothing was handed out.
-ghost use Rattle.std.specs.Prelude.{◌≡◌, ◌≢◌, ℕ, ◌+◌, ◌<◌, [], length, sum_by, IfOk};
-ghost use Rattle.std.specs.List.{range_with_len};
-ghost use Rattle.tlm_types.specs.declared.words.ObjectNo.TheVariants.{Memory as MemoryObject};
+ghost use Rattle.std.specs.Prelude.{◌≡◌, ◌≢◌, ℕ, ◌+◌, [], length, IfOk, OnOk};
+ghost use Rattle.tlm_types.specs.declared.words.ObjectNo.{ObjectNo as Object};
 ghost use Rattle.token_book.specs.Account.{out_of};
 ghost use Rattle.token_book.specs.Purse.{IsOf, left_of};
-ghost use Rattle.route_plan.specs.Counted.{share_at};
-ghost use Rattle.plat_build.specs.Kept.{all_waiting, AreFreshFrom};
-ghost use Rattle.plat_build.specs.Net.{AreMemories};
-ghost use Rattle.plat_build.specs.Objects.{frame_of};
-ghost use Rattle.plat_build.specs.Unused.{AddUp, AreUnused, HaveTicketsFrom, IsUnused};
+ghost use Rattle.plat_build.specs.Kept.{all_waiting};
+ghost use Rattle.plat_build.specs.Objects.{frame_of, HasObject};
+ghost use Rattle.plat_build.specs.Unused.{added_by_all, AddUp, AreNumberedFrom, AreUnused, HaveTicketsFrom, IsThere, IsUnused};
 
 use crate::building::Built;
-use crate::law::{PlatSeat, SharedMemory, TlmLaw};
+use crate::law::{PlatSeat, TlmLaw};
 use crate::net::NetParts;
 use one_history::{Closed, Sealed};
 use route_plan::Plan;
-use shared_object::Naming;
+use shared_object::{Naming, Object, Shared, World};
 use std::alloc::{AllocError, Global};
 use std::sync::Wait;
 use tlm_types::{Content, Memory};
@@ -37,7 +34,7 @@ fn retire_from(tickets: &Tokens, book: &mut Book, wallet: &mut Wallet)
     }
 }
 
-// Retires the tickets of the book's owner, a memory, that the wallets of all initiators have.
+// Retires the tickets of the book's owner that the wallets of all initiators have.
 fn retire_from_all<N: Naming<Plan, TlmLaw>>(
     tickets: &Tokens,
     book: &mut Book,
@@ -45,11 +42,9 @@ fn retire_from_all<N: Naming<Plan, TlmLaw>>(
 )
     requires tickets { tickets.now ≡ N.tokens }
     requires book { book.old.table ≡ N.tokens }
-    requires memory { book.old.owner < length N.frame.world.platform.memories }
     requires wallets { HaveTicketsFrom N.tokens N.frame.world book.old.owner wallets.old }
-    ensures out { out_of 0 book.new.out
-        + sum_by (λ n. share_at N.frame.world n (MemoryObject book.old.owner)) (range_with_len 0 (length N.frame.world.platform.initiators))
-        ≡ out_of 0 book.old.out }
+    ensures out { (object : Object) → HasObject N.frame.world.platform book.old.owner object →
+        out_of 0 book.new.out + added_by_all N.frame.world object ≡ out_of 0 book.old.out }
     ensures wallets { HaveTicketsFrom N.tokens N.frame.world (book.old.owner + 1) wallets.new }
 {
     for wallet in wallets.iter_mut() {
@@ -57,46 +52,51 @@ fn retire_from_all<N: Naming<Plan, TlmLaw>>(
     }
 }
 
-// The seat of a memory whose tickets are all in the wallets. As many are retired as entries are planned,
+// The seat of an object whose tickets are all in the wallets. As many are retired as entries are planned,
 // so that its log has none.
-fn unused_seat<N: Naming<Plan, TlmLaw>, R: Wait>(
+fn unused_seat<O: Object + Drop, N: Naming<Plan, TlmLaw>, R: Wait>(
     rt: &R,
     tickets: &Tokens,
-    memory: SharedMemory<N>,
+    object: Shared<O, Plan, TlmLaw, N>,
     wallets: &mut [Wallet],
 ) -> PlatSeat
+where
+    TlmLaw: World<Plan, O>,
     requires tickets { tickets.now ≡ N.tokens }
-    requires memory { memory.number < length N.frame.world.platform.memories }
+    requires there { IsThere N.frame.world.platform object.number }
     requires planned { AddUp N.frame }
-    requires wallets { HaveTicketsFrom N.tokens N.frame.world memory.number wallets.old }
-    ensures seat { IsUnused N.table N.frame memory.number result }
-    ensures wallets { HaveTicketsFrom N.tokens N.frame.world (memory.number + 1) wallets.new }
+    requires wallets { HaveTicketsFrom N.tokens N.frame.world object.number wallets.old }
+    ensures seat { IsUnused N.table N.frame object.number result }
+    ensures wallets { HaveTicketsFrom N.tokens N.frame.world (object.number + 1) wallets.new }
 {
-    let (_, seat, mut book) = memory.into_parts(rt);
+    let (_, seat, mut book) = object.into_parts(rt);
     retire_from_all::<N>(tickets, &mut book, wallets);
     seat
 }
 
-// The seats of the memories, whose tickets are all in the wallets.
-fn unused_seats<N: Naming<Plan, TlmLaw>, R: Wait>(
+// The seats of these objects, which come after those whose seats are there.
+fn push_unused<O: Object + Drop, N: Naming<Plan, TlmLaw>, R: Wait>(
     rt: &R,
-    alloc: Global,
     tickets: &Tokens,
-    memories: Vec<SharedMemory<N>>,
+    objects: Vec<Shared<O, Plan, TlmLaw, N>>,
+    seats: &mut Vec<PlatSeat>,
     wallets: &mut [Wallet],
-) -> Result<Vec<PlatSeat>, AllocError>
+) -> Result<(), AllocError>
+where
+    TlmLaw: World<Plan, O>,
     requires tickets { tickets.now ≡ N.tokens }
-    requires memories { AreMemories N.frame.world memories.items }
     requires planned { AddUp N.frame }
-    requires wallets { HaveTicketsFrom N.tokens N.frame.world 0 wallets.old }
-    ensures seats { IfOk result (λ seats. AreUnused N.table N.frame seats.items) }
-    ensures count { IfOk result (λ seats. length seats.items ≡ length N.frame.world.platform.memories) }
+    requires numbered { AreNumberedFrom N.frame (length seats.old.items) objects.items }
+    requires seats { AreUnused N.table N.frame seats.old.items }
+    requires wallets { HaveTicketsFrom N.tokens N.frame.world (length seats.old.items) wallets.old }
+    ensures seats { OnOk result (AreUnused N.table N.frame seats.new.items) }
+    ensures count { OnOk result (length seats.new.items ≡ length seats.old.items + length objects.items) }
+    ensures wallets { OnOk result (HaveTicketsFrom N.tokens N.frame.world (length seats.new.items) wallets.new) }
 {
-    let mut seats = Vec::new(alloc);
-    for memory in memories {
-        seats.push(unused_seat(rt, tickets, memory, wallets))?;
+    for object in objects {
+        seats.push(unused_seat(rt, tickets, object, wallets))?;
     }
-    Ok(seats)
+    Ok(())
 }
 
 /// Ends the history of a net of which nothing was handed out. It has no entries: this is what tells that
@@ -108,16 +108,10 @@ pub fn close_unused<N: Naming<Plan, TlmLaw>, R: Wait>(
 ) -> Result<Sealed<Content, Plan, TlmLaw>, Memory>
     requires frame { N.frame ≡ frame_of built.net }
     requires kept { built.kept ≡ all_waiting built.net.platform }
-    requires seats { AreFreshFrom N.table N.frame (length built.net.platform.memories) built.seats.items }
-    requires count { length built.seats.items + length built.net.platform.memories ≡ length N.frame.planned }
     ensures empty { IfOk result (λ s. s.entries ≡ []) }
     ensures world { IfOk result (λ s. (s.table ≡ N.table) × (s.world ≡ built.net)) }
 {
-    let Built {
-        net,
-        kept,
-        seats: mut more,
-    } = built;
+    let Built { net, kept } = built;
     // There is an initiator, and its script tells that each has one.
     let _ = net.plan().platform();
     let _ = net.plan().script(0);
@@ -126,9 +120,13 @@ pub fn close_unused<N: Naming<Plan, TlmLaw>, R: Wait>(
         history,
         tickets,
         memories,
+        hops,
+        pools,
     } = net.into_parts();
-    let mut seats = unused_seats(rt, alloc, &tickets, memories, &mut wallets)?;
-    seats.append(&mut more)?;
+    let mut seats = Vec::new(alloc);
+    push_unused(rt, &tickets, memories, &mut seats, &mut wallets)?;
+    push_unused(rt, &tickets, hops, &mut seats, &mut wallets)?;
+    push_unused(rt, &tickets, pools, &mut seats, &mut wallets)?;
     let Closed::Done(sealed) = history.close(seats, Vec::new(alloc)) else {
         unreachable!()
     };

@@ -1,12 +1,13 @@
-// The wallets of the initiators, and the tickets of the memories.
+// The wallets of the initiators, and the tickets of the objects.
 ghost use Rattle.std.specs.Prelude.{◌≡◌, ℕ, ◌+◌, ◌<◌, ◌≤◌, ◌^◌, length, sum_by, IfOk};
 ghost use Rattle.std.specs.List.{range_with_len};
-ghost use Rattle.tlm_types.specs.declared.words.ObjectNo.TheVariants.{Memory as MemoryObject};
 ghost use Rattle.token_book.specs.Account.{fresh, out_of};
 ghost use Rattle.token_book.specs.Purse.{HasPlace, IsOf};
-ghost use Rattle.route_plan.specs.Counted.{share_at, logged_share_at};
-ghost use Rattle.plat_build.specs.Objects.{objects_of};
+ghost use Rattle.route_plan.specs.Valid.{IsObject};
+ghost use Rattle.cargo_model.specs.Known.{objects_of};
+ghost use Rattle.plat_build.specs.Objects.{bytes_at, HasObject};
 ghost use Rattle.plat_build.specs.Tickets.{AreStocked, GotRights, IsOut};
+ghost use Rattle.plat_build.specs.Unused.{added_by_all};
 
 use route_plan::Plan;
 use std::alloc::Global;
@@ -48,29 +49,41 @@ fn stock(tickets: &Tokens, book: &mut Book, wallet: &mut Wallet, entries: u64, b
     wallet.put(tickets, rights);
 }
 
-/// Issues the tickets of a memory to the wallets of all initiators: to each as many as the plan counts
-/// for it, for as many bytes.
+// The bytes that the script of an initiator may log at an object: no other than a memory logs any.
+fn bytes_at(plan: &Plan, initiator: u32, object: ObjectNo) -> u64
+    requires initiator { initiator < length plan.now.platform.initiators }
+    requires object { IsObject plan.now.platform object }
+    ensures bytes { result ≡ bytes_at plan.now initiator object }
+    ensures few { result ≤ 67108864 }
+{
+    match object {
+        ObjectNo::Memory(memory) => plan.logged_by(initiator, memory),
+        ObjectNo::Hop(_) | ObjectNo::Pool(_) => 0,
+    }
+}
+
+/// Issues the tickets of an object, which is that of the book, to the wallets of all initiators: to each
+/// as many as the plan counts for it, for as many bytes.
 pub(crate) fn issue_all(
     tickets: &Tokens,
     plan: &Plan,
-    memory: u32,
+    object: ObjectNo,
     book: &mut Book,
     wallets: &mut [Wallet],
 )
-    requires memory { memory < length plan.now.platform.memories }
-    requires book { book.old ≡ fresh tickets.now memory }
-    requires wallets { AreStocked tickets.now plan.now memory wallets.old }
-    ensures table { (book.new.table ≡ tickets.now) × (book.new.owner ≡ memory) }
-    ensures entries { out_of 0 book.new.out
-        ≡ sum_by (λ n. share_at plan.now n (MemoryObject memory)) (range_with_len 0 (length plan.now.platform.initiators)) }
+    requires object { HasObject plan.now.platform book.old.owner object }
+    requires book { book.old ≡ fresh tickets.now book.old.owner }
+    requires wallets { AreStocked tickets.now plan.now book.old.owner wallets.old }
+    ensures table { (book.new.table ≡ tickets.now) × (book.new.owner ≡ book.old.owner) }
+    ensures entries { out_of 0 book.new.out ≡ added_by_all plan.now object }
     ensures bytes { out_of 1 book.new.out
-        ≡ sum_by (λ n. logged_share_at plan.now n memory) (range_with_len 0 (length plan.now.platform.initiators)) }
-    ensures wallets { AreStocked tickets.now plan.now (memory + 1) wallets.new }
+        ≡ sum_by (λ n. bytes_at plan.now n object) (range_with_len 0 (length plan.now.platform.initiators)) }
+    ensures wallets { AreStocked tickets.now plan.now (book.old.owner + 1) wallets.new }
 {
     for index in 0..plan.platform().initiators.as_slice().len() {
         let initiator = index as u32;
-        let entries = plan.share(initiator, ObjectNo::Memory(memory));
-        let bytes = plan.logged_by(initiator, memory);
+        let entries = plan.share(initiator, object);
+        let bytes = bytes_at(plan, initiator, object);
         stock(tickets, book, &mut wallets[index], entries, bytes);
     }
 }

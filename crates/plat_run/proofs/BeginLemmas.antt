@@ -7,7 +7,7 @@ use Rattle.std.proofs.lemmas.List.{get_or_append_left, get_or_push, length_push}
 use Rattle.atomic_table.specs.Seated.{TableId}
 use Rattle.view_lists.proofs.Members.{has_none}
 use Rattle.one_history.specs.declared.view.View.{View}
-use Rattle.token_book.specs.Purse.{Purse}
+use Rattle.token_book.specs.Purse.{Purse, bytes_of}
 use Rattle.tlm_types.specs.declared.entry.Content.{Content}
 use Rattle.tlm_types.specs.declared.words.ObjectNo.TheVariants.{Memory}
 use Rattle.tlm_model.specs.declared.operation.Operation.{Operation}
@@ -39,6 +39,7 @@ use Rattle.initiator_run.proofs.EndLemmas.{HasCome-begun}
 use Rattle.run_outcome.proofs.ListLemmas.{has_element}
 use Rattle.plat_build.specs.declared.kept.Start.{Start}
 use Rattle.plat_build.specs.Kept.{HasShares, IsStart, Waiting}
+use Rattle.plat_build.proofs.NumberLemmas.{memory_there}
 use Rattle.plat_run.specs.Job.{HasTickets, IsInitiator, IsJob}
 
 -- a proper script invalidates nothing
@@ -79,8 +80,9 @@ module _ (p : Plan) (valid : IsValid p) (n : ℕ) (i : Initiator) (at : slice_ge
       let script = proper_at p valid n i at in
       let share : share_at p n (Memory m) ≡ share_of p i (Memory m) = ap (share_by p (Memory m)) at in
       let logged : logged_share_at p n m ≡ logged_share p i m = ap (logged_share_by p m) at in
-      let left = shares.left m below in
-      let bytes = shares.bytes m below in
+      let there = memory_there p.platform m below in
+      let left = shares.left m (Memory m) there in
+      let bytes : bytes_of w m ≡ logged_share_at p n m = shares.bytes m (Memory m) there in
       let asks = asks_shared p i m blocking script.each in
       let logs = bytes_shared p i m in
       record { left = omega arith; bytes = omega arith; all = omega arith }

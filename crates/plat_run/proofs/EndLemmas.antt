@@ -15,6 +15,8 @@ use Rattle.tlm_model.specs.Plan.{Plan, Initiator, initiators_of}
 use Rattle.tlm_model.specs.Requests.{refused_of}
 use Rattle.report_model.specs.Laws.{IsEndByLatencies}
 use Rattle.flow_plan.specs.Plans.{HasNoFourPhase}
+use Rattle.grant_model.specs.Laws.{HasNoDirect, HasNoInvalidation}
+use Rattle.grant_model.proofs.Ungranted.{nothing_is_closed}
 use Rattle.good_history.specs.Good.{IsGood}
 use Rattle.good_history.specs.Laws.{AllDecoupled}
 use Rattle.joined_runs.specs.Counting.{AreAll, IsRising, lengths_of}
@@ -22,7 +24,7 @@ use Rattle.joined_runs.specs.Joined.{EndsOwn, IsJoined, IsLogOf, KeepsOwn}
 use Rattle.joined_runs.specs.Own.{own}
 use Rattle.joined_runs.proofs.CountLemmas.{IsRising-filter, each_owned, has_kept, kept_has, rising_same}
 use Rattle.joined_runs.proofs.OwnLemmas.{own_is_enough}
-use Rattle.joined_runs.proofs.WholeLemmas.{joined_is_good}
+use Rattle.joined_runs.proofs.WholeLemmas.{joined_is_good, joined_keeps_requests}
 use Rattle.route_plan.specs.Counted.{share_by}
 use Rattle.route_plan.specs.Planned.{planned_at, share_of}
 use Rattle.initiator_run.specs.Run.{refused_item}
@@ -145,8 +147,8 @@ module _ (p : Plan) (h : List Entry) (mine : ℕ → List Entry) (ends : ℕ →
     memories = λ m. log_of m (slice_get p.platform.memories m) refl;
   }
 
-  pub history_is_good : HasNoFourPhase p → IsGood p h
-  history_is_good none = joined_is_good p h none (own_has (λ i l. AllDecoupled l) (λ k less. (have.initiators k less).decoupled)) joined (own_has (λ i l. EndsOwn p.platform i l) (λ k less. (have.initiators k less).ended))
+  pub history_is_good : HasNoFourPhase p → HasNoDirect p → HasNoInvalidation p → IsGood p h
+  history_is_good none direct closes = joined_is_good p h none direct (own_has (λ i l. AllDecoupled l) (λ k less. (have.initiators k less).decoupled)) (nothing_is_closed p h closes (joined_keeps_requests p h joined)) joined (own_has (λ i l. EndsOwn p.platform i l) (λ k less. (have.initiators k less).ended))
 
   -- how an initiator ended, by the whole history
   pub ended_as : (k : ℕ) (i : Initiator) → slice_get (initiators_of p) k ≡ Some i → IsEndByLatencies p.platform i h (ends k)

@@ -11,6 +11,7 @@ use Rattle.shared_object.specs.Written.{noted, placed}
 use Rattle.tlm_types.specs.declared.entry.Content.{Content}
 use Rattle.tlm_types.specs.declared.entry.Entry.{Entry}
 use Rattle.tlm_types.specs.declared.words.ObjectNo.{ObjectNo}
+use Rattle.tlm_types.specs.declared.words.TxnId.{TxnId}
 use Rattle.tlm_types.specs.declared.words.ObjectNo.TheVariants.{Memory}
 use Rattle.tlm_model.specs.declared.platform.Style.TheVariants.{Blocking}
 use Rattle.tlm_model.specs.History.{entries_at}
@@ -19,26 +20,27 @@ use Rattle.tlm_model.proofs.HistoryLemmas.{AllByRecursion-push}
 use Rattle.flow_plan.specs.Plans.{IsDecoupled}
 use Rattle.joined_runs.proofs.CountLemmas.{IsRising-push}
 use Rattle.generic_payload.specs.Payload.{PayloadView}
-use Rattle.region_object.specs.declared.call.RegionReply.{RegionReply}
-use Rattle.region_object.specs.declared.call.RegionReply.TheVariants.{Accessed, Moved}
-use Rattle.region_object.specs.Region.{region_entry, reply_of}
+use Rattle.region_object.specs.Region.{LoggedMemory, after_call, region_entry}
 use Rattle.region_object.specs.Written.{written_from}
 use Rattle.route_plan.specs.declared.step.Route.{Route}
 use Rattle.route_plan.specs.Counted.{share_at}
 use Rattle.script_engine.specs.declared.part.Transfer.{Transfer}
+use Rattle.script_engine.specs.declared.part.TransferKind.{TransferKind}
+use Rattle.script_engine.specs.declared.part.TransferKind.TheVariants as transfer
 use Rattle.script_engine.specs.Part.{is_fenced_kind}
-use Rattle.script_engine.specs.State.{State, op_of}
-use Rattle.initiator_run.specs.Access.{IsRouteOf, bytes_back, entry_made, next_call, payload_in_reply, model_route}
+use Rattle.script_engine.specs.State.{State, op_of, payload_of}
+use Rattle.initiator_run.specs.Access.{IsRouteOf, bytes_back, call_at, entry_made, next_call, model_route, payload_room}
 use Rattle.initiator_run.specs.Left.{asks_left, bytes_at, bytes_left, leads}
 use Rattle.initiator_run.specs.Moves.{HasReached}
 use Rattle.initiator_run.specs.Run.{Run, accessed, engine_after}
 use Rattle.initiator_run.proofs.AccessLemmas.{transfer_is_not_done}
+use Rattle.quantum_keeper.specs.Keeper.{current_time}
 use Rattle.run_outcome.proofs.PlanLemmas.{blocking_at, initiator_number}
 use Rattle.initiator_run.proofs.EntryLemmas.{entries_at-push, HasCome-turn, goes_on_with}
 use Rattle.initiator_run.proofs.LeftLemmas.{bytes_after, cost_at, leads_elsewhere, leads_there, left_after}
 use Rattle.initiator_run.proofs.RunLemmas.{accessed_finished, accessed_initiator, accessed_step}
 use Rattle.initiator_run.proofs.SendLemmas.{bytes_come_back, entry_is_made, whole_comes_back}
-use Rattle.plat_build.specs.Calls.{IsCalled, OneTicketLess, returned}
+use Rattle.plat_build.specs.Calls.{IsCalled, OneTicketLess}
 use Rattle.plat_run.specs.Entries.{entries_read, entry_read}
 use Rattle.plat_run.specs.Job.{HasMade, HasTickets, IsInitiator, owner_of, position_of}
 use Rattle.plat_run.proofs.PathLemmas.{route_of_next}
@@ -58,9 +60,10 @@ knows_last m es e known is knows =
     subst (Has (entries_read known)) (read_back m h.0 e is)
     (has_mapped entry_read known (placed m (noted h.0 e)) (knows (placed m (noted h.0 e)) (has_mapped (placed m) (written_from 0 (es ++ e ∷ [])) (noted h.0 e) h.1)))
 
-same_reply : (reply : RegionReply) → returned reply ≡ payload_in_reply reply
-same_reply (Accessed payload) = refl
-same_reply (Moved payload moved) = refl
+-- the call of a transfer adds its entry to the log
+adds_entry : (m : LoggedMemory) (position : ℕ) (kind : TransferKind) (txn : TxnId) (t before : ℕ) (p : PayloadView) → (after_call m position (call_at kind txn t before p)).log.entries ≡ m.log.entries ++ region_entry m position (call_at kind txn t before p) ∷ []
+adds_entry m position (transfer.Access command plain fenced) txn t before p = refl
+adds_entry m position transfer.DebugRead txn t before p = refl
 
 -- an access of a run along its route: what it did to the note and the wallet
 pub record HasSent (p : Plan) (r : Run) (x : Transfer) (route : Route) (note back : View Content Plan) (old new : Purse) (payload : PayloadView) : Type 0 where
@@ -89,7 +92,7 @@ module _ (p : Plan) (r : Run) (x : Transfer) (route : Route) (note back : View C
 
   pub told : is_fenced_kind x.kind ≡ true → payload.bytes ≡ bytes_back r x sent.called.memory route
   told waits =
-      ap (λ (y : PayloadView). y.bytes) (sent.called.answer ∙ same_reply (reply_of sent.called.memory (next_call r x route)))
+      ap (λ (y : PayloadView). y.bytes) sent.called.answer
       ∙ bytes_come_back r x sent.called.memory route waits
 
   pub whole : is_fenced_kind x.kind ≡ true → length payload.bytes ≡ x.length
@@ -100,7 +103,10 @@ module _ (p : Plan) (r : Run) (x : Transfer) (route : Route) (note back : View C
       let m = sent.called.memory in
       let same : region_entry m sent.called.position (next_call r x route) ≡ the_entry = entry_is_made r x m route sent.called.position reached.next in
       knows_last route.memory m.log.entries the_entry back.known object_is
-      (subst (λ (e : Entry). Within (map (placed route.memory) (written_from 0 (m.log.entries ++ e ∷ []))) back.known) same sent.called.knows)
+      let added = adds_entry m sent.called.position x.kind (record { initiator = r.engine.initiator; seq = r.engine.seq }) (current_time r.keeper) route.before (record (payload_of r.engine payload_room) { address = route.offset }) in
+      let knows : Within (map (placed route.memory) (written_from 0 (m.log.entries ++ region_entry m sent.called.position (next_call r x route) ∷ []))) back.known =
+      subst (λ (es : List Entry). Within (map (placed route.memory) (written_from 0 es)) back.known) added sent.called.knows in
+      (subst (λ (e : Entry). Within (map (placed route.memory) (written_from 0 (m.log.entries ++ e ∷ []))) back.known) same knows)
 
   old_known : (e : Entry) → Has (entries_read note.known) e → Has (entries_read back.known) e
   old_known e has =

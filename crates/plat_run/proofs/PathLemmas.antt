@@ -10,9 +10,11 @@ use Rattle.generic_payload.specs.Payload.{PayloadView}
 use Rattle.one_history.specs.declared.view.View.{View}
 use Rattle.tlm_types.specs.declared.entry.Content.{Content}
 use Rattle.region_object.specs.Call.{IsFit}
+use Rattle.flow_plan.proofs.Decoupled.{no_passage}
 use Rattle.route_plan.specs.declared.step.Route.{Route}
 use Rattle.route_plan.specs.Plans.{walk_at}
 use Rattle.route_plan.specs.Routes.{route_by}
+use Rattle.route_plan.specs.Valid.{IsValid}
 use Rattle.script_engine.specs.declared.part.Part.TheVariants.{Asks}
 use Rattle.script_engine.specs.declared.part.Transfer.{Transfer}
 use Rattle.script_engine.specs.declared.part.TransferKind.{TransferKind}
@@ -24,12 +26,17 @@ use Rattle.initiator_run.specs.Left.{bytes_at}
 use Rattle.initiator_run.specs.Moves.{HasReached}
 use Rattle.initiator_run.specs.Run.{Run}
 use Rattle.run_outcome.proofs.ListLemmas.{is_within}
+use Rattle.run_outcome.proofs.PlanLemmas.{no_fourphase}
 use Rattle.initiator_run.proofs.RouteLemmas.{walk_memory, routed, unrouted}
 use Rattle.initiator_run.proofs.LeftLemmas.{bytes_after, cost_at, leads_there, left_after}
 use Rattle.initiator_run.proofs.SendLemmas.{payload_fits}
-use Rattle.plat_build.specs.Calls.{CanPay, route_at}
+use Rattle.plat_build.specs.Calls.{CanPay, HasNoPassage, route_at}
 use Rattle.plat_run.specs.Job.{IsInitiator}
 use Rattle.plat_run.specs.Sent.{IsSentBy}
+
+-- in a valid plan nobody passes a hop
+pub none_pass : (p : Plan) → IsValid p → (x : TxnId) → HasNoPassage p x
+none_pass p valid x = no_passage p (no_fourphase p valid) x
 
 sent_by : (kind : TransferKind) (txn : TxnId) (t before offset : ℕ) (payload : PayloadView) → IsFit (call_at kind txn t before (record payload { address = offset })) → IsSentBy kind payload
 sent_by (transfer.Access command plain fenced) txn t before offset payload fit = fit.1

@@ -37,12 +37,12 @@ use Rattle.route_plan.specs.Valid.{IsValid}
 use Rattle.run_outcome.specs.Merge.{merged}
 use Rattle.run_outcome.specs.Outcome.{IsWhole}
 use Rattle.run_outcome.specs.Places.{entries_of_logs}
-use Rattle.run_outcome.proofs.PlanLemmas.{blocking_apart, blocking_at, no_fourphase}
+use Rattle.run_outcome.proofs.PlanLemmas.{blocking_apart, blocking_at, no_direct, no_fourphase, no_invalidation}
 use Rattle.initiator_run.proofs.EntryLemmas.{some_row, bytes_are}
 use Rattle.route_plan.proofs.ShareLemmas.{count_initiators}
 use Rattle.run_outcome.proofs.ListLemmas.{at_map, has_element, within}
-use Rattle.plat_build.specs.Kept.{AreFreshFrom}
 use Rattle.plat_build.specs.Objects.{frame_of}
+use Rattle.plat_build.specs.Unused.{AreUnusedFrom}
 use Rattle.plat_build.proofs.ObjectLemmas.{planned_at_memory}
 use Rattle.plat_run.specs.End.{HasEnded, HasLeft, HaveEnded}
 use Rattle.plat_run.specs.Entries.{entries_read, entry_read}
@@ -76,7 +76,7 @@ back_at (y ∷ l) m j zero x is at = absurd (omega arith)
 back_at (y ∷ l) m j (suc k) x is at = back_at l m j k x (omega arith) at
 
 -- the seats of the memories and those of the objects after them are the seats of all objects, in order
-pub all_seats : (table : TableId) (frame : Frame Plan) (n : ℕ) (logs : List LogView) (stores : List (List ℕ)) (seats more : List (Held Content Plan)) → AreDoneWith table frame n logs stores seats → AreFreshFrom table frame n more → AreSeats table frame (seats ++ more)
+pub all_seats : (table : TableId) (frame : Frame Plan) (n : ℕ) (logs : List LogView) (stores : List (List ℕ)) (seats more : List (Held Content Plan)) → AreDoneWith table frame n logs stores seats → AreUnusedFrom table frame n more → AreSeats table frame (seats ++ more)
 all_seats table frame n logs stores seats more done fresh o s at = ⊎_elim
     (λ (here : o < length seats).
     let log = has_element logs o (let a = done.seats_count in let b = done.logs_count in omega arith) in
@@ -93,9 +93,9 @@ all_seats table frame n logs stores seats more done fresh o s at = ⊎_elim
     let same : there.item ≡ s = at_once (seats ++ more) o there.item s (back_at seats more (o - length seats) o there.item (omega arith) there.at) at in
     let is = fresh (o - length seats) there.item there.at in
     let place : n + (o - length seats) ≡ o = (let a = done.seats_count in omega arith) in (
-      ap (λ (x : Held Content Plan). x.table) (sym same) ∙ is.0,
-      ap (λ (x : Held Content Plan). x.knows.frame) (sym same) ∙ ap (λ (v : View Content Plan). v.frame) is.1,
-      ap (λ (x : Held Content Plan). number_of x.knows) (sym same) ∙ (ap number_of is.1 ∙ place),
+      ap (λ (x : Held Content Plan). x.table) (sym same) ∙ is.of,
+      ap (λ (x : Held Content Plan). x.knows.frame) (sym same) ∙ is.framed,
+      ap (λ (x : Held Content Plan). number_of x.knows) (sym same) ∙ (is.numbered ∙ place),
     ))
     (cases_lt o (length seats))
 
@@ -107,7 +107,7 @@ past_end (x ∷ l) (suc k) past = past_end l k (omega arith)
 module _ (p : Plan) (table : TableId) (frame : Frame Plan) (ends : List EndOf) (notes : List (Held Content Plan)) (logs : List LogView) (stores : List (List ℕ)) (seats more : List (Held Content Plan)) (all : List (HistoryEntry Content))
     (valid : IsValid p) (is_frame : frame ≡ frame_of p)
     (finished : AreFinished table p (length p.platform.initiators) ends notes) (done : AreDoneWith table frame (length p.platform.memories) logs stores seats)
-    (fresh : AreFreshFrom table frame (length p.platform.memories) more) (count : length more + length p.platform.memories ≡ length frame.planned)
+    (fresh : AreUnusedFrom table frame (length p.platform.memories) more) (count : length more + length p.platform.memories ≡ length frame.planned)
     (merge : IsMerge (seats ++ more) all) (planned : ArePlanned frame all) (tell : Tell notes 0 all) where
   abbrev h : List Entry
   h = entries_read all
@@ -121,7 +121,7 @@ module _ (p : Plan) (table : TableId) (frame : Frame Plan) (ends : List EndOf) (
       (λ (here : o < length (seats ++ more)).
       let there = at_back seats more o (let s = done.seats_count in omega arith) here in
       let seat_is = fresh (o - length seats) there.item there.at in
-      let own : own_of there.item.knows ≡ [] = ap own_of seat_is.1 in
+      let own : own_of there.item.knows ≡ [] = seat_is.own in
       merge.1 o there.item (back_at seats more (o - length seats) o there.item (let s = done.seats_count in omega arith) there.at) ∙ own)
       (λ (beyond : length (seats ++ more) ≤ o).
       let few = planned o in
@@ -256,7 +256,7 @@ module _ (p : Plan) (table : TableId) (frame : Frame Plan) (ends : List EndOf) (
   }
 
   pub good : IsGood p h
-  good = history_is_good p h mine_of end_of log_of have_ended (no_fourphase p valid)
+  good = history_is_good p h mine_of end_of log_of have_ended (no_fourphase p valid) (no_direct p valid) (no_invalidation p valid)
 
   end_is : (k : ℕ) (c : (k < length (initiators_of p)) ⊎ (length (initiators_of p) ≤ k)) (end : EndOf) → slice_get ends k ≡ Some end → end_if k c ≡ end
   unfolding end_if
@@ -344,7 +344,7 @@ module _ (p : Plan) (table : TableId) (frame : Frame Plan) (ends : List EndOf) (
 module _ (p : Plan) (table : TableId) (frame made : Frame Plan) (ends : List EndOf) (notes : List (Held Content Plan)) (logs : List LogView) (stores : List (List ℕ)) (seats more joined : List (Held Content Plan)) (all : List (HistoryEntry Content))
     (valid : IsValid p) (is_frame : frame ≡ frame_of p)
     (finished : AreFinished table p (length p.platform.initiators) ends notes) (done : AreDoneWith table frame (length p.platform.memories) logs stores seats)
-    (fresh : AreFreshFrom table frame (length p.platform.memories) more) (count : length more + length p.platform.memories ≡ length frame.planned)
+    (fresh : AreUnusedFrom table frame (length p.platform.memories) more) (count : length more + length p.platform.memories ≡ length frame.planned)
     (joined_is : joined ≡ seats ++ more) (made_is : made ≡ frame)
     (merge : IsMerge joined all) (planned : ArePlanned made all) (tell : Tell notes 0 all) where
   merge_is : IsMerge (seats ++ more) all

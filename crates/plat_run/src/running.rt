@@ -1,8 +1,9 @@
 // The run of a net.
 ghost use Rattle.std.specs.Prelude.{◌≡◌, ◌+◌, true, length, All, IfOk};
 ghost use Rattle.run_queue.specs.Queue.{AreNumbered};
-ghost use Rattle.plat_build.specs.Kept.{all_waiting, AreFreshFrom};
+ghost use Rattle.plat_build.specs.Kept.{all_waiting};
 ghost use Rattle.plat_build.specs.Objects.{frame_of};
+ghost use Rattle.plat_build.specs.Unused.{AreUnusedFrom};
 ghost use Rattle.route_plan.specs.Valid.{IsValid};
 ghost use Rattle.run_outcome.specs.Outcome.{IsWhole};
 ghost use Rattle.plat_run.specs.Actors.{is_done, number_of};
@@ -15,7 +16,9 @@ use crate::ending::{DoneWith, HandedIn, hand_in, take_apart};
 use crate::workers::{work_all, work_alone};
 use one_history::{Closed, Sealed};
 use outside::Pace;
-use plat_build::{Built, Net, NetParts, Opened, PlatHistory, PlatNote, PlatSeat, TlmLaw, build};
+use plat_build::{
+    Built, Net, NetParts, Opened, PlatHistory, PlatNote, PlatSeat, TlmLaw, build, idle_seats,
+};
 use route_plan::Plan;
 use run_outcome::{MergedLog, Outcome};
 use run_queue::RunQueue;
@@ -44,18 +47,12 @@ pub fn run<N: Naming<Plan, TlmLaw> + Send + Sync, P: Pace + Sync, R: Threads + W
 ) -> Result<(Outcome, PlatSealed), Memory>
     requires frame { N.frame ≡ frame_of built.net }
     requires kept { built.kept ≡ all_waiting built.net.platform }
-    requires seats { AreFreshFrom N.table N.frame (length built.net.platform.memories) built.seats.items }
-    requires count { length built.seats.items + length built.net.platform.memories ≡ length N.frame.planned }
     ensures whole { IfOk result (λ r. IsWhole built.net r.0) }
     ensures core { IfOk result (λ r. IsCoreRun built.net r.0.history.entries) }
     ensures sealed { IfOk result (λ r. entries_read r.1.entries ≡ r.0.history.entries) }
     ensures world { IfOk result (λ r. (r.1.table ≡ N.table) × (r.1.world ≡ built.net)) }
 {
-    let Built {
-        mut net,
-        mut kept,
-        seats,
-    } = built;
+    let Built { mut net, mut kept } = built;
     let jobs = begin_jobs(alloc, &net, &mut kept)?;
     let count = net.plan().platform().initiators.as_slice().len() as u32;
     let board = Board::new(alloc, count)?;
@@ -65,7 +62,10 @@ pub fn run<N: Naming<Plan, TlmLaw> + Send + Sync, P: Pace + Sync, R: Threads + W
         history,
         tickets: _,
         memories,
+        hops,
+        pools,
     } = net.into_parts();
+    let seats = idle_seats(rt, alloc, memories.len(), hops, pools)?;
     let done = take_apart(rt, alloc, memories)?;
     finish::<N>(history, ends, notes, done, seats)
 }
@@ -152,7 +152,7 @@ fn finish<N: Naming<Plan, TlmLaw>>(
     requires valid { IsValid N.frame.world }
     requires finished { AreFinished N.table N.frame.world (length N.frame.world.platform.initiators) ends.items notes.items }
     requires done { AreDoneWith N.table N.frame (length N.frame.world.platform.memories) done.logs.items done.stores.items done.seats.items }
-    requires fresh { AreFreshFrom N.table N.frame (length N.frame.world.platform.memories) more.items }
+    requires idle { AreUnusedFrom N.table N.frame (length N.frame.world.platform.memories) more.items }
     requires count { length more.items + length N.frame.world.platform.memories ≡ length N.frame.planned }
     ensures whole { IfOk result (λ r. IsWhole N.frame.world r.0) }
     ensures core { IfOk result (λ r. IsCoreRun N.frame.world r.0.history.entries) }

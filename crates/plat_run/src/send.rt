@@ -3,7 +3,7 @@ ghost use Rattle.std.specs.Prelude.{◌≡◌, ◌+◌, ◌<◌, length, Some};
 ghost use Rattle.shared_object.specs.Steps.{IsNote};
 ghost use Rattle.token_book.specs.Purse.{IsOf};
 ghost use Rattle.region_object.specs.Call.{payload_cost};
-ghost use Rattle.plat_build.specs.Calls.{CanPay, IsCalled, OneTicketLess, route_at};
+ghost use Rattle.plat_build.specs.Calls.{CanPay, HasNoPassage, IsCalled, OneTicketLess, route_at};
 ghost use Rattle.initiator_run.specs.Access.{call_at};
 ghost use Rattle.plat_run.specs.Sent.{IsSentBy};
 
@@ -34,6 +34,7 @@ pub(crate) fn send<N: Naming<Plan, TlmLaw>, B: Reach<N>, R: Wait>(
     requires who { who < length N.frame.world.platform.initiators }
     requires route { route_at N.frame.world who payload.address ≡ Some next.now.route }
     requires carries { IsSentBy next.now.transfer.kind payload }
+    requires passage { HasNoPassage N.frame.world txn }
     requires note { IsNote N.table note }
     requires wallet { IsOf N.tokens wallet.old }
     requires ticket { CanPay payload wallet.old next.now.route }

@@ -38,11 +38,7 @@ fn debug_read<N: Naming<Plan, TlmLaw>, R: Wait + Abort>(
     requires plan { plan.now ≡ N.frame.world }
 {
     assert!(rt; plan.platform().initiators.as_slice().len() == 1);
-    let Built {
-        net,
-        mut kept,
-        seats: _,
-    } = build::<N>(alloc, opened, plan).expect(rt, "a net");
+    let Built { net, mut kept } = build::<N>(alloc, opened, plan).expect(rt, "a net");
     let Start {
         engine: _,
         mut payload,
@@ -60,6 +56,7 @@ fn debug_read<N: Naming<Plan, TlmLaw>, R: Wait + Abort>(
         initiator: 0,
         seq: 0,
     };
+    let _ = net.plan().platform();
     let carried = net.debug(rt, 0, payload, note, &mut wallet, txn, 7);
     assert!(rt; carried.at == 7);
     (carried.payload.status(), wallet.left(1))

@@ -4,13 +4,15 @@ ghost use Rattle.std.specs.Option.{ForSome};
 ghost use Rattle.tlm_types.specs.declared.words.Command.TheVariants.{Read};
 ghost use Rattle.tlm_model.specs.Store.{zeros};
 ghost use Rattle.region_object.specs.Call.{payload_cost};
-ghost use Rattle.plat_build.specs.Calls.{CanPay, route_at};
+ghost use Rattle.tlm_types.specs.declared.words.TxnId.{TxnId as Txn};
+ghost use Rattle.plat_build.specs.Calls.{CanPay, HasNoPassage, route_at};
 ghost use Rattle.run_tests.specs.Bag.{IsBag};
 
 use crate::bench::plan_of;
 use blocking_path::{b_transport, transport_dbg};
 use generic_payload::Payload;
 use plat_build::{Built, Carried, Kept, Net, Opened, PlatNote, Start, TlmLaw, build};
+use region_object::payload_cost;
 use route_plan::Plan;
 use shared_object::Naming;
 use std::alloc::Global;
@@ -18,7 +20,7 @@ use std::marker::Brand;
 use std::process::Abort;
 use std::sync::Wait;
 use std::thread::{Threads, join};
-use tlm_types::{Command, Ps, Response, TxnId};
+use tlm_types::{Ps, Response, TxnId};
 use token_book::Wallet;
 
 /// Two initiators before a router of 5 ps with two memories of 10 and 20 ps; nothing is at 0x200.
@@ -44,16 +46,11 @@ struct Bag {
     at: Ps,
 }
 
-// How many bytes an access or a debug read with this payload takes of its memory's log.
-fn cost_of(payload: &Payload) -> u64
-    ensures { result ≡ payload_cost payload.now }
+// Nobody passes a hop: no initiator of a plan is of four phases yet.
+fn none_passes<N: Naming<Plan, TlmLaw>>(net: &Net<N>)
+    ensures { (x : Txn) → HasNoPassage net.now x }
 {
-    let length = payload.bytes().len() as u64;
-    let data = match payload.command() {
-        Command::Read | Command::Write | Command::Ignore => length,
-        Command::FetchAdd => length + length,
-    };
-    data + payload.enables().len() as u64
+    let _ = net.plan().platform();
 }
 
 // The wallet has a ticket for it, where it has a route.
@@ -69,7 +66,7 @@ fn can_pay<N: Naming<Plan, TlmLaw>>(
 {
     if let Some(route) = net.plan().route(who, payload.address()) {
         assert!(rt; wallet.left(route.memory) > 0);
-        assert!(rt; wallet.bytes(route.memory) >= cost_of(payload));
+        assert!(rt; wallet.bytes(route.memory) >= payload_cost(payload));
     }
 }
 
@@ -103,6 +100,7 @@ fn access<N: Naming<Plan, TlmLaw>, R: Wait + Abort>(rt: &R, net: &Net<N>, who: u
         at,
     } = bag;
     can_pay::<N>(rt, net, who, &payload, &wallet);
+    none_passes::<N>(net);
     let txn = TxnId {
         initiator: who,
         seq,
@@ -126,6 +124,7 @@ fn look<N: Naming<Plan, TlmLaw>, R: Wait + Abort>(rt: &R, net: &Net<N>, who: u32
         at,
     } = bag;
     can_pay::<N>(rt, net, who, &payload, &wallet);
+    none_passes::<N>(net);
     let txn = TxnId {
         initiator: who,
         seq,
@@ -224,11 +223,7 @@ fn alone<N: Naming<Plan, TlmLaw>, R: Wait + Abort>(
     requires plan { plan.now ≡ N.frame.world }
 {
     assert!(rt; plan.platform().initiators.as_slice().len() == 2);
-    let Built {
-        net,
-        mut kept,
-        seats: _,
-    } = build::<N>(alloc, opened, plan).expect(rt, "a net");
+    let Built { net, mut kept } = build::<N>(alloc, opened, plan).expect(rt, "a net");
     let bag = bag_of::<N>(&mut kept, 0);
     tour::<N, R>(rt, &net, 0, bag);
 }
@@ -245,11 +240,7 @@ fn both<N: Naming<Plan, TlmLaw> + Send + Sync, R: Threads + Wait + Abort + Sync>
     requires plan { plan.now ≡ N.frame.world }
 {
     assert!(rt; plan.platform().initiators.as_slice().len() == 2);
-    let Built {
-        net,
-        mut kept,
-        seats: _,
-    } = build::<N>(alloc, opened, plan).expect(rt, "a net");
+    let Built { net, mut kept } = build::<N>(alloc, opened, plan).expect(rt, "a net");
     let one = bag_of::<N>(&mut kept, 0);
     let two = bag_of::<N>(&mut kept, 1);
     join(

@@ -5,6 +5,7 @@ use Rattle.one_history.specs.Held.{Held}
 use Rattle.view_lists.proofs.Places.{at_short}
 use Rattle.tlm_types.specs.declared.entry.Content.{Content}
 use Rattle.tlm_model.specs.Plan.{Plan}
+use Rattle.cargo_model.specs.Known.{objects_of}
 use Rattle.plat_build.specs.Kept.{IsBlank, IsStart}
 use Rattle.plat_build.specs.Tickets.{IsStocked}
 use Rattle.plat_build.proofs.KeptLemmas.{added_kept, all_wait_more, next_is, whole_next}
@@ -28,7 +29,7 @@ make_start-requires-clause-wallet g c =
     let i = c.loop-wallet.invariant in
     let number : length c.loop-wallet.yielded ≡ c.len-initiator.result = (let a = i.count in let b = c.len-initiator.ensures in let d = c.loop-wallet.starts.ok.0 in omega arith) in
     let at = next_is c.args.wallets.items c.loop-wallet.yielded c.next.new.self.rest.items c.loop-wallet.wallet-iterator.rest.items c.in-Some.wallet i.whole c.in-Some.ensures.steps.0 in
-    subst (λ (k : ℕ). IsStocked g.N.Naming.tokens c.args.plan.now (length c.args.plan.now.platform.memories) k c.in-Some.wallet) number (c.requires.wallets.each (length c.loop-wallet.yielded) c.in-Some.wallet at)
+    subst (λ (k : ℕ). IsStocked g.N.Naming.tokens c.args.plan.now (length (objects_of c.args.plan.now.platform)) k c.in-Some.wallet) number (c.requires.wallets.each (length c.loop-wallet.yielded) c.in-Some.wallet at)
 
 pub loop-wallet-preserved : goal.loop-wallet-preserved
 loop-wallet-preserved g c =

@@ -29,7 +29,7 @@ loop-place-preserved g c =
     let start : Start = c.in-Some-place.start in
     let is = c.requires.starts k start (subst (λ (o : Option Start). get_elem? starts k ≡ some o) c.in-Some-place.is at) in
     let wallets : List Purse = c.loop-place.wallets.items in
-    let one : HasTicketsFrom tokens p 0 k start.wallet = record { of = is.wallet.of; left = λ m late below. is.wallet.left m below } in
+    let one : HasTicketsFrom tokens p 0 k start.wallet = record { of = is.wallet.of; left = λ n o late there. is.wallet.left n o there } in
     let items = c.in_ok-push.ensures.items in
     record {
       whole = whole_next starts past c.next.new.self.rest.items c.loop-place.place-iterator.rest.items place i.whole c.in-Some.ensures.steps.0;

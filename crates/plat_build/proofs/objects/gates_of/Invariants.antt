@@ -1,5 +1,5 @@
 use Rattle.std.proofs.Common.{◌≡◌, map, take}
-use Rattle.plat_build.specs.Objects.{gates_at}
+use Rattle.cargo_net.specs.Gates.{gates_at}
 use Rattle.plat_build.proofs.objects.gates_of.Given as goal
 
 abbrev pub invariant-loop-object : goal.invariant-loop-object

@@ -1,7 +1,8 @@
-use Rattle.std.proofs.Common.{length, subst}
-use Rattle.tlm_model.specs.Plan.{Plan}
-use Rattle.plat_build.specs.Kept.{AreFreshFrom}
+use Rattle.std.proofs.Common.{◌≡◌, ℕ, length, subst, rules}
+use Rattle.plat_build.specs.Unused.{AreUnusedFrom}
 use Rattle.plat_run.proofs.running.run.Goals as goal
 
-pub finish-requires-clause-fresh : goal.finish-requires-clause-fresh
-finish-requires-clause-fresh g c = subst (λ (p : Plan). AreFreshFrom g.N.Naming.table g.N.Naming.frame (length p.platform.memories) c.args.built.seats.items) c.plan.ensures.world c.requires.seats
+pub finish-requires-clause-idle : goal.finish-requires-clause-idle
+finish-requires-clause-idle g c =
+    let count : c.len.result ≡ length g.N.Naming.frame.world.platform.memories = search rules in
+    subst (λ (n : ℕ). AreUnusedFrom g.N.Naming.table g.N.Naming.frame n c.in_ok-seats.seats.items) count c.in_ok-seats.ensures.seats

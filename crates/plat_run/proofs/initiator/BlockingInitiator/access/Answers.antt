@@ -12,7 +12,7 @@ use Rattle.initiator_run.proofs.RunLemmas.{accessed_step}
 use Rattle.plat_run.specs.Job.{IsInitiator}
 use Rattle.plat_run.proofs.AccessLemmas.{goes_on, reached_as, room_again, set_out, whole_back}
 use Rattle.plat_run.proofs.MoveLemmas.{number_below}
-use Rattle.plat_run.proofs.PathLemmas.{can_pay_next, route_found}
+use Rattle.plat_run.proofs.PathLemmas.{can_pay_next, none_pass, route_found}
 use Rattle.plat_run.proofs.initiator.BlockingInitiator.access.Goals as goal
 
 pub send-sent-requires-clause-who : goal.send-sent-requires-clause-who
@@ -47,6 +47,15 @@ send-sent-requires-clause-ticket g c =
     let x = c.args.next.now.transfer in
     let reached : HasReached p old.run x route = reached_as n.frame.world p c.args.self.now old.run x route refl c.self.view_is c.requires in
     subst (λ (x : PayloadView). CanPay x old.wallet route) (sym c.fill_next.ensures) (can_pay_next p old.run note.knows old.wallet x route job reached)
+
+pub send-sent-requires-clause-passage : goal.send-sent-requires-clause-passage
+send-sent-requires-clause-passage g c =
+    let n = g.N.Naming in
+    let old = c.self.inside in
+    let p = n.frame.world in
+    let note = c.unwrap-note.result in
+    let job : IsInitiator p old.run note.knows old.wallet = set_out n.table n.tokens n.frame.world p old.run old.payload old.note note old.wallet c.self.invariant (sym c.take-2.ensures.value ∙ c.unwrap-note.ensures) refl in
+    none_pass p job.valid c.next_txn-txn.result
 
 pub complete-requires-clause-whole : goal.complete-requires-clause-whole
 complete-requires-clause-whole g c =
