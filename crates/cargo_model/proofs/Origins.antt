@@ -41,7 +41,7 @@ asked_law p h x pass i r a passes is asked transport =
         same u v e = cc
 
 -- the object of a number
-is_that : (o q : ObjectNo) → is_object o q ≡ true → q ≡ o
+pub is_that : (o q : ObjectNo) → is_object o q ≡ true → q ≡ o
 is_that (Memory m) (Memory n) e = ap Memory (eqb-true n m e)
 is_that (Memory m) (Hop n) e = cc
 is_that (Memory m) (Pool n) e = cc
@@ -52,7 +52,7 @@ is_that (Pool m) (Memory n) e = cc
 is_that (Pool m) (Hop n) e = cc
 is_that (Pool m) (Pool n) e = ap Pool (eqb-true n m e)
 
-is_self : (o : ObjectNo) → is_object o o ≡ true
+pub is_self : (o : ObjectNo) → is_object o o ≡ true
 is_self (Memory m) = eq-eqb m m refl
 is_self (Hop m) = eq-eqb m m refl
 is_self (Pool m) = eq-eqb m m refl

@@ -8,23 +8,8 @@ use Rattle.tlm_types.specs.declared.words.ObjectNo.TheVariants.{Memory, Hop, Poo
 use Rattle.tlm_model.specs.declared.platform.Platform.{Platform}
 use Rattle.tlm_model.specs.declared.platform.RouterRow.{RouterRow}
 use Rattle.tlm_model.specs.History.{is_object}
+use Rattle.cargo_model.proofs.Origins.{is_self, is_that}
 use Rattle.cargo_model.specs.Known.{is_used, object_number, objects_of}
-
-is_that : (o q : ObjectNo) → is_object o q ≡ true → q ≡ o
-is_that (Memory m) (Memory n) e = ap Memory (eqb-true n m e)
-is_that (Memory m) (Hop n) e = cc
-is_that (Memory m) (Pool n) e = cc
-is_that (Hop m) (Memory n) e = cc
-is_that (Hop m) (Hop n) e = ap Hop (eqb-true n m e)
-is_that (Hop m) (Pool n) e = cc
-is_that (Pool m) (Memory n) e = cc
-is_that (Pool m) (Hop n) e = cc
-is_that (Pool m) (Pool n) e = ap Pool (eqb-true n m e)
-
-is_self : (o : ObjectNo) → is_object o o ≡ true
-is_self (Memory m) = eq-eqb m m refl
-is_self (Hop m) = eq-eqb m m refl
-is_self (Pool m) = eq-eqb m m refl
 
 one_more : (n : ℕ) → 1 + n ≡ suc n
 one_more n = omega arith
@@ -110,9 +95,13 @@ module _ (p : Platform) where
       (rises_some (length p.memories) hop_total (is_used p) ((length p.memories + hop_total) + 0) ((length p.memories + hop_total) + (0 + length p.initiators)) (map Pool (range_with_len 0 (length p.initiators)))
       (rises_range (length p.memories) hop_total Pool (length p.memories + hop_total) (λ n. refl) (length p.initiators) 0)))
 
+  -- an object stands at its number alone
+  pub stands_once : (i : ℕ) (o : ObjectNo) → slice_get (objects_of p) i ≡ Some o → i ≡ object_number p o
+  stands_once i o q = once (length p.memories) hop_total 0 ((length p.memories + hop_total) + (0 + length p.initiators)) (objects_of p) i o all_rise q
+
   -- where a pool is read, that is its number
   pub pool_number : (i n : ℕ) → get_or (objects_of p) i (Hop 0) ≡ Pool n → i ≡ object_number p (Pool n)
-  pool_number i n q = once (length p.memories) hop_total 0 ((length p.memories + hop_total) + (0 + length p.initiators)) (objects_of p) i (Pool n) all_rise (read_some (objects_of p) i (Pool n) (Hop 0) q no_hop)
+  pool_number i n q = stands_once i (Pool n) (read_some (objects_of p) i (Pool n) (Hop 0) q no_hop)
     where
       no_hop : ¬ (Hop 0 ≡ Pool n)
       no_hop e = cc

@@ -1,0 +1,25 @@
+-- What a net leaves is what the law of ended runs wants of objects.
+use Rattle.std.specs.Prelude.{ℕ, ◌<◌, List, length}
+use Rattle.atomic_table.specs.Seated.{TableId}
+use Rattle.one_history.specs.declared.entry.Entry.{Entry as HistoryEntry}
+use Rattle.one_history.specs.declared.view.Frame.{Frame}
+use Rattle.one_history.specs.Held.{Held}
+use Rattle.tlm_types.specs.declared.entry.Content.{Content}
+use Rattle.tlm_types.specs.declared.words.ObjectNo.{ObjectNo}
+use Rattle.tlm_types.specs.declared.ends.EndOf.{EndOf}
+use Rattle.tlm_model.specs.Plan.{Plan, initiators_of}
+use Rattle.flow_model.specs.Events.{Event}
+use Rattle.flow_plan.specs.Valid.{HasNoCycle}
+use Rattle.joined_traffic.specs.Ended.{HaveLeft}
+use Rattle.net_end.specs.Finished.{HasEndedWhole, IsDone}
+use Rattle.net_end.specs.Closed.{AreHandedBack, AreLeft, IsClosed, IsPlanned, events_in}
+
+-- The objects of a net have left all that the end of a run wants of them.
+abbrev pub ObjectsLeave : Type 0
+ObjectsLeave = (table : TableId) (frame : Frame Plan) (seats notes : List (Held Content Plan)) (all : List (HistoryEntry Content)) (left : ℕ → ObjectNo → ℕ)
+    → IsPlanned frame → IsClosed frame seats notes all → AreLeft table frame seats → AreHandedBack frame seats left → HaveLeft frame.world (events_in frame.world.platform all) left
+
+-- Where all initiators have finished and all objects are done with, the whole run has ended.
+abbrev pub InitiatorsEnd : Type 0
+InitiatorsEnd = (p : Plan) (h : List Event) (left : ℕ → ObjectNo → ℕ) (end : ℕ → EndOf)
+    → HasNoCycle p.platform → HaveLeft p h left → ((k : ℕ) → k < length (initiators_of p) → IsDone p h k (left k) (end k)) → HasEndedWhole p h left end

@@ -1,0 +1,23 @@
+//! What a net leaves once all jobs have ended, in the words of the end of a run.
+//!
+//! - `specs/Closed` says what each memory, hop and pool leaves with its seat, and what a closed history is.
+//! - `specs/Finished` says what an initiator that has finished hands in, by its style.
+//! - `specs/Laws`: what the objects leave is what the law of ended runs wants of them, and with the initiators
+//!   the whole run has ended.
+//!
+//! Nothing here runs: each function carries a law.
+#![tactic(auto)]
+
+ghost use Rattle.net_end.specs.Laws.{InitiatorsEnd, ObjectsLeave};
+
+/// The objects of a net, whose history is closed, have left what the law of ended runs wants of them: each
+/// entry is backed, each hop made its steps, all slots are free, and the tickets are counted.
+pub fn objects_leave_what_is_wanted()
+    ensures { ObjectsLeave }
+{}
+
+/// Where all initiators have finished, by their styles, and all objects are done with, the run has ended whole,
+/// and each initiator's end is what the report says of it.
+pub fn initiators_end_the_run()
+    ensures { InitiatorsEnd }
+{}
