@@ -108,6 +108,16 @@ impl<T> Hop<T> {
         self.log.log()
     }
 
+    /// The log, when the hop is done with.
+    pub fn into_log(self) -> Log
+    where
+        T: Drop,
+        ensures entries { result.entries ≡ entries self.log.events }
+        ensures follows { Follows self }
+    {
+        self.log.into_log()
+    }
+
     /// Whether a BEGIN_REQ is taken now.
     pub fn can_begin(&self) -> bool
         ensures { result ≡ can_begin self.now }

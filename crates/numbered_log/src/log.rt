@@ -50,6 +50,13 @@ impl NumberedLog {
         &self.log
     }
 
+    /// The entries without their numbers, when the numbers aren't needed any more.
+    pub fn into_log(self) -> Log
+        ensures { result.entries ≡ entries self.events }
+    {
+        self.log
+    }
+
     /// Appends an entry with its number. The room for it is there.
     pub fn push(&mut self, head: Head, what: What, number: u32)
         requires room { length self.old.events < self.old.room }

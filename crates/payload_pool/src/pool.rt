@@ -4,7 +4,7 @@ ghost use Rattle.std.specs.List.{All};
 ghost use Rattle.tlm_types.specs.declared.words.ObjectNo.TheVariants.{Pool as pool_number};
 ghost use Rattle.flow_model.specs.Events.{Event, entries};
 ghost use Rattle.payload_pool.specs.Slots.{fresh_slot};
-ghost use Rattle.payload_pool.specs.Pool.{live_of, has_free, Follows};
+ghost use Rattle.payload_pool.specs.Pool.{live_of, has_free, Follows, IsPool};
 ghost use Rattle.payload_pool.specs.Calls.{is_out};
 
 use crate::slot::{self, Slot};
@@ -113,6 +113,14 @@ impl Pool {
         ensures own { All (λ (e : Event). e.object ≡ pool_number self.now.initiator) self.now.log.events }
     {
         self.log.log()
+    }
+
+    /// The log, when the pool is done with.
+    pub fn into_log(self) -> Log
+        ensures entries { result.entries ≡ entries self.log.events }
+        ensures pool { IsPool self }
+    {
+        self.log.into_log()
     }
 
     /// How many slots are live.
