@@ -81,7 +81,7 @@ pub record IsTakenAt (x : TxnId) (position : ℕ) (e : Event) : Type 0 where
 abbrev pub Asks : Access → ℕ → PayloadView → Type 0
 Asks a address v = access_of v ≡ record a { offset = address }
 
--- the Access of x that the definitions have for its request, with the payload's status and, of a read, its bytes
+-- the Access of x that the definitions have for its request, with the payload's status and, of a read, its bytes, which are as many as were asked for
 pub record IsServed (x : TxnId) (a : Access) (r : Route) (v : PayloadView) (e : Event) : Type 0 where
   pub object : e.object ≡ Memory r.memory
   pub txn : e.txn ≡ x
@@ -90,6 +90,7 @@ pub record IsServed (x : TxnId) (a : Access) (r : Route) (v : PayloadView) (e : 
   pub what : e.what ≡ Accessed FourPhase (record a { offset = r.offset }) status got
   pub same_status : v.status ≡ status
   pub same_bytes : a.command ≡ Read → v.bytes ≡ got
+  pub long : a.command ≡ Read → length v.bytes ≡ length a.sent
 
 module _ (p : Plan) (tokens : TableId) (K : Event → Type 0) (x : TxnId) (pass : Passage) where
   -- x is a four-phase access that its initiator asks for by known replies

@@ -40,7 +40,7 @@ found_at n (v ∷ ws) a f q = go (λ r. found_at (n + 1) ws a f r) (window_has v
         (0, omega arith, ap (λ (g : Found). Some g.window) s)
     go more false q = let r = more q in let i : f.index ≡ (n + 1) + r.0 = r.1 in (suc r.0, omega arith, r.2)
 
-walk_way : (k : ℕ) (p : Platform) (t : Target) (a before : ℕ) → Way p t (walk k p t a before).hops
+pub walk_way : (k : ℕ) (p : Platform) (t : Target) (a before : ℕ) → Way p t (walk k p t a before).hops
 walk_way zero p t a before = tt
 walk_way (suc k) p (Memory m) a before = go (slice_get p.memories m)
   where
@@ -163,7 +163,7 @@ initiator_from m (x ∷ rows) (s ∷ scripts) (suc n) i q =
     (omega arith, r.1)
 
 -- a hop of a way is no binding
-past_bindings : (p : Platform) (k : ℕ) (t : Target) (hs : List ℕ) → Way p t hs → k < length hs → length p.initiators ≤ get_or hs k 0
+pub past_bindings : (p : Platform) (k : ℕ) (t : Target) (hs : List ℕ) → Way p t hs → k < length hs → length p.initiators ≤ get_or hs k 0
 past_bindings p k t [] y l = absurd (omega arith)
 past_bindings p k (Memory m) (h ∷ hs) y l = absurd y
 past_bindings p zero (Router r) (h ∷ hs) y l = let q : h ≡ length p.initiators + windows_before p.routers r + y.1 = y.5 in omega arith

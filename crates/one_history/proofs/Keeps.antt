@@ -119,7 +119,7 @@ module _ {E G : Type 0} (backs : G → List (Entry E) → Entry E → Type 0) (k
     pub knows_own : (log : List (Entry E)) (place : ℕ → ℕ) (counter made i : ℕ) (v : View E G) → length v.objects ≡ 1
         → ((p : ℕ) (e : Entry E) → get_elem? log p ≡ some e → NamesOwn key e.object e.sign) → ((g : ℕ) → Has v.void g → IsRevoked log g)
         → Fits key log place counter made i v → KnowsOwn v
-    knows_own log place counter made i v one names void f = record { among = among; void = shows }
+    knows_own log place counter made i v one names void f = record { below = λ e has. (f.known e has).0; among = among; void = shows }
       where
         own : own_of v ≡ entries_at (number_of v) log
         own =

@@ -10,7 +10,7 @@ use Rattle.one_history.specs.declared.view.Owned.{Owned}
 use Rattle.one_history.specs.declared.view.Stay.{Stay}
 use Rattle.one_history.specs.declared.view.View.{View}
 use Rattle.view_lists.specs.Lists.{Has, Within}
-use Rattle.one_history.specs.Lists.{entries_at}
+use Rattle.one_history.specs.Lists.{StandBelow, entries_at}
 use Rattle.one_history.specs.Gates.{IsRevoked, IsGateOf, NamesOwn, inside_of}
 
 -- how many seats a view counts
@@ -55,8 +55,10 @@ module _ {E G : Type 0} where
   abbrev pub drawn : View E G → Entry E → View E G
   drawn v e = record { frame = v.frame; notes = v.notes; seen = e.position + 1; known = v.known ++ e ∷ []; looks = v.looks; objects = map (with_own e) v.objects; counts = v.counts; stays = v.stays; void = v.void; drained = v.drained }
 
-  -- what a seat knows of its object is among its own entries, and where a gate of its object is void to it, they show why
+  -- what a seat knows stands below what it has seen, what it knows of its object is among its own entries, and where a gate of its
+  -- object is void to it, they show why
   pub record KnowsOwn (v : View E G) : Type 0 where
+    pub below : StandBelow v.known v.seen
     pub among : Within (entries_at (number_of v) v.known) (own_of v)
     pub void : (key : Frame G) (g : ℕ) → v.frame ≡ Some key → Has v.void g → IsGateOf key (number_of v) g → IsRevoked (own_of v) g
 

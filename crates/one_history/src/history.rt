@@ -155,7 +155,8 @@ impl<E, G, W: Law<E, G>> History<E, G, W> {
     /// position: the length that the history had, which is no less than what the seat had seen. The
     /// seat has fewer entries than planned, and what it knows backs the entry. A gate that is granted or
     /// closed is one of its object's. For a direct access the seat is inside the gate, and for a closing
-    /// the gate is drained to it. What it knows of its object is among its own entries.
+    /// the gate is drained to it. What it knows of its object is among its own entries, and all that it
+    /// knows stands below what it has seen.
     pub fn draw<D: Drawn<E>>(&self, seat: &mut ObjectSeat<E, G, W>, sign: Sign) -> u64
         requires seat { seat.old.table ≡ self.now.table }
 
@@ -176,7 +177,8 @@ impl<E, G, W: Law<E, G>> History<E, G, W> {
         self.draw_as::<D, Brand>(&mut seat.seat, sign)
     }
 
-    /// Looks at the history: what the seat knows of its object is among its own entries.
+    /// Looks at the history: what the seat knows of its object is among its own entries, and all that it
+    /// knows stands below what it has seen.
     pub fn recall(&self, seat: &mut ObjectSeat<E, G, W>)
         requires { seat.old.table ≡ self.now.table }
         ensures same { seat.new ≡ seat.old }

@@ -1,6 +1,7 @@
 -- What vouched for an access that has arrived, and what its wallet has left, is what its port takes back.
 use Rattle.std.proofs.Common.{◌≡◌, ℕ, ◌+◌, ◌<◌, ◌≤◌, IsSome, Bool, true, false, List, [], ◌∷◌, ◌++◌, length, map, Option, Some, None, refl, sym, ap, ◌∙◌, subst, inl, inr, arith}
 use Rattle.std.specs.Prelude.{is_some, slice_get, sum_by}
+use Rattle.std.proofs.lemmas.List.{length-replicate}
 use Rattle.std.proofs.lemmas.List.Sums.{sum_by-cons}
 use Rattle.view_lists.specs.Lists.{Within}
 use Rattle.one_history.specs.declared.entry.Entry.{Entry as HistoryEntry}
@@ -48,7 +49,7 @@ use Rattle.script_engine.specs.declared.op.Op.{Op}
 use Rattle.script_engine.specs.declared.op.Op.TheVariants as next
 use Rattle.script_engine.specs.declared.part.Transfer.{Transfer}
 use Rattle.script_engine.specs.declared.part.TransferKind.TheVariants as transfer
-use Rattle.script_engine.specs.Part.{part_of}
+use Rattle.script_engine.specs.Part.{IsRead, part_of}
 use Rattle.script_engine.specs.State.{length_of, op_of, payload_of}
 use Rattle.script_engine.specs.Asking.{IsAnswered, asked_access, request_for}
 use Rattle.port_model.specs.Laws.{AreBelow, HasBytes, IsReplyTo, Knows, replies_of}
@@ -209,6 +210,27 @@ module _ (s : Case) (i : Initiator) (port : Port) (known : List Event) (seen : �
     next_route : route_of s.p.platform i c ≡ route s a.asked
     next_route = ap (route_of s.p.platform i) same_address ∙ ap (λ (j : Initiator). route_of s.p.platform j a.asked.request.address) (sym own)
 
+    -- and comes back with as many bytes as it asked for
+    read_long : length v.bytes ≡ n
+    read_long = by_route (route s a.asked) a.content ∙ ap (λ (l : List ℕ). length l) sent ∙ length-replicate {A = ℕ} n 0
+      where
+        by_route : (t : Option Route) → IsReplied s.p s.tokens (knows s) s.x s.pass a.asked.access t v → length v.bytes ≡ length a.asked.access.sent
+        by_route None c = ap (λ (l : List ℕ). length l) c.1
+        by_route (Some r) c = c.is.long is_that.0
+
+  -- a read comes back with as many bytes as it asked for
+  next_long : seq ≡ port.engine.seq → IsRead (op_of port.engine) → length v.bytes ≡ length_of (op_of port.engine)
+  next_long at = by_op (op_of port.engine) refl
+    where
+      by_op : (o : Op) → op_of port.engine ≡ o → IsRead o → length v.bytes ≡ length_of o
+      by_op (next.Access q c n command plain fenced) e is = read_long q c n plain fenced (e ∙ ap (λ (d : Command). next.Access q c n d plain fenced) is) at
+      by_op (next.Debug q c n) e is = absurd is
+      by_op (next.Wait n) e is = absurd is
+      by_op next.Sync e is = absurd is
+      by_op next.Fence e is = absurd is
+      by_op (next.Invalidate q c n) e is = absurd is
+      by_op next.Done e is = absurd is
+
   -- the payload's bytes are the answer, where it is so for a read
   told_next : (reply : Option Entry) → port.waiting ≡ true →
       ((q c n : ℕ) (plain fenced : Bool) → op_of port.engine ≡ next.Access q c n Read plain fenced → HasBytes s.p i port (a_read q c n plain fenced) reply v.bytes) →
@@ -232,8 +254,9 @@ module _ (s : Case) (i : Initiator) (port : Port) (known : List Event) (seen : �
       fewer = fewer;
       pays = pays [] (subst (λ (t : Option Route). AreReplies t []) (sym q) refl);
     };
-    told = λ waits at long. told_next None waits (λ k c n plain fenced e. record {
-      long = long ∙ ap length_of e;
+    long = λ waits at. next_long at;
+    told = λ waits at. told_next None waits (λ k c n plain fenced e. record {
+      long = read_long k c n plain fenced e at;
       with_route = λ d f. absurd (no_entry d f);
       without = λ f. (
         next_route k c n plain fenced e at ∙ q,
@@ -254,8 +277,9 @@ module _ (s : Case) (i : Initiator) (port : Port) (known : List Event) (seen : �
       fewer = fewer;
       pays = pays (f.event.entry ∷ []) (subst (λ (t : Option Route). AreReplies t (f.event.entry ∷ [])) (sym q) (f.event.entry, refl, f.is.object));
     };
-    told = λ waits at long. told_next (Some f.event.entry) waits (λ k c n plain fenced e. record {
-      long = long ∙ ap length_of e;
+    long = λ waits at. next_long at;
+    told = λ waits at. told_next (Some f.event.entry) waits (λ k c n plain fenced e. record {
+      long = read_long k c n plain fenced e at;
       with_route = λ d m. subst (λ (d : Entry). (d.txn ≡ txn_of i.number port.engine.seq) × (got_in d.what ≡ Some v.bytes) × IsSome (route_of s.p.platform i c)) (same_entry f.event.entry d m) (
         f.is.txn ∙ (its ∙ ap (txn_of i.number) at),
         f.is.read (is_that k c n plain fenced e at).0,
@@ -312,12 +336,12 @@ module _ {A B : Type 0} (f : A → B) where
   among_from (x ∷ xs) y (inr m) = let r = among_from xs y m in record { x = r.x; among = inr r.among; is = r.is }
 
 module _ (p : Platform) (old new : List (HistoryEntry Content)) where
-  knows_more : Within old new → Knows (events_of p old) (events_of p new)
+  pub knows_more : Within old new → Knows (events_of p old) (events_of p new)
   knows_more within e m =
       let r = among_from (event_of p) old e m in
       subst (Among (events_of p new)) r.is (among_map (event_of p) new r.x (has_among new r.x (within r.x (among_has old r.x r.among))))
 
-  stand_below : (after : ℕ) → StandBelow new after → AreBelow (events_of p new) after
+  pub stand_below : (after : ℕ) → StandBelow new after → AreBelow (events_of p new) after
   stand_below after below e m =
       let r = among_from (event_of p) new e m in
       subst (λ (f : Event). f.position < after) r.is (below r.x (among_has new r.x r.among))
@@ -329,7 +353,7 @@ plain_back s i port old seen after left rest u within below free is style quiet 
     seq s.pass t.reply a.ended.time (calls_by s z) away off t.back
 
 pub fenced_back : TakesBackFenced
-fenced_back s i port old seen after left rest u within below free is style waits away off its z v a puts long =
+fenced_back s i port old seen after left rest u within below free is style waits away off its z v a puts =
     let t = comes_back s i port (events_of s.p.platform old) seen left rest u free is style port.engine.seq its z v a puts in
     fenced_returned s.p i port (events_of s.p.platform old) (events_of s.p.platform s.entries) seen after left rest u (knows_more s.p.platform old s.entries within) (stand_below s.p.platform old s.entries after below) waits
-    s.pass t.reply a.ended.time (calls_by s z) away v.bytes off t.back (t.told waits refl long)
+    s.pass t.reply a.ended.time (calls_by s z) away v.bytes off t.back (t.told waits refl)

@@ -1,7 +1,8 @@
 -- An access that has arrived is what its port takes back.
 use Rattle.std.specs.Prelude.{ℕ, ◌≡◌, ◌+◌, ◌<◌, max, true, false, List, ◌++◌, length, Option, Some, map, slice_get}
-use Rattle.view_lists.specs.Lists.{Has, Within}
+use Rattle.view_lists.specs.Lists.{Within}
 use Rattle.one_history.specs.declared.entry.Entry.{Entry as HistoryEntry}
+pub use Rattle.one_history.specs.Lists.{StandBelow}
 use Rattle.tlm_types.specs.declared.entry.Content.{Content}
 use Rattle.tlm_types.specs.declared.entry.Entry.{Entry}
 use Rattle.tlm_types.specs.declared.words.ObjectNo.{ObjectNo}
@@ -21,6 +22,7 @@ use Rattle.cargo_model.specs.Tickets.{Pulls, PullsOwed}
 use Rattle.cargo_model.specs.Travel.{IsReplied, numbers_for}
 use Rattle.cargo_end.specs.Arrival.{Asked, HasLeft, calls_by, route}
 use Rattle.joined_traffic.specs.Accesses.{txn_of}
+use Rattle.script_engine.specs.Part.{IsRead}
 use Rattle.script_engine.specs.State.{length_of, op_of, told_by}
 use Rattle.script_engine.specs.Asking.{IsAnswered}
 use Rattle.port_model.specs.Way.{IsUnderWay, Port}
@@ -56,11 +58,12 @@ abbrev pub PutsBack : Plan → Purse → (ObjectNo → ℕ) → (ObjectNo → �
 PutsBack p z left rest = (o : ObjectNo) → rest o ≡ left o + left_of z (object_number p.platform o)
 
 -- it comes back: with its entry at the memory where it has a route; and where the engine waits for it the payload's bytes are the answer,
--- whatever comes after it
+-- whatever comes after it, and a read's are as many as it asked for
 pub record IsTakenBack (s : Case) (i : Initiator) (port : Port) (known : List Event) (seen : ℕ) (left rest : ObjectNo → ℕ) (u : IsUnderWay s.p i port known seen left) (seq end : ℕ) (z : Purse) (v : PayloadView) : Type 0 where
   pub reply : Option Entry
   pub back : ComesBack s.p i u.made (events_of s.p.platform s.entries) seq s.pass reply end (calls_by s z) left rest
-  pub told : port.waiting ≡ true → seq ≡ port.engine.seq → length v.bytes ≡ length_of (op_of port.engine) →
+  pub long : port.waiting ≡ true → seq ≡ port.engine.seq → IsRead (op_of port.engine) → length v.bytes ≡ length_of (op_of port.engine)
+  pub told : port.waiting ≡ true → seq ≡ port.engine.seq →
       (m : List Entry) → IsAnswered s.p.platform i ((u.mine ++ replies_of reply) ++ m) (op_of port.engine) v.bytes
 
 -- An access of a port that has arrived comes back to it, whatever the port knew before.
@@ -69,10 +72,6 @@ ArrivedComesBack = (s : Case) (i : Initiator) (port : Port) (known : List Event)
     → HasNoCycle s.p.platform → slice_get (initiators_of s.p) i.number ≡ Some i → i.row.style ≡ FourPhase
     → (seq : ℕ) → s.x ≡ txn_of i.number seq → (z : Purse) (v : PayloadView) (a : HasArrived s z v) → PutsBack s.p z left rest
     → IsTakenBack s i port known seen left rest u seq a.ended.time z v
-
--- the known entries stand below this position
-abbrev pub StandBelow : List (HistoryEntry Content) → ℕ → Type 0
-StandBelow entries after = (e : HistoryEntry Content) → Has entries e → e.position < after
 
 -- A plain access of a port that knows `old` has arrived, by all that its note knows now: the port is under way without it.
 abbrev pub TakesBackPlain : Type 0
@@ -88,5 +87,4 @@ TakesBackFenced = (s : Case) (i : Initiator) (port : Port) (old : List (HistoryE
     → IsUnderWay s.p i port (events_of s.p.platform old) seen left → Within old s.entries → StandBelow s.entries after
     → HasNoCycle s.p.platform → slice_get (initiators_of s.p) i.number ≡ Some i → i.row.style ≡ FourPhase → port.waiting ≡ true
     → (away : List ℕ) → Removes port.away port.engine.seq away → s.x ≡ txn_of i.number port.engine.seq → (z : Purse) (v : PayloadView) (a : HasArrived s z v) → PutsBack s.p z left rest
-    → length v.bytes ≡ length_of (op_of port.engine)
     → IsUnderWay s.p i (record port { engine = told_by port.engine v.bytes; waiting = false; latest = max port.latest a.ended.time; away = away }) (events_of s.p.platform s.entries) after rest

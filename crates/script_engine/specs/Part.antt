@@ -1,5 +1,5 @@
 -- What is next, by its part.
-use Rattle.std.specs.Prelude.{ℕ, Bool, true, false}
+use Rattle.std.specs.Prelude.{ℕ, ◌≡◌, Bool, true, false}
 use Rattle.tlm_types.specs.declared.words.Command.{Command}
 use Rattle.tlm_types.specs.declared.words.Command.TheVariants.{Read}
 use Rattle.script_engine.specs.declared.op.Op.{Op}
@@ -34,6 +34,19 @@ is_plain_kind transfer.DebugRead = false
 abbrev pub command_in : TransferKind → Command
 command_in (transfer.Access command plain fenced) = command
 command_in transfer.DebugRead = Read
+
+-- an access that reads
+abbrev pub IsReadKind : TransferKind → Type 0
+IsReadKind (transfer.Access command plain fenced) = command ≡ Read
+IsReadKind transfer.DebugRead = ⊥
+
+abbrev pub IsReadPart : Part → Type 0
+IsReadPart (Asks t) = IsReadKind t.kind
+IsReadPart part = ⊥
+
+-- what is next is an access that reads
+abbrev pub IsRead : Op → Type 0
+IsRead op = IsReadPart (part_of op)
 
 abbrev pub is_debug_kind : TransferKind → Bool
 is_debug_kind (transfer.Access command plain fenced) = false

@@ -10,7 +10,7 @@ use Rattle.script_engine.specs.declared.op.Op.{Op}
 use Rattle.script_engine.specs.declared.op.Op.TheVariants as next
 use Rattle.script_engine.specs.declared.part.Part.{Part}
 use Rattle.script_engine.specs.Part.{part_of}
-pub use Rattle.script_engine.specs.Part.{is_fenced, length_of}
+pub use Rattle.script_engine.specs.Part.{IsRead, is_fenced, length_of}
 
 -- a write that is due: the second access of a `copy` or an `add`
 pub record Due : Type 0 where

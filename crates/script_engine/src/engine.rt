@@ -1,6 +1,6 @@
 // The engine.
 ghost use Rattle.std.specs.Prelude.{◌≡◌, ◌≤◌, length, true, false};
-ghost use Rattle.script_engine.specs.State.{begun_engine, is_fenced, length_of, op_of, passed_by, payload_of, told_by};
+ghost use Rattle.script_engine.specs.State.{IsRead, begun_engine, is_fenced, length_of, op_of, passed_by, payload_of, told_by};
 
 use crate::buffer::Buffer;
 use crate::op::Op;
@@ -80,11 +80,11 @@ impl Engine {
         }
     }
 
-    /// Goes on after the reply to a fenced access, whose payload has the bytes that a read got. It ends
-    /// the operation where no write is due.
+    /// Goes on after the reply to a fenced access, whose payload has the bytes that a read got, as many as
+    /// it asked for. It ends the operation where no write is due.
     pub fn told(&mut self, payload: &Payload)
         requires fenced { is_fenced (op_of self.old) ≡ true }
-        requires whole { length payload.now.bytes ≡ length_of (op_of self.old) }
+        requires whole { IsRead (op_of self.old) → length payload.now.bytes ≡ length_of (op_of self.old) }
         ensures { self.new ≡ told_by self.old payload.now.bytes }
     {
         self.ended = self.due.is_some();

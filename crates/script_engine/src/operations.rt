@@ -5,7 +5,7 @@ ghost use Rattle.tlm_types.specs.declared.words.Command.{Command};
 ghost use Rattle.tlm_model.specs.Requests.{added, numbers_of};
 ghost use Rattle.traffic_script.specs.Proper.{IsProper};
 ghost use Rattle.tlm_types.specs.Enables.{is_enable};
-ghost use Rattle.script_engine.specs.State.{due_after, due_at, is_plain, length_of, op_for, payload_for};
+ghost use Rattle.script_engine.specs.State.{IsRead, due_after, due_at, is_plain, length_of, op_for, payload_for};
 
 use crate::buffer::Buffer;
 use crate::op::Op;
@@ -170,7 +170,7 @@ pub fn numbers_of(operation: &Operation) -> u64
 /// bytes; what it writes goes into the buffer.
 pub fn due_after(operation: &Operation, bytes: &[u8], buffer: &mut Buffer) -> Option<u64>
     requires proper { IsProper operation.now }
-    requires whole { length bytes.now ≡ length_of (op_for 0 operation.now) }
+    requires whole { IsRead (op_for 0 operation.now) → length bytes.now ≡ length_of (op_for 0 operation.now) }
     ensures { due_at result buffer.new ≡ due_after operation.now bytes.now }
 {
     match operation {

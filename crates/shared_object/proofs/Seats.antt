@@ -174,6 +174,18 @@ module _ {G : Type 0} where
         let e = ap (λ (u : View Content G). u.seen) is.is in
         (omega arith, omega arith)
 
+    -- all that the seat knows stands below what it has seen
+    pub stands_below : KnowsOwn j → (position : Option ℕ) → MatchOption position (d ≡ j) (λ p. IsDrawn content p j d) → (e : Entry Content) → Has d.known e → e.position < d.seen
+    stands_below mine None is e has = subst (λ (u : View Content G). e.position < u.seen) (sym is) (mine.below e (subst (λ (u : View Content G). Has u.known e) is has))
+    stands_below mine (Some p) is e has =
+        let x = placed (number_of j) (wrote p content) in
+        let a = is.after in
+        let n : d.seen ≡ p + 1 = ap (λ (u : View Content G). u.seen) is.is in
+        ⊎_elim
+        (λ (old : Has j.known e). let q = mine.below e old in omega arith)
+        (λ (new : Has (x ∷ []) e). let q : p ≡ e.position = ap (λ (y : Entry Content). y.position) (has_one x e new) in omega arith)
+        (has_either j.known (x ∷ []) e (subst (λ (l : List (Entry Content)). Has l e) (ap (λ (u : View Content G). u.known) is.is) has))
+
     -- the seat after it left the gate that the note was inside, if there is one, and after a note was copied from it
     pub copied_seat : (after : List Written) (t : Held Content G) (gate : Option ℕ) → Grew number after s.knows w d → IsNoteAt table gate (record { table = table; knows = w }) → t.table ≡ table → t.knows ≡ one_gone (left_if gate d) → IsSeat table frame number after t
     copied_seat after t gate g note of is =

@@ -5,6 +5,7 @@ use Rattle.view_lists.specs.Lists.{Has, Within}
 use Rattle.one_history.specs.declared.view.Frame.{Frame}
 use Rattle.one_history.specs.declared.view.View.{View}
 use Rattle.one_history.specs.Held.{Held}
+use Rattle.one_history.specs.Lists.{StandBelow}
 use Rattle.one_history.specs.Gates.{IsGateOf, IsRevoked}
 use Rattle.one_history.specs.Moves.{left}
 use Rattle.token_book.specs.Account.{amount_of}
@@ -50,7 +51,7 @@ abbrev pub addition : Option ℕ → Content → List Written
 addition (Some position) content = wrote position content ∷ []
 addition None content = []
 
--- what is added where a call is made: an entry, if it is admitted, past all that was written and all that the note had seen, at a position of a history; the note that comes back knows all that was written, and its void and drained gates are those of the note and more; for each gate of the object that was void to the note, what was written has its grant and after it an overlapping invalidation
+-- what is added where a call is made: an entry, if it is admitted, past all that was written and all that the note had seen, at a position of a history; the note that comes back knows all that was written, all that it knows stands below what it has seen, and its void and drained gates are those of the note and more; for each gate of the object that was void to the note, what was written has its grant and after it an overlapping invalidation
 pub record Enters {G : Type 0} (frame : Frame G) (number : ℕ) (before after : List Written) (admitted : Bool) (content : Content) (note back : View Content G) (position : Option ℕ) : Type 0 where
   pub when : MatchOption position (admitted ≡ false) (λ _. admitted ≡ true)
   pub log : after ≡ before ++ addition position content
@@ -59,6 +60,7 @@ pub record Enters {G : Type 0} (frame : Frame G) (number : ℕ) (before after : 
   pub past : IfSome position (λ p. (w : Written) → Has before w → w.position < p)
   pub knew : Within note.known back.known
   pub knows : Within (map (placed number) after) back.known
+  pub below : StandBelow back.known back.seen
   pub void : Within note.void back.void
   pub drained : Within note.drained back.drained
   pub revoked : (gate : ℕ) → Has note.void gate → IsGateOf frame number gate → IsRevoked (map (placed number) before) gate

@@ -5,3 +5,4 @@ pub mod PlaceLists
 pub mod FoundPlaces
 pub mod Pulls
 pub mod Rooms
+pub mod Merging

@@ -5,9 +5,9 @@ use Rattle.std.specs.Ordering.{nat_cmp, eq_by_cmp}
 use Rattle.std.specs.Cmp.{nat_cmp_total}
 use Rattle.std.proofs.lemmas.Bool.{cases_eq, cond-true, cond-false, eq-eqb, ne_eqb}
 use Rattle.std.specs.FinMap as map
-use Rattle.std.specs.FinMap.{FinMap, from_entries_push, get-from_entries, len-empty, len-insert, same_map, nat_cmp-IsAntisymmetric}
+use Rattle.std.specs.FinMap.{FinMap, empty_of_len, from_entries_push, get-from_entries, len-empty, len-insert, same_map, nat_cmp-IsAntisymmetric}
 use Rattle.token_book.specs.Pocket.{Pocket}
-use Rattle.token_book.specs.Purse.{Purse, purse, left_in, bytes_left_in, left_of, bytes_of, HasPlace, HasRoom, with_pocket, AreApart, AreFull}
+use Rattle.token_book.specs.Purse.{Purse, empty_purse, purse, left_in, bytes_left_in, left_of, bytes_of, HasPlace, HasRoom, with_pocket, AreApart, AreFull}
 use Rattle.token_book.proofs.Purses.{eq_by_cmp-nat, get-inserted, get-removed}
 
 -- what is looked for and stands in front is found, and else it is looked for behind
@@ -81,6 +81,12 @@ AreApart-push (x ∷ xs) k p apart none = (find-push_absent xs k p x.0 apart.0 (
 pub AreFull-push : (es : List (ℕ × Pocket)) (k : ℕ) (p : Pocket) → AreFull es → 0 < p.left + p.bytes → AreFull (es ++ (k, p) ∷ [])
 AreFull-push [] k p full more = (more, tt)
 AreFull-push (x ∷ xs) k p full more = (full.0, AreFull-push xs k p full.1 more)
+
+-- what stands at a place is found
+pub find-at : (es : List (ℕ × Pocket)) (i : ℕ) (e : ℕ × Pocket) → AreApart es → slice_get es i ≡ Some e → map.find nat_cmp e.0 es ≡ Some e.1
+find-at [] i e apart at = absurd (cc (at))
+find-at (x ∷ xs) zero e apart at = let same : x ≡ e = cc (at) in find-here e.0 x xs (ap (λ (y : ℕ × Pocket). y.0) (sym same)) ∙ ap (λ (y : ℕ × Pocket). Some y.1) same
+find-at (x ∷ xs) (suc i) e apart at = find-later e.0 x xs (λ q. not_at xs i e x.0 apart.0 at (sym q)) ∙ find-at xs i e apart.1 at
 
 -- what is found isn't empty
 pub find_full : (es : List (ℕ × Pocket)) (q : ℕ) (p : Pocket) → AreFull es → map.find nat_cmp q es ≡ Some p → 0 < p.left + p.bytes
@@ -170,3 +176,13 @@ free_place w o room none =
     (λ (some : IsSome (map.get w.held o)). let e : false ≡ true = sym (ap (λ (x : Option Pocket). is_some x) none) ∙ some in absurd (cc (e)))
     (λ (free : map.len w.held < w.places). free)
     room
+
+-- a wallet is empty where it has no places
+pub empty_from : (most : ℕ) (es : List (ℕ × Pocket)) (w : Purse) → purse most es ≡ w → AreApart es → length es ≡ 0 → w ≡ empty_purse w.places
+empty_from most es w is apart none =
+    subst (λ (v : Purse). v ≡ empty_purse v.places) is
+    (ap (λ (h : FinMap nat_cmp Pocket). let x : Purse = record { places = most; held = h } in x) (empty_of_len (map.from_entries {R = nat_cmp} es) (len-places es apart ∙ none)))
+
+pub none_from : (most : ℕ) (es : List (ℕ × Pocket)) (w : Purse) → purse most es ≡ w → AreApart es → w ≡ empty_purse w.places → length es ≡ 0
+none_from most es w is apart empty =
+    sym (len-places es apart) ∙ (ap (λ (v : Purse). map.len v.held) is ∙ (ap (λ (v : Purse). map.len v.held) empty ∙ len-empty nat_cmp Pocket))

@@ -5,8 +5,8 @@ use Rattle.std.proofs.lemmas.Bool.{cases_eq, cond-true, cond-false, eq-eqb, ne_e
 use Rattle.std.specs.FinMap as map
 use Rattle.atomic_table.specs.Seated.{TableId}
 use Rattle.token_book.specs.Account.{Slip}
-use Rattle.token_book.specs.Pocket.{Pocket, no_pocket, tickets_in, bytes_in, with_token, without_ticket}
-use Rattle.token_book.specs.Purse.{Purse, left_in, bytes_left_in, left_of, bytes_of, IsOf, pocket_of, pulled, put_in}
+use Rattle.token_book.specs.Pocket.{Pocket, no_pocket, tickets_in, bytes_in, with_pocket_in, with_token, without_ticket}
+use Rattle.token_book.specs.Purse.{Purse, left_in, bytes_left_in, left_of, bytes_of, IsOf, pocket_of, pulled, put_in, with_more}
 use Rattle.token_book.proofs.Purses.{left_of-with_pocket, bytes_of-with_pocket, IsOf-with_pocket}
 
 pocket_left : (table : TableId) (x : Option Pocket) → (unwrap_or x (no_pocket table)).left ≡ left_in x
@@ -61,3 +61,19 @@ pub IsOf-put_in : (table : TableId) (w : Purse) (t : Slip) → t.table ≡ table
 IsOf-put_in table w t is all =
     let own : IsOf t.table w = λ q p at. all q p at ∙ sym is in
     IsOf-with_pocket table w t.owner (with_token t (pocket_of t.table w t.owner)) all (pocket_table t.table w t.owner own ∙ is)
+
+-- and with what another pocket of an object has
+pub left_of-with_more : (table : TableId) (w : Purse) (o : ℕ) (p : Pocket) (q : ℕ) → left_of (with_more table w o p) q ≡ cond (q == o) (left_of w q + p.left) (left_of w q)
+left_of-with_more table w o p q =
+    left_of-with_pocket w o (with_pocket_in (pocket_of table w o) p) q
+    ∙ ap (λ (k : ℕ). cond (q == o) (k + p.left) (left_of w q)) (pocket_left table (map.get w.held o))
+    ∙ at_same (left_of w) o q p.left
+
+pub bytes_of-with_more : (table : TableId) (w : Purse) (o : ℕ) (p : Pocket) (q : ℕ) → bytes_of (with_more table w o p) q ≡ cond (q == o) (bytes_of w q + p.bytes) (bytes_of w q)
+bytes_of-with_more table w o p q =
+    bytes_of-with_pocket w o (with_pocket_in (pocket_of table w o) p) q
+    ∙ ap (λ (k : ℕ). cond (q == o) (k + p.bytes) (bytes_of w q)) (pocket_bytes table (map.get w.held o))
+    ∙ at_same (bytes_of w) o q p.bytes
+
+pub IsOf-with_more : (table : TableId) (w : Purse) (o : ℕ) (p : Pocket) → IsOf table w → IsOf table (with_more table w o p)
+IsOf-with_more table w o p all = IsOf-with_pocket table w o (with_pocket_in (pocket_of table w o) p) all (pocket_table table w o all)

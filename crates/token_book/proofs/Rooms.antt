@@ -15,8 +15,8 @@ use Rattle.view_lists.specs.Lists.{Has, AreDistinct}
 use Rattle.view_lists.proofs.Distinct.{length-distinct}
 use Rattle.atomic_table.specs.Seated.{TableId}
 use Rattle.token_book.specs.Account.{Slip}
-use Rattle.token_book.specs.Pocket.{Pocket, with_token, without_ticket}
-use Rattle.token_book.specs.Purse.{Purse, empty_purse, HasPlace, HasRoom, with_pocket, pocket_of, pulled, put_in}
+use Rattle.token_book.specs.Pocket.{Pocket, with_pocket_in, with_token, without_ticket}
+use Rattle.token_book.specs.Purse.{Purse, empty_purse, HasPlace, HasRoom, with_pocket, pocket_of, pulled, put_in, with_more}
 use Rattle.token_book.proofs.Purses.{eq_by_cmp-nat, get-with_pocket}
 
 both_left : (a b : Bool) → T (a && b) → T a
@@ -90,3 +90,6 @@ place-pulled table w o bytes q has = place-with_pocket w o (without_ticket bytes
 
 pub place-put_in : (w : Purse) (t : Slip) (q : ℕ) → HasPlace (put_in w t) q → (q ≡ t.owner) ⊎ HasPlace w q
 place-put_in w t q has = place-with_pocket w t.owner (with_token t (pocket_of t.table w t.owner)) q has
+
+pub place-with_more : (table : TableId) (w : Purse) (o : ℕ) (p : Pocket) (q : ℕ) → HasPlace (with_more table w o p) q → (q ≡ o) ⊎ HasPlace w q
+place-with_more table w o p q has = place-with_pocket w o (with_pocket_in (pocket_of table w o) p) q has

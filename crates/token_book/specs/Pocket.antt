@@ -2,7 +2,7 @@
 use Rattle.std.specs.Prelude.{◌≡◌, ℕ, ◌+◌, ◌-◌, ◌==◌, [], Option, Some, None, if◌then◌else◌, refl}
 use Rattle.std.specs.Coded.{Coded, code_by, coded×, coded_ℕ}
 use Rattle.atomic_table.specs.Seated.{TableId, table_id_coded}
-use Rattle.token_book.specs.Account.{Slip}
+use Rattle.token_book.specs.Account.{Slip, amount_of, with_amount}
 
 -- in which table they are, how many tickets, and the amount of the bytes
 pub record Pocket : Type 0 where
@@ -36,6 +36,15 @@ IsLike table owner name (Some t) = (t.table ≡ table) × (t.owner ≡ owner) ×
 -- the pocket after a token was put in
 abbrev pub with_token : Slip → Pocket → Pocket
 with_token t p = record { table = p.table; left = p.left + tickets_in t; bytes = p.bytes + bytes_in t }
+
+-- the pocket with what another one has
+abbrev pub with_pocket_in : Pocket → Pocket → Pocket
+with_pocket_in p q = record { table = p.table; left = p.left + q.left; bytes = p.bytes + q.bytes }
+
+-- two tokens of the same name as one, of which one or both may not be there
+abbrev pub merged_slip : Option Slip → Option Slip → Option Slip
+merged_slip kept None = kept
+merged_slip kept (Some t) = Some (with_amount t (amount_of kept + t.amount))
 
 -- the pocket after a ticket for so many bytes was taken out
 abbrev pub without_ticket : ℕ → Pocket → Pocket

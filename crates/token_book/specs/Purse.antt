@@ -1,13 +1,14 @@
 -- What contracts see of a wallet, and what the calls make of it.
-use Rattle.std.specs.Prelude.{◌≡◌, ℕ, ◌+◌, ◌<◌, ◌≤◌, ◌==◌, ◌⊎◌, List, [], ◌∷◌, Vec, vec_len, vec_capacity, IsSome, Option, Some, None, if◌then◌else◌, unwrap_or, refl}
+use Rattle.std.specs.Prelude.{◌≡◌, ℕ, ◌+◌, ◌<◌, ◌≤◌, ◌==◌, ◌⊎◌, List, [], ◌∷◌, length, Vec, vec_len, vec_capacity, IsSome, Option, Some, None, if◌then◌else◌, unwrap_or, refl}
 use Rattle.std.specs.declared.alloc.Global.{Global}
 use Rattle.std.specs.Ordering.{nat_cmp}
 use Rattle.std.specs.FinMap as map
 use Rattle.std.specs.FinMap.{FinMap}
 use Rattle.std.specs.Coded.{Coded, code_by, coded×, coded_ℕ}
 use Rattle.atomic_table.specs.Seated.{TableId}
+use Rattle.view_lists.specs.Lists.{Has}
 use Rattle.token_book.specs.Account.{Slip}
-use Rattle.token_book.specs.Pocket.{Pocket, pocket_code, no_pocket, with_token, without_ticket}
+use Rattle.token_book.specs.Pocket.{Pocket, pocket_code, no_pocket, with_pocket_in, with_token, without_ticket}
 
 -- how many places a wallet has, and what it holds of each object that has one
 pub record Purse : Type 0 where
@@ -67,6 +68,18 @@ pulled table w object bytes = with_pocket w object (without_ticket bytes (pocket
 -- the wallet after a token was put in
 abbrev pub put_in : Purse → Slip → Purse
 put_in w t = with_pocket w t.owner (with_token t (pocket_of t.table w t.owner))
+
+-- the wallet with what another pocket of an object has
+abbrev pub with_more : TableId → Purse → ℕ → Pocket → Purse
+with_more table w object p = with_pocket w object (with_pocket_in (pocket_of table w object) p)
+
+-- a wallet has room for all that it and another one hold: a list that is no longer than its places has each object of which one of
+-- them holds something
+pub record HasRoomForAll (w v : Purse) : Type 0 where
+  pub objects : List ℕ
+  pub few : length objects ≤ w.places
+  pub own : (o : ℕ) → HasPlace w o → Has objects o
+  pub others : (o : ℕ) → 0 < left_of v o + bytes_of v o → Has objects o
 
 -- the wallet that a list of places stands for
 abbrev pub purse : ℕ → List (ℕ × Pocket) → Purse

@@ -1,8 +1,8 @@
 // What a wallet holds of one object.
-ghost use Rattle.std.specs.Prelude.{◌≡◌, ◌+◌, ◌<◌, ◌≤◌, ◌==◌, Some};
+ghost use Rattle.std.specs.Prelude.{◌≡◌, ◌+◌, ◌<◌, ◌≤◌, ◌==◌, IfSome, Some};
 ghost use Rattle.token_book.specs.Account.{amount_of, with_amount};
 ghost use Rattle.token_book.specs.Ticket.{entry_right, bytes_rights};
-ghost use Rattle.token_book.specs.Pocket.{IsLike, no_pocket, with_token, without_ticket};
+ghost use Rattle.token_book.specs.Pocket.{IsLike, merged_slip, no_pocket, with_pocket_in, with_token, without_ticket};
 
 use crate::ticket::Ticket;
 use crate::tokens::{Token, Tokens};
@@ -49,6 +49,16 @@ fn add(tokens: &Tokens, kept: &mut Option<Token>, token: Token)
     match kept {
         Some(kept) => tokens.merge(kept, token),
         None => *kept = Some(token),
+    }
+}
+
+// Adds a token, if there is one, to one of its like, if there is one.
+fn add_if(tokens: &Tokens, kept: &mut Option<Token>, token: Option<Token>)
+    requires alike { IfSome token (λ t. (t.table ≡ tokens.now) × IsLike tokens.now t.owner t.name kept.old) }
+    ensures { kept.new ≡ merged_slip kept.old token }
+{
+    if let Some(token) = token {
+        add(tokens, kept, token);
     }
 }
 
@@ -127,6 +137,21 @@ impl ObjectRights {
         } else {
             add(tokens, &mut self.bytes, token);
         }
+    }
+
+    /// Puts in what another place has of the same object.
+    pub fn take_in(&mut self, tokens: &Tokens, other: ObjectRights)
+        requires table { (self.old.1.table ≡ tokens.now) × (other.1.table ≡ tokens.now) }
+        requires object { other.0 ≡ self.old.0 }
+        ensures { self.new ≡ (self.old.0, with_pocket_in self.old.1 other.1) }
+    {
+        let ObjectRights {
+            object: _,
+            entries,
+            bytes,
+        } = other;
+        add_if(tokens, &mut self.entries, entries);
+        add_if(tokens, &mut self.bytes, bytes);
     }
 
     /// Takes out a ticket for so many bytes.

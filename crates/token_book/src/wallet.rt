@@ -1,12 +1,12 @@
 // Wallets: the tickets of many objects.
-ghost use Rattle.std.specs.Prelude.{◌≡◌, ℕ, ◌+◌, ◌-◌, ◌<◌, ◌≤◌, ◌==◌, ◌↔◌, length, remove, slice_get, vec_len, vec_capacity, if◌then◌else◌, IfOk, IfSome, IfNone, Some, None};
+ghost use Rattle.std.specs.Prelude.{◌≡◌, ℕ, ◌+◌, ◌-◌, ◌<◌, ◌≤◌, ◌==◌, ◌↔◌, length, remove, slice_get, vec_len, vec_capacity, if◌then◌else◌, IfOk, IfSome, IfNone, IsTrue, Some, None};
 ghost use Rattle.std.specs.Ordering.{nat_cmp};
 ghost use Rattle.std.specs.FinMap as map;
 ghost use Rattle.atomic_table.specs.Seated.{TableId};
 ghost use Rattle.token_book.specs.Account.{amount_of};
 ghost use Rattle.token_book.specs.Ticket.{entry_right, bytes_rights, IsTicket};
 ghost use Rattle.token_book.specs.Pocket.{Pocket, tickets_in, bytes_in, with_token};
-ghost use Rattle.token_book.specs.Purse.{empty_purse, left_of, bytes_of, HasPlace, HasRoom, IsOf, with_pocket, pocket_of, pulled, put_in};
+ghost use Rattle.token_book.specs.Purse.{empty_purse, left_of, bytes_of, HasPlace, HasRoom, HasRoomForAll, IsOf, with_more, with_pocket, pocket_of, pulled, put_in};
 
 use crate::place::ObjectRights;
 use crate::ticket::Ticket;
@@ -107,6 +107,13 @@ impl Wallet {
         }
     }
 
+    /// Whether it holds nothing.
+    pub fn is_empty(&self) -> bool
+        ensures { IsTrue result ↔ (self.now ≡ empty_purse self.now.places) }
+    {
+        self.places.is_empty()
+    }
+
     // Keeps a place unless it is empty.
     fn keep(&mut self, place: ObjectRights)
         requires new { map.get self.old.held place.0 ≡ None }
@@ -158,6 +165,47 @@ impl Wallet {
         match index_of(&self.places, token.owner()) {
             Some(i) => self.places[i].add(tokens, token),
             None => self.keep(ObjectRights::of(token)),
+        }
+    }
+    // Takes out all that it holds of one object. Where it holds nothing, it stays so.
+    fn pop(&mut self) -> Option<ObjectRights>
+        ensures some { IfSome result (λ place. (map.get self.old.held place.0 ≡ Some place.1) × (0 < place.1.left + place.1.bytes)) }
+        ensures left { IfSome result (λ place. self.new ≡ record self.old { held = map.remove self.old.held place.0 }) }
+        ensures fewer { IfSome result (λ _. map.len self.new.held < map.len self.old.held) }
+        ensures none { IfNone result ((self.old ≡ empty_purse self.old.places) × (self.new ≡ self.old)) }
+    {
+        if self.places.is_empty() {
+            return None;
+        }
+        Some(self.places.remove(self.places.len() - 1))
+    }
+
+    // Puts in what another wallet had of one object.
+    fn put_place(&mut self, tokens: &Tokens, place: ObjectRights)
+        requires of { IsOf tokens.now self.old }
+        requires place { place.1.table ≡ tokens.now }
+        requires room { HasRoom self.old place.0 }
+        ensures { self.new ≡ with_more tokens.now self.old place.0 place.1 }
+    {
+        match index_of(&self.places, place.object()) {
+            Some(i) => self.places[i].take_in(tokens, place),
+            None => self.keep(place),
+        }
+    }
+
+    /// Moves all that another wallet holds into this one, which has room for it. The other one is empty
+    /// then.
+    pub fn put_all(&mut self, tokens: &Tokens, from: &mut Wallet)
+        requires of { IsOf tokens.now self.old × IsOf tokens.now from.old }
+        requires room { HasRoomForAll self.old from.old }
+        ensures of { IsOf tokens.now self.new }
+        ensures places { self.new.places ≡ self.old.places }
+        ensures left { (o : ℕ) → left_of self.new o ≡ left_of self.old o + left_of from.old o }
+        ensures bytes { (o : ℕ) → bytes_of self.new o ≡ bytes_of self.old o + bytes_of from.old o }
+        ensures empty { from.new ≡ empty_purse from.old.places }
+    {
+        while let Some(place) = from.pop() {
+            self.put_place(tokens, place);
         }
     }
 }

@@ -11,8 +11,8 @@ due_after-self-inside-requires-clause-proper c = first_proper c.self.inside.curs
 pub due_after-self-inside-requires-clause-whole : goal.due_after-self-inside-requires-clause-whole
 due_after-self-inside-requires-clause-whole c =
     let none = no_due c.self.inside.due c.self.inside.buffer (sym c.is_some-self-inside.ensures ∙ c.if-self.false) in
-    rw c.bytes.ensures.value (first_whole c.self.inside.initiator c.self.inside.seq (due_at c.self.inside.due c.self.inside.buffer) c.self.inside.cursor c.self.inside.ended
-    c.args.self.now c.self.view_is c.in-Some.operation.now c.args.payload.now.bytes c.in-Some.ensures.next none c.requires.whole)
+    λ read. rw c.bytes.ensures.value (first_whole c.self.inside.initiator c.self.inside.seq (due_at c.self.inside.due c.self.inside.buffer) c.self.inside.cursor c.self.inside.ended
+    c.args.self.now c.self.view_is c.in-Some.operation.now c.args.payload.now.bytes c.in-Some.ensures.next none c.requires.whole read)
 
 pub invariant_of-self-in-Some : goal.invariant_of-self-in-Some
 invariant_of-self-in-Some c =

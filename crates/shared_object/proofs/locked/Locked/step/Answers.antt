@@ -14,7 +14,7 @@ use Rattle.tlm_types.specs.declared.entry.Content.{Content}
 use Rattle.shared_object.specs.Written.{own_number, Written, sign_of, wrote, placed, written_at}
 use Rattle.shared_object.specs.Standing.{Numbered, place, HasGates, Meets, AreVouched, IsSeat, IsBook}
 use Rattle.shared_object.specs.Steps.{IsNoteAt, HasTicket, addition, Enters}
-use Rattle.shared_object.proofs.Seats.{knows_entries, Grew, joined_grew, grew, past, low, late, copied_seat, left_same, at_table, has_stay, at_gate, shows}
+use Rattle.shared_object.proofs.Seats.{knows_entries, Grew, joined_grew, grew, past, low, late, copied_seat, left_same, at_table, has_stay, at_gate, shows, stands_below}
 use Rattle.shared_object.proofs.Calls.{built_for, built_again, backed_by, vouched_after, vouched_left, vouched_right, log_is, room_is, may_write, kept_book, some_of}
 use Rattle.shared_object.proofs.locked.Locked.step.Goals as goal
 
@@ -258,6 +258,9 @@ returns-clause-answer g c =
       past = past g.N.Naming.table g.N.Naming.frame s.book.owner (g.O.Object.entries o) s.seat c.args.note.knows c.take_in.new.seat.knows d content (seat_now g c) c.take_in.ensures.joined (number_joined g c) c.take_in.ensures.own c.enter-position.result.0 e.drawn;
       knew = subst (λ (l : List (Entry Content)). Within c.args.note.knows.known l) (sym known) t.note_knew;
       knows = subst (λ (l : List (Entry Content)). Within (map (placed n.number) (g.O.Object.entries after)) l) (sym known) (subst (λ (l : List (Entry Content)). Within l d.known) own t.knows);
+      below = λ x has. subst (λ (q : ℕ). x.position < q) (sym seen)
+          (stands_below g.N.Naming.table g.N.Naming.frame s.book.owner (g.O.Object.entries o) s.seat c.args.note.knows c.take_in.new.seat.knows d content (seat_now g c) c.take_in.ensures.joined (number_joined g c) c.take_in.ensures.own e.mine c.enter-position.result.0 e.drawn x
+          (subst (λ (l : List (Entry Content)). Has l x) known has));
       void = λ x has. subst (λ (l : List ℕ). Has l x) (sym void) (has_right s.seat.knows.void c.args.note.knows.void x has);
       drained = λ x has. subst (λ (l : List ℕ). Has l x) (sym drained) (has_right s.seat.knows.drained c.args.note.knows.drained x has);
       revoked = λ gate has of. subst (λ (q : ℕ). IsRevoked (map (placed q) (g.O.Object.entries o)) gate) num
