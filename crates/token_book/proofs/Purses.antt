@@ -92,3 +92,20 @@ IsOf-with_pocket table w o p all is q r at =
     (λ (else : (q ≢ o) × (map.get (with_pocket w o p).held q ≡ map.get w.held q)). all q r (sym else.1 ∙ at))
     rest)
     (get-with_pocket w o p q)
+
+-- a wallet without what it had of one object
+abbrev without : Purse → ℕ → Purse
+without w o = record { places = w.places; held = map.remove w.held o }
+
+pub IsOf-without : (table : TableId) (w : Purse) (o : ℕ) → IsOf table w → IsOf table (without w o)
+IsOf-without table w o of q p at =
+    ⊎_elim
+    (λ (is : q ≡ o). let none : Some p ≡ None = sym at ∙ (get-removed w.held o q ∙ cond-true (q == o) None (map.get w.held q) (eq-eqb q o is)) in absurd (cc (none)))
+    (λ (no : q ≢ o). of q p (sym (get-removed w.held o q ∙ cond-false (q == o) None (map.get w.held q) (ne_eqb q o no)) ∙ at))
+    (cases_eq q o)
+
+pub left_of-without : (w : Purse) (o q : ℕ) → q ≢ o → left_of (without w o) q ≡ left_of w q
+left_of-without w o q far = ap left_in (get-removed w.held o q ∙ cond-false (q == o) None (map.get w.held q) (ne_eqb q o far))
+
+pub none_of-without : (w : Purse) (o q : ℕ) → q ≡ o → left_of (without w o) q ≡ 0
+none_of-without w o q is = ap left_in (get-removed w.held o q ∙ cond-true (q == o) None (map.get w.held q) (eq-eqb q o is))

@@ -60,3 +60,8 @@ with_amount t amount = record { table = t.table; owner = t.owner; name = t.name;
 abbrev pub amount_of : Option Slip → ℕ
 amount_of None = 0
 amount_of (Some t) = t.amount
+
+-- how much of a name it is
+abbrev pub named_amount : ℕ → Option Slip → ℕ
+named_amount name None = 0
+named_amount name (Some t) = if t.name == name then t.amount else 0

@@ -1,11 +1,11 @@
 // What a wallet holds of one object.
-ghost use Rattle.std.specs.Prelude.{◌≡◌, ◌+◌, ◌<◌, ◌≤◌, ◌==◌, IfSome, Some};
-ghost use Rattle.token_book.specs.Account.{amount_of, with_amount};
+ghost use Rattle.std.specs.Prelude.{◌≡◌, MatchOption, ℕ, ◌+◌, ◌<◌, ◌≤◌, ◌==◌, IfSome, Some};
+ghost use Rattle.token_book.specs.Account.{Slip, amount_of, named_amount, out_of, with_amount};
 ghost use Rattle.token_book.specs.Ticket.{entry_right, bytes_rights};
 ghost use Rattle.token_book.specs.Pocket.{IsLike, merged_slip, no_pocket, with_pocket_in, with_token, without_ticket};
 
 use crate::ticket::Ticket;
-use crate::tokens::{Token, Tokens};
+use crate::tokens::{Book, Token, Tokens};
 use std::marker::Model;
 
 /// The tickets and the bytes of one object. Contracts see its number, and them as a pocket.
@@ -74,6 +74,18 @@ fn take_bytes(tokens: &Tokens, kept: &mut Option<Token>, object: u32, bytes: u64
     }
     let Some(kept) = kept else { unreachable!() };
     Some(tokens.part(kept, bytes))
+}
+
+// Retires a token into the book of its owner, if there is one.
+fn retire(tokens: &Tokens, book: &mut Book, token: Option<Token>)
+    requires book { book.old.table ≡ tokens.now }
+    requires alike { MatchOption token (Unit {0}) (λ (t : Slip). (t.table ≡ tokens.now) × (t.owner ≡ book.old.owner)) }
+    ensures book { (book.new.table ≡ book.old.table) × (book.new.owner ≡ book.old.owner) }
+    ensures out { (name : ℕ) → out_of name book.new.out + named_amount name token ≡ out_of name book.old.out }
+{
+    if let Some(token) = token {
+        tokens.retire(book, token);
+    }
 }
 
 impl ObjectRights {
@@ -169,5 +181,22 @@ impl ObjectRights {
         let entry = tokens.part(entries, 1);
         let bytes = take_bytes(tokens, &mut self.bytes, self.object, bytes);
         Ticket { entry, bytes }
+    }
+
+    /// Retires its tickets and its bytes into the book of its object.
+    pub fn retire(self, tokens: &Tokens, book: &mut Book)
+        requires table { (self.1.table ≡ tokens.now) × (0 < self.1.left + self.1.bytes) }
+        requires book { (book.old.table ≡ tokens.now) × (book.old.owner ≡ self.0) }
+        ensures book { (book.new.table ≡ book.old.table) × (book.new.owner ≡ book.old.owner) }
+        ensures tickets { out_of 0 book.new.out + self.1.left ≡ out_of 0 book.old.out }
+        ensures bytes { out_of 1 book.new.out + self.1.bytes ≡ out_of 1 book.old.out }
+    {
+        let ObjectRights {
+            object: _,
+            entries,
+            bytes,
+        } = self;
+        retire(tokens, book, entries);
+        retire(tokens, book, bytes);
     }
 }

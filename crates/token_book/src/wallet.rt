@@ -3,14 +3,14 @@ ghost use Rattle.std.specs.Prelude.{◌≡◌, ℕ, ◌+◌, ◌-◌, ◌<◌, �
 ghost use Rattle.std.specs.Ordering.{nat_cmp};
 ghost use Rattle.std.specs.FinMap as map;
 ghost use Rattle.atomic_table.specs.Seated.{TableId};
-ghost use Rattle.token_book.specs.Account.{amount_of};
+ghost use Rattle.token_book.specs.Account.{amount_of, out_of};
 ghost use Rattle.token_book.specs.Ticket.{entry_right, bytes_rights, IsTicket};
 ghost use Rattle.token_book.specs.Pocket.{Pocket, tickets_in, bytes_in, with_token};
 ghost use Rattle.token_book.specs.Purse.{empty_purse, left_of, bytes_of, HasPlace, HasRoom, HasRoomForAll, IsOf, with_more, with_pocket, pocket_of, pulled, put_in};
 
 use crate::place::ObjectRights;
 use crate::ticket::Ticket;
-use crate::tokens::{Token, Tokens};
+use crate::tokens::{Book, Token, Tokens};
 use std::alloc::Global;
 use std::marker::Model;
 use tlm_types::Memory;
@@ -206,6 +206,35 @@ impl Wallet {
     {
         while let Some(place) = from.pop() {
             self.put_place(tokens, place);
+        }
+    }
+
+    // Takes out all that it holds of this object.
+    fn take_out(&mut self, object: u32) -> Option<ObjectRights>
+        ensures some { IfSome result (λ place. (place.0 ≡ object) × (map.get self.old.held object ≡ Some place.1) × (0 < place.1.left + place.1.bytes)) }
+        ensures left { IfSome result (λ _. self.new ≡ record self.old { held = map.remove self.old.held object }) }
+        ensures none { IfNone result ((map.get self.old.held object ≡ None) × (self.new ≡ self.old)) }
+    {
+        let Some(i) = index_of(&self.places, object) else {
+            return None;
+        };
+        Some(self.places.remove(i))
+    }
+
+    /// Retires all tickets and bytes that it holds of the owner of a book into that book. What it holds of
+    /// others stays.
+    pub fn hand_back(&mut self, tokens: &Tokens, book: &mut Book)
+        requires of { IsOf tokens.now self.old }
+        requires book { book.old.table ≡ tokens.now }
+        ensures of { IsOf tokens.now self.new }
+        ensures others { (o : ℕ) → (o ≡ book.old.owner → ⊥) → left_of self.new o ≡ left_of self.old o }
+        ensures none { left_of self.new book.old.owner ≡ 0 }
+        ensures book { (book.new.table ≡ book.old.table) × (book.new.owner ≡ book.old.owner) }
+        ensures tickets { out_of 0 book.new.out + left_of self.old book.old.owner ≡ out_of 0 book.old.out }
+        ensures bytes { out_of 1 book.new.out + bytes_of self.old book.old.owner ≡ out_of 1 book.old.out }
+    {
+        if let Some(rights) = self.take_out(book.owner()) {
+            rights.retire(tokens, book);
         }
     }
 }
