@@ -1,6 +1,6 @@
 -- What a note knows backs the calls of a pool, and what they leave.
 use Rattle.std.proofs.Common.{◌≡◌, ℕ, ◌+◌, ◌-◌, ◌*◌, ◌<◌, List, [], ◌∷◌, ◌++◌, length, map, get_or, Bool, true, false, Option, Some, None, refl, sym, ◌∙◌, ap, arith, subst}
-use Rattle.std.specs.Prelude.{◌/◌, ◌%◌, min, slice_get, MatchOption}
+use Rattle.std.specs.Prelude.{◌≤◌, ◌/◌, ◌%◌, min, slice_get, IfSome, MatchOption}
 use Rattle.std.specs.Option.{unwrap_or}
 use Rattle.atomic_table.specs.Seated.{TableId}
 use Rattle.view_lists.specs.Lists.{Has}
@@ -134,7 +134,7 @@ module _ (frame : Frame Plan) (tokens : TableId) (number own : ℕ) (x : TxnId) 
       (backed_as (world_of frame.world) (Known frame.world.platform note.known) x may.pass may.passes (event_of frame.world.platform (placed number (wrote q (content_of v (Take x at))))) (Pool x.initiator) 0 (Whats.Take (free_place v.slots)) refl
       (object_is frame tokens number own x may.pool) refl refl refl)
 
-  pub taken : (back : View Content Plan) (b : Baton) → HasPooled frame tokens number own note back (Take x at) (Took (Some b)) → HasTaken frame tokens x at b back.known
+  pub taken : (back : View Content Plan) (b : Baton) → HasPooled frame tokens number own note back (Take x at) (Took (Some b)) → HasTaken frame tokens x at note.seen b back.known
   taken back b a =
       let v = a.before in
       let t = a.applied in
@@ -144,6 +144,7 @@ module _ (frame : Frame Plan) (tokens : TableId) (number own : ℕ) (x : TxnId) 
       let slot : b.slot ≡ free_place v.slots = ap (λ (d : Baton). d.slot) is in
       record {
         position = e.0;
+        late = (subst (λ (z : Option ℕ). IfSome z (λ k. (note.seen ≤ k) × (k < back.seen))) e.1.0 a.enters.late).0;
         taken = record {
           event = event_of frame.world.platform (placed number (wrote e.0 (content_of v (Take x at))));
           known = record { entry = placed number (wrote e.0 (content_of v (Take x at))); has = e.1.1; is = refl };

@@ -17,14 +17,15 @@ use Rattle.tlm_types.specs.declared.words.MemoryTraits.{MemoryTraits}
 use Rattle.tlm_types.specs.declared.words.ObjectNo.TheVariants.{Memory, Hop}
 use Rattle.tlm_types.specs.declared.words.Phase.TheVariants.{BeginReq}
 use Rattle.tlm_types.specs.declared.words.Response.{Response}
-use Rattle.tlm_types.specs.declared.words.Response.TheVariants.{Incomplete, Ok, AddressError, CommandError, BurstError, ByteEnableError}
+use Rattle.tlm_types.specs.declared.words.Response.TheVariants.{Incomplete, Ok, GenericError, AddressError, CommandError, BurstError, ByteEnableError}
 use Rattle.tlm_types.specs.declared.words.TxnId.{TxnId}
 use Rattle.tlm_types.specs.declared.words.Way.TheVariants.{FourPhase}
 use Rattle.tlm_model.specs.Log.{log_bytes}
 use Rattle.tlm_model.specs.Plan.{Plan}
 use Rattle.tlm_model.specs.Route.{later}
-use Rattle.tlm_model.specs.Store.{got_of, is_allowed, span_of, status_by, status_of, zeros}
+use Rattle.tlm_model.specs.Store.{got_by, got_of, is_allowed, span_of, status_by, status_of, zeros}
 use Rattle.generic_payload.specs.Payload.{PayloadView, access_of}
+use Rattle.generic_payload.proofs.Moves.{length-taken_from}
 use Rattle.token_book.specs.Purse.{IsOf, Purse, bytes_of, left_of}
 use Rattle.shared_object.specs.Steps.{addition}
 use Rattle.shared_object.specs.Written.{Written, placed, wrote}
@@ -53,6 +54,19 @@ use Rattle.cargo_net.specs.Serves.{HasServed, MayServe, access_call}
 use Rattle.cargo_net.specs.Traffic.{Backs}
 use Rattle.cargo_net.proofs.AskedLemmas.{asked_reads_zeros, last_offset}
 use Rattle.cargo_net.proofs.Lists.{read_there}
+
+-- a read comes back as long as it was
+read_long : (r : Response) (c : Command) (a : Access) (bytes store : List ℕ) → c ≡ Commands.Read → length (buffer_after c (got_by c r a store) bytes) ≡ length a.sent
+read_long Ok Commands.Read a bytes store is = length-taken_from a 0 a.sent store
+read_long Incomplete Commands.Read a bytes store is = refl
+read_long GenericError Commands.Read a bytes store is = refl
+read_long AddressError Commands.Read a bytes store is = refl
+read_long CommandError Commands.Read a bytes store is = refl
+read_long BurstError Commands.Read a bytes store is = refl
+read_long ByteEnableError Commands.Read a bytes store is = refl
+read_long r Commands.Write a bytes store is = cc
+read_long r Commands.Ignore a bytes store is = cc
+read_long r Commands.FetchAdd a bytes store is = cc
 
 -- a memory answers each access
 one_of_five : (b c d e : Bool) → cond b AddressError (cond c CommandError (cond d ByteEnableError (cond e BurstError Ok))) ≡ Incomplete → ⊥
@@ -238,6 +252,9 @@ module _ (frame : Frame Plan) (tokens : TableId) (number own : ℕ) (c : Cargo) 
         what = ap (λ (b : Access). AccessEntry FourPhase b (status m) (got m)) content_at;
         same_status = ap (λ (y : PayloadView). y.status) answer;
         same_bytes = λ read. ap (λ (y : PayloadView). y.bytes) answer ∙ ap (λ (d : Command). buffer_after d (got m) asks.bytes) (ap (λ (b : Access). b.command) down.content ∙ read);
+        long = λ read. ap (λ (y : PayloadView). length y.bytes) answer
+            ∙ read_long (status m) asks.command (access_of asks) asks.bytes (log_bytes m.traits m.log.entries) (ap (λ (b : Access). b.command) down.content ∙ read)
+            ∙ ap (λ (b : Access). length b.sent) down.content;
       };
       time = refl;
     }

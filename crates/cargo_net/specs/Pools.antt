@@ -1,5 +1,5 @@
 -- A pool that a call meets at a place of the history, what its answer is, and what a component needs to know to call it.
-use Rattle.std.specs.Prelude.{ℕ, ◌≡◌, ◌+◌, ◌<◌, Bool, List, length, map, Option, Some}
+use Rattle.std.specs.Prelude.{ℕ, ◌≡◌, ◌+◌, ◌<◌, ◌≤◌, Bool, List, length, map, Option, Some}
 use Rattle.std.specs.Option.{unwrap_or}
 use Rattle.atomic_table.specs.Seated.{TableId}
 use Rattle.one_history.specs.declared.entry.Entry.{Entry}
@@ -83,9 +83,11 @@ pub record MayTake (frame : Frame Plan) (number : ℕ) (x : TxnId) : Type 0 wher
   pub passes : passage_of frame.world x ≡ Some pass
   pub pool : IsPoolOf frame number x
 
--- It was taken at this time: the Take is known, and the baton has its slot and its reference, a payload as new, and an empty wallet.
-pub record HasTaken (frame : Frame Plan) (tokens : TableId) (x : TxnId) (at : ℕ) (b : Baton) (known : List (Entry Content)) : Type 0 where
+-- It was taken at this time: the Take is known and stands after all that the note had seen, and the baton has its slot and its reference, a payload as
+-- new, and an empty wallet.
+pub record HasTaken (frame : Frame Plan) (tokens : TableId) (x : TxnId) (at : ℕ) (seen : ℕ) (b : Baton) (known : List (Entry Content)) : Type 0 where
   pub position : ℕ
+  pub late : seen ≤ position
   pub taken : FindsAt (Known frame.world.platform known) (IsTaken x position b.slot) at
   pub baton : b ≡ record { payload = new_payload 4096; wallet = empty_purse 12; slot = b.slot; txn = x; own = reference frame.world tokens x position 16 }
 

@@ -27,7 +27,7 @@ took_reply (Full ticket note) = Replies.Took None
 -- a payload was taken, or all slots are live and the ticket comes back
 abbrev pub IsTakenAs : Frame Plan → TableId → ℕ → Ticket → TxnId → ℕ → View Content Plan → Taken → Type 0
 IsTakenAs frame tokens number given x at old (Took baton note) =
-    HasTaken frame tokens x at baton note.knows.known
+    HasTaken frame tokens x at old.seen baton note.knows.known
     × (note.knows.looks ≡ old.looks ++ (number, 0) ∷ [])
 IsTakenAs frame tokens number given x at old (Full ticket note) =
     (ticket ≡ given)

@@ -1,6 +1,7 @@
 // A router sends a request on.
 ghost use Rattle.std.specs.Prelude.{◌≡◌, ◌+◌, [], ◌∷◌, ◌++◌};
 ghost use Rattle.view_lists.specs.Lists.{Within};
+ghost use Rattle.one_history.specs.Lists.{StandBelow};
 ghost use Rattle.shared_object.specs.Steps.{IsNote};
 ghost use Rattle.cargo_model.specs.Known.{Known};
 ghost use Rattle.cargo_model.specs.Travel.{GoesDown, Ready};
@@ -50,6 +51,7 @@ pub fn descend<R: Wait, N: Naming<Plan, TlmLaw>>(
     requires may { MayDescend N.frame N.tokens pool.now.number cargo above address at note.knows.known }
     ensures note { IsNote N.table result.note }
     ensures knew { Within note.knows.known result.note.knows.known }
+    ensures below { StandBelow result.note.knows.known result.note.knows.seen }
     ensures look { result.note.knows.looks ≡ note.knows.looks ++ (pool.now.number, 0) ∷ [] }
     ensures kept { result.kept ≡ cargo.hold }
     ensures ticket { IsTicketAt N.tokens above result.ticket }

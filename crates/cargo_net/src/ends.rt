@@ -1,6 +1,7 @@
 // END_REQ and END_RESP, by a leg in hand.
 ghost use Rattle.std.specs.Prelude.{◌≡◌, [], ◌∷◌, ◌++◌};
 ghost use Rattle.view_lists.specs.Lists.{Within};
+ghost use Rattle.one_history.specs.Lists.{StandBelow};
 ghost use Rattle.token_book.specs.Ticket.{IsTicket};
 ghost use Rattle.shared_object.specs.Steps.{IsNote};
 ghost use Rattle.hop_object.specs.declared.call.HopCall.TheVariants.{EndReq, EndResp};
@@ -50,6 +51,7 @@ pub fn end_req<R: Wait, N: Naming<Plan, TlmLaw>>(
     requires may { MayEndRequest N.frame N.tokens hop.now.number leg at note.knows.known }
     ensures note { IsNote N.table result.2 }
     ensures knew { Within note.knows.known result.2.knows.known }
+    ensures below { StandBelow result.2.knows.known result.2.knows.seen }
     ensures look { result.2.knows.looks ≡ note.knows.looks ++ (hop.now.number, 0) ∷ [] }
     ensures answer { HasAnswered N.frame N.tokens hop.now.number hop.now.own note.knows result.2.knows
         (EndReq leg at) (EndedReq result.0 result.1) }
@@ -100,6 +102,7 @@ pub fn end_resp<R: Wait, N: Naming<Plan, TlmLaw>>(
     requires may { MayEndResponse N.frame N.tokens hop.now.number leg at note.knows.known }
     ensures note { IsNote N.table result.1 }
     ensures knew { Within note.knows.known result.1.knows.known }
+    ensures below { StandBelow result.1.knows.known result.1.knows.seen }
     ensures look { result.1.knows.looks ≡ note.knows.looks ++ (hop.now.number, 0) ∷ [] }
     ensures answer { HasAnswered N.frame N.tokens hop.now.number hop.now.own note.knows result.1.knows
         (EndResp leg at) (EndedResp result.0) }

@@ -1,6 +1,7 @@
 // Looks at a hop: fetches of payloads that wait there, and whether a transaction has ended.
 ghost use Rattle.std.specs.Prelude.{◌≡◌, [], ◌∷◌, ◌++◌, IfSome};
 ghost use Rattle.view_lists.specs.Lists.{Within};
+ghost use Rattle.one_history.specs.Lists.{StandBelow};
 ghost use Rattle.shared_object.specs.Steps.{IsNote};
 ghost use Rattle.hop_object.specs.Objects.{look_of};
 ghost use Rattle.hop_object.specs.declared.call.HopCall.TheVariants.{Ended as AskEnded, FetchDown, FetchUp};
@@ -61,6 +62,7 @@ pub fn fetch_request<R: Wait, N: Naming<Plan, TlmLaw>>(
     requires there { IsHopThere N.frame.world hop.now.number }
     ensures note { IsNote N.table result.1 }
     ensures knew { Within note.knows.known result.1.knows.known }
+    ensures below { StandBelow result.1.knows.known result.1.knows.seen }
     ensures look { result.1.knows.looks ≡ note.knows.looks ++ (hop.now.number, look_of (down_reply result.0)) ∷ [] }
     ensures answer { HasAnswered N.frame N.tokens hop.now.number hop.now.own note.knows result.1.knows
         FetchDown (down_reply result.0) }
@@ -112,6 +114,7 @@ pub fn fetch_response<R: Wait, N: Naming<Plan, TlmLaw>>(
     requires there { IsHopThere N.frame.world hop.now.number }
     ensures note { IsNote N.table result.1 }
     ensures knew { Within note.knows.known result.1.knows.known }
+    ensures below { StandBelow result.1.knows.known result.1.knows.seen }
     ensures look { result.1.knows.looks ≡ note.knows.looks ++ (hop.now.number, look_of (up_reply result.0)) ∷ [] }
     ensures answer { HasAnswered N.frame N.tokens hop.now.number hop.now.own note.knows result.1.knows
         FetchUp (up_reply result.0) }
@@ -147,6 +150,7 @@ pub fn has_ended<R: Wait, N: Naming<Plan, TlmLaw>>(
     requires note { IsNote N.table note }
     ensures note { IsNote N.table result.1 }
     ensures knew { Within note.knows.known result.1.knows.known }
+    ensures below { StandBelow result.1.knows.known result.1.knows.seen }
     ensures look { result.1.knows.looks ≡ note.knows.looks ++ (hop.now.number, look_of (ended_reply result.0)) ∷ [] }
     ensures answer { HasAnswered N.frame N.tokens hop.now.number hop.now.own note.knows result.1.knows
         (AskEnded txn) (ended_reply result.0) }

@@ -2,6 +2,7 @@
 ghost use Rattle.std.specs.Prelude.{◌≡◌};
 ghost use Rattle.std.specs.Option.{option_map};
 ghost use Rattle.view_lists.specs.Lists.{Within};
+ghost use Rattle.one_history.specs.Lists.{StandBelow};
 ghost use Rattle.shared_object.specs.Steps.{IsNote};
 ghost use Rattle.cargo_net.specs.Forwards.{forwarded_note, HasForwarded, IsForwarded, MayForward};
 
@@ -70,6 +71,7 @@ pub fn forward<R: Wait, N: Naming<Plan, TlmLaw>>(
     requires may { MayForward N.frame N.tokens hop.now.number (option_map (λ m. m.now.number) memory) latency cargo at note.knows.known }
     ensures note { IsNote N.table (forwarded_note result) }
     ensures knew { Within note.knows.known (forwarded_note result).knows.known }
+    ensures below { StandBelow (forwarded_note result).knows.known (forwarded_note result).knows.seen }
     ensures answer { HasForwarded N.frame N.tokens hop.now.number hop.now.own cargo at note.knows (forwarded_note result).knows result }
     ensures forwarded { (may : MayForward N.frame N.tokens hop.now.number (option_map (λ m. m.now.number) memory.entry) latency cargo at note.knows.known) →
         IsForwarded N.frame N.tokens hop.now.number (option_map (λ m. m.now.number) memory.entry) latency cargo at may.begins.pass may.begins.hop note.knows result }

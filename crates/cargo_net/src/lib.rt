@@ -3,6 +3,7 @@
 //!
 //! - `TlmLaw` is the law of the histories of platforms, and what its world says of memories, hops and pools.
 //! - `forward`, `end_req`, `backward` and `end_resp` make BEGIN_REQ, END_REQ, BEGIN_RESP and END_RESP;
+//!   `begin_req` makes BEGIN_REQ alone, as an entry of its own, and `Tried` is its answer;
 //!   `fetch_request` and `fetch_response` take what waits at the two ends of a hop, and `has_ended` looks
 //!   whether a transaction has ended there. `Forwarded` is what BEGIN_REQ answers, `Answered` what
 //!   BEGIN_RESP does.
@@ -37,6 +38,7 @@ pub use fetches::{FetchedRequest, FetchedResponse, fetch_request, fetch_response
 pub use forwards::{Forwarded, forward};
 pub use law::TlmLaw;
 pub use pools::{Taken, acquire, live, release, stow, take};
+pub use requests::{Tried, begin_req};
 pub use responses::{Answered, backward};
 pub use serves::serve;
 pub use starts::start;

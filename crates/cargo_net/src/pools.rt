@@ -1,6 +1,7 @@
 // References to pooled payloads.
 ghost use Rattle.std.specs.Prelude.{◌≡◌, [], ◌∷◌, ◌++◌};
 ghost use Rattle.view_lists.specs.Lists.{Within};
+ghost use Rattle.one_history.specs.Lists.{StandBelow};
 ghost use Rattle.shared_object.specs.Steps.{IsNote};
 ghost use Rattle.token_book.specs.Ticket.{IsTicket};
 ghost use Rattle.payload_pool.specs.Calls.{look_of};
@@ -87,6 +88,7 @@ pub fn take<R: Wait, N: Naming<Plan, TlmLaw>>(
     requires may { MayTake N.frame pool.now.number txn }
     ensures note { IsNote N.table (taken_note result) }
     ensures knew { Within note.knows.known (taken_note result).knows.known }
+    ensures below { StandBelow (taken_note result).knows.known (taken_note result).knows.seen }
     ensures answer { HasPooled N.frame N.tokens pool.now.number pool.now.own note.knows (taken_note result).knows
         (Calls.Take txn at) (took_reply result) }
     ensures taken { IsTakenAs N.frame N.tokens pool.now.number ticket txn at note.knows result }
@@ -127,6 +129,7 @@ pub fn acquire<R: Wait, N: Naming<Plan, TlmLaw>>(
     requires may { MayAcquire N.frame N.tokens pool.now.number baton at note.knows.known }
     ensures note { IsNote N.table result.1 }
     ensures knew { Within note.knows.known result.1.knows.known }
+    ensures below { StandBelow result.1.knows.known result.1.knows.seen }
     ensures look { result.1.knows.looks ≡ note.knows.looks ++ (pool.now.number, 0) ∷ [] }
     ensures acquired { (may : MayAcquire N.frame N.tokens pool.now.number baton at note.knows.known) →
         HasAcquired N.frame N.tokens pool.now.number baton at may.position may.count result.0.baton result.0.hold result.1.knows.known }
@@ -165,6 +168,7 @@ pub fn release<R: Wait, N: Naming<Plan, TlmLaw>>(
     requires may { MayRelease N.frame N.tokens pool.now.number hold at note.knows.known }
     ensures note { IsNote N.table result.1 }
     ensures knew { Within note.knows.known result.1.knows.known }
+    ensures below { StandBelow result.1.knows.known result.1.knows.seen }
     ensures look { result.1.knows.looks ≡ note.knows.looks ++ (pool.now.number, 0) ∷ [] }
     ensures released { (may : MayRelease N.frame N.tokens pool.now.number hold at note.knows.known) →
         HasReleased N.frame may.x may.count at result.0 result.1.knows.known }
@@ -201,6 +205,7 @@ pub fn stow<R: Wait, N: Naming<Plan, TlmLaw>>(
     requires may { MayStow N.frame N.tokens pool.now.number baton at note.knows.known }
     ensures note { IsNote N.table result.1 }
     ensures knew { Within note.knows.known result.1.knows.known }
+    ensures below { StandBelow result.1.knows.known result.1.knows.seen }
     ensures look { result.1.knows.looks ≡ note.knows.looks ++ (pool.now.number, 0) ∷ [] }
     ensures stowed { HasReleased N.frame baton.txn 15 at result.0 result.1.knows.known }
 {
@@ -240,6 +245,7 @@ pub fn live<R: Wait, N: Naming<Plan, TlmLaw>>(
     requires note { IsNote N.table note }
     ensures note { IsNote N.table result.1 }
     ensures knew { Within note.knows.known result.1.knows.known }
+    ensures below { StandBelow result.1.knows.known result.1.knows.seen }
     ensures look { result.1.knows.looks ≡ note.knows.looks ++ (pool.now.number, look_of (Replies.Live result.0)) ∷ [] }
     ensures answer { HasPooled N.frame N.tokens pool.now.number pool.now.own note.knows result.1.knows
         Calls.Live (Replies.Live result.0) }

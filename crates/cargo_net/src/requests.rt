@@ -1,6 +1,7 @@
 // BEGIN_REQ with a payload on its way.
 ghost use Rattle.std.specs.Prelude.{◌≡◌};
 ghost use Rattle.view_lists.specs.Lists.{Within};
+ghost use Rattle.one_history.specs.Lists.{StandBelow};
 ghost use Rattle.shared_object.specs.Steps.{IsNote};
 ghost use Rattle.hop_object.specs.declared.call.HopCall.TheVariants.{BeginReq};
 ghost use Rattle.hop_object.specs.declared.call.HopReply.TheVariants.{Begun as AnswerTo};
@@ -79,6 +80,7 @@ pub fn begin_req<R: Wait, N: Naming<Plan, TlmLaw>>(
     requires may { MayBegin N.frame N.tokens hop.now.number cargo at note.knows.known }
     ensures note { IsNote N.table (tried_note result) }
     ensures knew { Within note.knows.known (tried_note result).knows.known }
+    ensures below { StandBelow (tried_note result).knows.known (tried_note result).knows.seen }
     ensures answer { HasAnswered N.frame N.tokens hop.now.number hop.now.own note.knows (tried_note result).knows
         (BeginReq cargo.baton.txn at (item_given N.tokens hop.now.number cargo)) (begun_reply (item_given N.tokens hop.now.number cargo) result) }
     ensures tried { (may : MayBegin N.frame N.tokens hop.now.number cargo at note.knows.known) →

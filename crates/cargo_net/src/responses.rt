@@ -1,6 +1,7 @@
 // BEGIN_RESP with a payload on its way back.
 ghost use Rattle.std.specs.Prelude.{◌≡◌};
 ghost use Rattle.view_lists.specs.Lists.{Within};
+ghost use Rattle.one_history.specs.Lists.{StandBelow};
 ghost use Rattle.shared_object.specs.Steps.{IsNote};
 ghost use Rattle.hop_object.specs.declared.call.HopCall.TheVariants.{BeginResp};
 ghost use Rattle.hop_object.specs.declared.call.HopReply.TheVariants.{Responded as AnswerTo};
@@ -70,6 +71,7 @@ pub fn backward<R: Wait, N: Naming<Plan, TlmLaw>>(
     requires may { MayRespond N.frame N.tokens hop.now.number leg cargo at note.knows.known }
     ensures note { IsNote N.table (answered_note result) }
     ensures knew { Within note.knows.known (answered_note result).knows.known }
+    ensures below { StandBelow (answered_note result).knows.known (answered_note result).knows.seen }
     ensures answer { HasAnswered N.frame N.tokens hop.now.number hop.now.own note.knows (answered_note result).knows
         (BeginResp leg at (item_given N.tokens hop.now.number cargo)) (responded_reply (item_given N.tokens hop.now.number cargo) result) }
     ensures responded { (may : MayRespond N.frame N.tokens hop.now.number leg cargo at note.knows.known) →

@@ -1,6 +1,7 @@
 // The access of a request at its memory.
 ghost use Rattle.std.specs.Prelude.{◌≡◌, [], ◌∷◌, ◌++◌};
 ghost use Rattle.view_lists.specs.Lists.{Within};
+ghost use Rattle.one_history.specs.Lists.{StandBelow};
 ghost use Rattle.shared_object.specs.Steps.{IsNote};
 ghost use Rattle.region_object.specs.declared.call.RegionReply.TheVariants.{Accessed};
 ghost use Rattle.cargo_net.specs.Memories.{HasServedCall, IsAccessReply};
@@ -46,6 +47,7 @@ pub fn serve<R: Wait, N: Naming<Plan, TlmLaw>>(
     requires may { MayServe N.frame N.tokens memory.now.number cargo at note.knows.known }
     ensures note { IsNote N.table result.1 }
     ensures knew { Within note.knows.known result.1.knows.known }
+    ensures below { StandBelow result.1.knows.known result.1.knows.seen }
     ensures look { result.1.knows.looks ≡ note.knows.looks ++ (memory.now.number, 0) ∷ [] }
     ensures answer { HasServedCall N.frame N.tokens memory.now.number memory.now.own note.knows result.1.knows
         (access_call cargo at) (Accessed result.0.baton.payload) }

@@ -1,7 +1,9 @@
 // An access starts.
 ghost use Rattle.std.specs.Prelude.{◌≡◌, [], ◌∷◌, ◌++◌};
 ghost use Rattle.view_lists.specs.Lists.{Within};
+ghost use Rattle.one_history.specs.Lists.{StandBelow};
 ghost use Rattle.shared_object.specs.Steps.{IsNote};
+ghost use Rattle.flow_model.specs.Events.{FindsAt, IsAcquire};
 ghost use Rattle.cargo_model.specs.Known.{Known};
 ghost use Rattle.cargo_model.specs.Travel.{GoesDown, Ready};
 ghost use Rattle.cargo_net.specs.Starts.{MayStart};
@@ -35,7 +37,9 @@ pub fn start<R: Wait, N: Naming<Plan, TlmLaw>>(
     requires may { MayStart N.frame N.tokens pool.now.number baton at note.knows.known }
     ensures note { IsNote N.table result.1 }
     ensures knew { Within note.knows.known result.1.knows.known }
+    ensures below { StandBelow result.1.knows.known result.1.knows.seen }
     ensures look { result.1.knows.looks ≡ note.knows.looks ++ (pool.now.number, 0) ∷ [] }
+    ensures acquired { FindsAt (Known N.frame.world.platform result.1.knows.known) (IsAcquire baton.txn 0) at }
     ensures started { (may : MayStart N.frame N.tokens pool.now.number baton at note.knows.known) →
         GoesDown N.frame.world N.tokens (Known N.frame.world.platform result.1.knows.known) baton.txn may.pass Ready 0 result.0 }
 {

@@ -9,3 +9,7 @@ returns-clause-started g c = λ may. (
     started g.N.Naming.frame g.N.Naming.tokens c.args.pool.now.number c.args.baton c.args.at c.args.note.knows.known may c.acquire.result.1.knows.known c.acquire.ensures.knew c.acquire.result.0.baton c.acquire.result.0.hold
     (c.acquire.ensures.acquired (may_acquire g.N.Naming.frame g.N.Naming.tokens c.args.pool.now.number c.args.baton c.args.at c.args.note.knows.known may))
     )
+
+pub returns-clause-acquired : goal.returns-clause-acquired
+returns-clause-acquired g c =
+    (c.acquire.ensures.acquired (may_acquire g.N.Naming.frame g.N.Naming.tokens c.args.pool.now.number c.args.baton c.args.at c.args.note.knows.known c.requires.may)).made
