@@ -1,6 +1,6 @@
 // The seats of objects at which nothing is planned.
 ghost use Rattle.std.specs.Prelude.{◌≡◌, ◌+◌, length, slice_index_or, IfOk, OnOk};
-ghost use Rattle.route_plan.specs.Valid.{IsValid};
+ghost use Rattle.route_plan.specs.Shape.{IsServed};
 ghost use Rattle.plat_build.specs.Net.{AreHops, ArePools};
 ghost use Rattle.plat_build.specs.Objects.{frame_of};
 ghost use Rattle.plat_build.specs.Unused.{AreIdle, AreNumberedFrom, AreUnusedFrom, IsUnused};
@@ -48,8 +48,8 @@ where
     Ok(())
 }
 
-/// The seats of the hops and pools of a net whose plan has no four-phase initiator, in order: they have no
-/// entries. Its only error is want of memory.
+/// The seats of the hops and pools of a net whose plan is served, in order: they have no entries, since no
+/// initiator is four-phase. Its only error is want of memory.
 pub fn idle_seats<N: Naming<Plan, TlmLaw>, R: Wait>(
     rt: &R,
     alloc: Global,
@@ -57,7 +57,7 @@ pub fn idle_seats<N: Naming<Plan, TlmLaw>, R: Wait>(
     hops: Vec<SharedHop<N>>,
     pools: Vec<SharedPool<N>>,
 ) -> Result<Vec<PlatSeat>, Memory>
-    requires valid { IsValid N.frame.world }
+    requires served { IsServed N.frame.world.platform }
     requires frame { N.frame ≡ frame_of N.frame.world }
     requires memories { memories ≡ length N.frame.world.platform.memories }
     requires hops { AreHops N.frame.world.platform hops.items }

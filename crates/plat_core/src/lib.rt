@@ -11,7 +11,7 @@
 //! round only where every other one that hasn't finished has reached the round before: a step waits exactly
 //! where its initiator is held back, and an entry of round r stands after every entry whose round is at most
 //! r - 2. Once all have finished, the history is good, and the stores and ends are those of the
-//! definitions. Each plan is served: its initiators are blocking, and no script has an `invalidate`.
+//! definitions. The plan has to be served: its initiators are of a style that is built, and so blocking.
 //! The only error is want of memory, after which the history is as before.
 #![tactic(auto)]
 

@@ -28,6 +28,7 @@ use Rattle.script_engine.proofs.Remaining.{few_numbers}
 use Rattle.script_engine.proofs.Steps.{begins}
 use Rattle.run_queue.specs.Queue.{AreNumbered}
 use Rattle.initiator_run.specs.Come.{HasCome}
+use Rattle.route_plan.specs.Shape.{IsServed}
 use Rattle.route_plan.specs.Valid.{IsValid}
 use Rattle.traffic_script.specs.Proper.{IsProper}
 use Rattle.initiator_run.specs.Left.{asked_in, logged_in}
@@ -73,10 +74,10 @@ bytes_shared : (p : Plan) (i : Initiator) (m : ℕ) → logged_in p i m i.script
 unfolding logged_share
 bytes_shared p i m = refl
 
-module _ (p : Plan) (valid : IsValid p) (n : ℕ) (i : Initiator) (at : slice_get (initiators_of p) n ≡ Some i) (w : Purse) where
+module _ (p : Plan) (valid : IsValid p) (served : IsServed p.platform) (n : ℕ) (i : Initiator) (at : slice_get (initiators_of p) n ≡ Some i) (w : Purse) where
   tickets_begun : (tokens : TableId) → HasShares tokens p n w → (m : ℕ) → m < length p.platform.memories → HasTickets p i (fresh_run n i.script p.platform.quantum (2 * length i.script)) w [] m
   tickets_begun tokens shares m below =
-      let blocking = blocking_at p valid n i at in
+      let blocking = blocking_at p served n i at in
       let script = proper_at p valid n i at in
       let share : share_at p n (Memory m) ≡ share_of p i (Memory m) = ap (share_by p (Memory m)) at in
       let logged : logged_share_at p n m ≡ logged_share p i m = ap (logged_share_by p m) at in
@@ -93,6 +94,7 @@ module _ (p : Plan) (valid : IsValid p) (n : ℕ) (i : Initiator) (at : slice_ge
       let number = initiator_number p n i at in
       record {
         valid = valid;
+        served = served;
         initiator = i;
         mine = [];
         is = at;
@@ -123,9 +125,9 @@ same_script : (a b : List Operation) → Some a ≡ Some b → a ≡ b
 same_script a b q = cc
 
 -- a job before its first turn
-pub job_begun : (p : Plan) (table tokens : TableId) (n : ℕ) (s : Start) (run : Run) (quantum room : ℕ) (script : List Operation) → IsValid p → n < length p.platform.initiators → IsStart table tokens p n s → slice_get p.scripts n ≡ Some script → quantum ≡ p.platform.quantum → room ≡ 2 * length script
+pub job_begun : (p : Plan) (table tokens : TableId) (n : ℕ) (s : Start) (run : Run) (quantum room : ℕ) (script : List Operation) → IsValid p → IsServed p.platform → n < length p.platform.initiators → IsStart table tokens p n s → slice_get p.scripts n ≡ Some script → quantum ≡ p.platform.quantum → room ≡ 2 * length script
     → run ≡ record (fresh_run 0 [] quantum room) { engine = s.engine } → IsJob table tokens p run s.payload s.note s.wallet
-job_begun p table tokens n s run quantum room script valid below start at quantum_is room_is run_is =
+job_begun p table tokens n s run quantum room script valid served below start at quantum_is room_is run_is =
     let found = has_element (initiators_of p) n (omega (arith, count_initiators 0 p.platform.initiators p.scripts valid.scripts)) in
     let i = found.element in
     let mine : i.script ≡ script = same_script i.script script (sym (script_from 0 n p.platform.initiators p.scripts i found.at) ∙ at) in
@@ -139,7 +141,7 @@ job_begun p table tokens n s run quantum room script valid below start at quantu
       note_of = start.note.is_note;
       wallet_of = start.wallet.of;
       roomy = ap (λ (x : PayloadView). x.room) start.payload;
-      is = subst (λ (r : Run). IsInitiator p r s.note.knows s.wallet) (sym first) (initiator_begun p valid n i found.at s.wallet tokens s.note.knows start.wallet);
+      is = subst (λ (r : Run). IsInitiator p r s.note.knows s.wallet) (sym first) (initiator_begun p valid served n i found.at s.wallet tokens s.note.knows start.wallet);
     }
 
 -- those after the one that is handed out still wait

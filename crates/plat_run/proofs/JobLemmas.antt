@@ -85,7 +85,7 @@ module _ (p : Plan) (r : Run) (x : Transfer) (route : Route) (note back : View C
   own_number = ap (slice_get (initiators_of p)) (initiator_number p r.engine.initiator job.initiator job.is) ∙ job.is
 
   blocking : job.initiator.row.style ≡ Blocking
-  blocking = blocking_at p job.valid r.engine.initiator job.initiator job.is
+  blocking = blocking_at p job.served r.engine.initiator job.initiator job.is
 
   object_is : (the_entry).object ≡ Memory route.memory
   object_is = ap Memory sent.called.number
@@ -209,6 +209,7 @@ module _ (p : Plan) (r : Run) (x : Transfer) (route : Route) (note back : View C
   pub access_made : IsInitiator p next_run back new
   access_made = record {
     valid = job.valid;
+    served = job.served;
     initiator = job.initiator;
     mine = job.mine ++ the_entry ∷ [];
     is = ap (slice_get (initiators_of p)) (accessed_initiator x route.latency payload.bytes r) ∙ job.is;

@@ -14,7 +14,7 @@ use Rattle.flow_plan.proofs.Decoupled.{no_passage}
 use Rattle.route_plan.specs.declared.step.Route.{Route}
 use Rattle.route_plan.specs.Plans.{walk_at}
 use Rattle.route_plan.specs.Routes.{route_by}
-use Rattle.route_plan.specs.Valid.{IsValid}
+use Rattle.route_plan.specs.Shape.{IsServed}
 use Rattle.script_engine.specs.declared.part.Part.TheVariants.{Asks}
 use Rattle.script_engine.specs.declared.part.Transfer.{Transfer}
 use Rattle.script_engine.specs.declared.part.TransferKind.{TransferKind}
@@ -34,9 +34,9 @@ use Rattle.plat_build.specs.Calls.{CanPay, HasNoPassage, route_at}
 use Rattle.plat_run.specs.Job.{IsInitiator}
 use Rattle.plat_run.specs.Sent.{IsSentBy}
 
--- in a valid plan nobody passes a hop
-pub none_pass : (p : Plan) → IsValid p → (x : TxnId) → HasNoPassage p x
-none_pass p valid x = no_passage p (no_fourphase p valid) x
+-- in a plan that is served nobody passes a hop
+pub none_pass : (p : Plan) → IsServed p.platform → (x : TxnId) → HasNoPassage p x
+none_pass p served x = no_passage p (no_fourphase p served) x
 
 sent_by : (kind : TransferKind) (txn : TxnId) (t before offset : ℕ) (payload : PayloadView) → IsFit (call_at kind txn t before (record payload { address = offset })) → IsSentBy kind payload
 sent_by (transfer.Access command plain fenced) txn t before offset payload fit = fit.1

@@ -33,6 +33,7 @@ use Rattle.good_history.specs.Good.{IsGood}
 use Rattle.joined_runs.proofs.CountLemmas.{IsRising-filter, has_kept, kept_has}
 use Rattle.route_plan.specs.Planned.{planned_at}
 use Rattle.run_outcome.specs.declared.outcome.Outcome.{Outcome}
+use Rattle.route_plan.specs.Shape.{IsServed}
 use Rattle.route_plan.specs.Valid.{IsValid}
 use Rattle.run_outcome.specs.Merge.{merged}
 use Rattle.run_outcome.specs.Outcome.{IsWhole}
@@ -105,7 +106,7 @@ past_end (x ∷ l) zero past = absurd (omega arith)
 past_end (x ∷ l) (suc k) past = past_end l k (omega arith)
 
 module _ (p : Plan) (table : TableId) (frame : Frame Plan) (ends : List EndOf) (notes : List (Held Content Plan)) (logs : List LogView) (stores : List (List ℕ)) (seats more : List (Held Content Plan)) (all : List (HistoryEntry Content))
-    (valid : IsValid p) (is_frame : frame ≡ frame_of p)
+    (valid : IsValid p) (served : IsServed p.platform) (is_frame : frame ≡ frame_of p)
     (finished : AreFinished table p (length p.platform.initiators) ends notes) (done : AreDoneWith table frame (length p.platform.memories) logs stores seats)
     (fresh : AreUnusedFrom table frame (length p.platform.memories) more) (count : length more + length p.platform.memories ≡ length frame.planned)
     (merge : IsMerge (seats ++ more) all) (planned : ArePlanned frame all) (tell : Tell notes 0 all) where
@@ -256,7 +257,7 @@ module _ (p : Plan) (table : TableId) (frame : Frame Plan) (ends : List EndOf) (
   }
 
   pub good : IsGood p h
-  good = history_is_good p h mine_of end_of log_of have_ended (no_fourphase p valid) (no_direct p valid) (no_invalidation p valid)
+  good = history_is_good p h mine_of end_of log_of have_ended (no_fourphase p served) (no_direct p served) (no_invalidation p valid)
 
   end_is : (k : ℕ) (c : (k < length (initiators_of p)) ⊎ (length (initiators_of p) ≤ k)) (end : EndOf) → slice_get ends k ≡ Some end → end_if k c ≡ end
   unfolding end_if
@@ -335,14 +336,14 @@ module _ (p : Plan) (table : TableId) (frame : Frame Plan) (ends : List EndOf) (
           ends = λ n i end mine at.
               let here : slice_get ends n ≡ Some end = subst (λ (l : List EndOf). slice_get l n ≡ Some end) ended at in
               let by = ended_as p h mine_of end_of log_of have_ended n i mine in
-              let is = (ends_by_latencies p i h (end_of n) (blocking_apart i.row.style (blocking_at p valid n i mine))).1 by in
+              let is = (ends_by_latencies p i h (end_of n) (blocking_apart i.row.style (blocking_at p served n i mine))).1 by in
               subst (λ (l : List Entry). IsEndOf p i l end) same (subst (IsEndOf p i h) (end_is n (cases_lt n (length (initiators_of p))) end here) is);
         };
       }
 
 -- the same by what is known where the history is closed, with its seats in one list and with what it was made with
 module _ (p : Plan) (table : TableId) (frame made : Frame Plan) (ends : List EndOf) (notes : List (Held Content Plan)) (logs : List LogView) (stores : List (List ℕ)) (seats more joined : List (Held Content Plan)) (all : List (HistoryEntry Content))
-    (valid : IsValid p) (is_frame : frame ≡ frame_of p)
+    (valid : IsValid p) (served : IsServed p.platform) (is_frame : frame ≡ frame_of p)
     (finished : AreFinished table p (length p.platform.initiators) ends notes) (done : AreDoneWith table frame (length p.platform.memories) logs stores seats)
     (fresh : AreUnusedFrom table frame (length p.platform.memories) more) (count : length more + length p.platform.memories ≡ length frame.planned)
     (joined_is : joined ≡ seats ++ more) (made_is : made ≡ frame)
@@ -354,13 +355,13 @@ module _ (p : Plan) (table : TableId) (frame made : Frame Plan) (ends : List End
   planned_is = subst (λ (f : Frame Plan). ArePlanned f all) made_is planned
 
   pub merged_closed : merged (entries_of_logs logs) ≡ entries_read all
-  merged_closed = merged_all p table frame ends notes logs stores seats more all valid is_frame finished done fresh count merge_is planned_is tell
+  merged_closed = merged_all p table frame ends notes logs stores seats more all valid served is_frame finished done fresh count merge_is planned_is tell
 
   pub numbered_closed : IsNumbered (merged (entries_of_logs logs))
-  numbered_closed = subst IsNumbered (sym merged_closed) (numbered p table frame ends notes logs stores seats more all valid is_frame finished done fresh count merge_is planned_is tell)
+  numbered_closed = subst IsNumbered (sym merged_closed) (numbered p table frame ends notes logs stores seats more all valid served is_frame finished done fresh count merge_is planned_is tell)
 
   pub count_closed : (n : ℕ) → n ≡ length all → n ≡ length (merged (entries_of_logs logs))
   count_closed n is = is ∙ (sym (length-map all entry_read) ∙ ap length (sym merged_closed))
 
   pub whole_closed : (o : Outcome) → o.history.entries ≡ merged (entries_of_logs logs) → o.stores ≡ stores → o.ends ≡ ends → o.complete ≡ true → IsWhole p o
-  whole_closed = whole p table frame ends notes logs stores seats more all valid is_frame finished done fresh count merge_is planned_is tell
+  whole_closed = whole p table frame ends notes logs stores seats more all valid served is_frame finished done fresh count merge_is planned_is tell

@@ -19,6 +19,7 @@ use Rattle.route_plan.specs.Counted.{share_at}
 use Rattle.script_engine.specs.declared.op.Op.TheVariants as next
 use Rattle.script_engine.specs.State.{op_of}
 use Rattle.initiator_run.specs.Come.{HasCome}
+use Rattle.route_plan.specs.Shape.{IsServed}
 use Rattle.route_plan.specs.Valid.{IsValid}
 use Rattle.initiator_run.specs.Left.{asks_left, bytes_left}
 use Rattle.initiator_run.specs.Run.{Run}
@@ -53,6 +54,7 @@ pub record HasTickets (p : Plan) (i : Initiator) (r : Run) (w : Purse) (mine : L
 -- A blocking initiator under way, with its note and its wallet.
 pub record IsInitiator (p : Plan) (r : Run) (v : View Content Plan) (w : Purse) : Type 0 where
   pub valid : IsValid p
+  pub served : IsServed p.platform
   pub initiator : Initiator
   pub mine : List Entry
   pub is : slice_get (initiators_of p) r.engine.initiator ≡ Some initiator

@@ -1,6 +1,7 @@
 // The jobs of a net, before their first turns.
 ghost use Rattle.std.specs.Prelude.{◌≡◌, ◌<◌, true, length, replicate, IfOk};
 ghost use Rattle.plat_build.specs.Kept.{IsStart};
+ghost use Rattle.route_plan.specs.Shape.{IsServed};
 ghost use Rattle.run_queue.specs.Queue.{AreNumbered};
 ghost use Rattle.traffic_script.specs.Proper.{AreProper};
 ghost use Rattle.plat_run.specs.Actors.{number_of};
@@ -23,6 +24,7 @@ fn begin_initiator<N: Naming<Plan, TlmLaw>>(
 ) -> Result<Actor<N>, Memory>
     requires number { number < length net.now.platform.initiators }
     requires start { IsStart N.table N.tokens N.frame.world number start }
+    requires served { IsServed net.now.platform }
     ensures { IfOk result (λ job. number_of job ≡ number) }
 {
     let Start {
@@ -38,13 +40,14 @@ fn begin_initiator<N: Naming<Plan, TlmLaw>>(
     Ok(Actor::Blocking(Box::new(alloc, job)?))
 }
 
-/// The jobs of all initiators, in order. Its only error is want of memory.
+/// The jobs of all initiators of a net whose plan is served, in order. Its only error is want of memory.
 pub(crate) fn begin_jobs<N: Naming<Plan, TlmLaw>>(
     alloc: Global,
     net: &Net<N>,
     kept: &mut Kept<N>,
 ) -> Result<Vec<Actor<N>>, Memory>
-    requires { kept.old.starts ≡ replicate (length net.now.platform.initiators) true }
+    requires kept { kept.old.starts ≡ replicate (length net.now.platform.initiators) true }
+    requires served { IsServed net.now.platform }
     ensures numbered { IfOk result (λ jobs. AreNumbered number_of jobs.items) }
     ensures count { IfOk result (λ jobs. length jobs.items ≡ length net.now.platform.initiators) }
 {

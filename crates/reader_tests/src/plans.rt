@@ -2,7 +2,7 @@
 ghost use Rattle.std.specs.Prelude.{◌≡◌, length};
 
 use platform_file::read_platform;
-use route_plan::{Down, HopEnds, Plan, Route, Shape, Up, plan, shape};
+use route_plan::{Down, HopEnds, Plan, Route, Shape, Up, plan, served, shape};
 use std::alloc::Global;
 use std::process::Abort;
 use tlm_types::ObjectNo;
@@ -122,24 +122,36 @@ size = 512
 latency = 30
 ";
 
-// How the buses are answered where the first initiator has another style.
-fn style_answer(rt: &impl Abort, alloc: Global, style: &str) -> String {
-    let text = BUSES
-        .replacen(alloc, "'blocking'", style, 1)
-        .expect(rt, "memory");
-    shape_answer(rt, alloc, text.as_str())
-}
-
-#[test]
-fn only_blocking_initiators_are_built(rt: HostRuntime) {
-    let wanted = "platform refused: not_built initiator[0] style";
-    assert!(rt; style_answer(&rt, rt.alloc(), "'direct'").as_str() == wanted);
-    assert!(rt; style_answer(&rt, rt.alloc(), "'fourphase'").as_str() == wanted);
-}
-
 fn shape_of(rt: &impl Abort, alloc: Global, text: &str) -> Shape {
     let platform = read_platform(alloc, text.as_bytes()).expect(rt, "a platform");
     shape(alloc, &platform).expect(rt, "a shape")
+}
+
+// The buses with this style of the first initiator.
+fn buses_with(rt: &impl Abort, alloc: Global, style: &str) -> String {
+    BUSES
+        .replacen(alloc, "'blocking'", style, 1)
+        .expect(rt, "memory")
+}
+
+// How the buses with this style are answered, where it is asked whether they are served: their shape is
+// good.
+fn style_answer(rt: &impl Abort, alloc: Global, style: &str) -> String {
+    let text = buses_with(rt, alloc, style);
+    let shape = shape_of(rt, alloc, text.as_str());
+    let said = match served(alloc, &shape) {
+        Ok(()) => String::from_str(alloc, "ok"),
+        Err(fault) => format!(in alloc; "{fault}"),
+    };
+    said.expect(rt, "memory")
+}
+
+#[test]
+fn only_blocking_initiators_are_served(rt: HostRuntime) {
+    let wanted = "platform refused: not_built initiator[0] style";
+    assert!(rt; style_answer(&rt, rt.alloc(), "'direct'").as_str() == wanted);
+    assert!(rt; style_answer(&rt, rt.alloc(), "'fourphase'").as_str() == wanted);
+    assert!(rt; style_answer(&rt, rt.alloc(), "'blocking'").as_str() == "ok");
 }
 
 // Two scripts.
@@ -151,28 +163,37 @@ fn two_scripts(rt: &impl Abort, alloc: Global, first: &str, second: &str) -> Vec
     vec![in alloc; first, second].expect(rt, "memory")
 }
 
-// The buses, which have two initiators.
-fn buses_shape(rt: &impl Abort, alloc: Global) -> Shape
+// Buses, which have two initiators.
+fn buses_shape(rt: &impl Abort, alloc: Global, text: &str) -> Shape
     ensures { length result.initiators ≡ 2 }
 {
-    let shape = shape_of(rt, alloc, BUSES);
+    let shape = shape_of(rt, alloc, text);
     assert!(rt; shape.platform().initiators.as_slice().len() == 2);
     shape
 }
 
-// The plan of the buses with these scripts.
-fn buses(rt: &impl Abort, alloc: Global, first: &str, second: &str) -> Plan
+// The plan of buses with these scripts.
+fn buses_plan(rt: &impl Abort, alloc: Global, text: &str, first: &str, second: &str) -> Plan
     ensures initiators { length result.platform.initiators ≡ 2 }
     ensures memories { length result.platform.memories ≡ 2 }
     ensures routers { length result.platform.routers ≡ 2 }
 {
-    let shape = buses_shape(rt, alloc);
+    let shape = buses_shape(rt, alloc, text);
     let scripts = two_scripts(rt, alloc, first, second);
     let plan = plan(alloc, shape, scripts.as_slice()).expect(rt, "a plan");
     assert!(rt; plan.platform().initiators.as_slice().len() == 2);
     assert!(rt; plan.platform().memories.as_slice().len() == 2);
     assert!(rt; plan.platform().routers.as_slice().len() == 2);
     plan.copy(alloc).expect(rt, "memory")
+}
+
+// The same of the buses as they are.
+fn buses(rt: &impl Abort, alloc: Global, first: &str, second: &str) -> Plan
+    ensures initiators { length result.platform.initiators ≡ 2 }
+    ensures memories { length result.platform.memories ≡ 2 }
+    ensures routers { length result.platform.routers ≡ 2 }
+{
+    buses_plan(rt, alloc, BUSES, first, second)
 }
 
 const NEAR: Route = Route {
@@ -245,17 +266,48 @@ fn plans_are_counted(rt: HostRuntime) {
     assert!(rt; plan.entries(rom) == 3 && plan.logged(1) == 16);
 }
 
+// Blocking initiators pass no hops, and have no use for a pool.
 #[test]
-fn hops_and_pools_have_no_entries(rt: HostRuntime) {
+fn hops_and_pools_of_blocking_initiators_have_no_entries(rt: HostRuntime) {
     let plan = buses(&rt, rt.alloc(), MIXED, SMALL);
     assert!(rt; plan.hop_ends(4).is_some());
     assert!(rt; plan.entries(ObjectNo::Hop(4)) == 0);
     assert!(rt; plan.share(1, ObjectNo::Pool(0)) == 0);
 }
 
+// The buses where the first initiator is four-phase, with the mixed script. It makes nine accesses: a
+// write, the two of the copy, the two of the addition, the read in a hole, and three reads. All nine pass
+// its binding, hop 0. Seven go on to `ram` by hop 2, and the write of the copy to `rom` by hops 3 and 4;
+// the read in the hole goes no further. That is 4 entries for each passage, and at its pool 2 for each
+// access and 2 for each of the 18 passages. The memory has as many as with a blocking initiator.
+fn fourphase_buses(rt: &impl Abort, alloc: Global) -> Plan
+    ensures initiators { length result.platform.initiators ≡ 2 }
+    ensures memories { length result.platform.memories ≡ 2 }
+{
+    let text = buses_with(rt, alloc, "'fourphase'");
+    buses_plan(rt, alloc, text.as_str(), MIXED, SMALL)
+}
+
+#[test]
+fn hops_are_counted(rt: HostRuntime) {
+    let plan = fourphase_buses(&rt, rt.alloc());
+    assert!(rt; plan.hop_ends(4).is_some());
+    assert!(rt; plan.entries(ObjectNo::Hop(0)) == 36 && plan.entries(ObjectNo::Hop(1)) == 0);
+    assert!(rt; plan.entries(ObjectNo::Hop(2)) == 28 && plan.entries(ObjectNo::Hop(3)) == 4);
+    assert!(rt; plan.share(0, ObjectNo::Hop(4)) == 4 && plan.share(1, ObjectNo::Hop(4)) == 0);
+}
+
+#[test]
+fn pools_are_counted(rt: HostRuntime) {
+    let plan = fourphase_buses(&rt, rt.alloc());
+    assert!(rt; plan.share(0, ObjectNo::Pool(0)) == 54 && plan.share(1, ObjectNo::Pool(0)) == 0);
+    assert!(rt; plan.entries(ObjectNo::Pool(0)) == 54 && plan.entries(ObjectNo::Pool(1)) == 0);
+    assert!(rt; plan.share(0, ObjectNo::Memory(0)) == 8 && plan.entries(ObjectNo::Memory(1)) == 3);
+}
+
 // How the plan of the buses with this script is answered.
 fn planned(rt: &impl Abort, alloc: Global, text: &str) -> String {
-    let shape = buses_shape(rt, alloc);
+    let shape = buses_shape(rt, alloc, BUSES);
     let scripts = two_scripts(rt, alloc, text, "");
     let said = match plan(alloc, shape, scripts.as_slice()) {
         Ok(_) => String::from_str(alloc, "ok"),

@@ -4,6 +4,8 @@ pub mod CopyLemmas
 pub mod NumberLemmas
 pub mod StepLemmas
 pub mod PlanLemmas
+pub mod PlaceLemmas
+pub mod WayLemmas
 pub mod CountLemmas
 pub mod ShareLemmas
 pub mod TotalLemmas

@@ -20,6 +20,7 @@ use Rattle.tlm_model.specs.Route.{Found, window_of, window_hop}
 use Rattle.tlm_model.specs.Route as model
 use Rattle.route_plan.specs.declared.ends.HopEnds.{HopEnds}
 use Rattle.route_plan.specs.Routes.{binding_ends, ends_of, numbered_windows, router_ends, window_ends}
+use Rattle.route_plan.specs.Places.{object_count}
 use Rattle.route_plan.specs.Valid.{hop_count}
 
 enumerate-push : {X : Type 0} (n : ℕ) (xs : List X) (x : X) → enumerate_from n (xs ++ x ∷ []) ≡ enumerate_from n xs ++ (n + length xs, x) ∷ []
@@ -169,6 +170,14 @@ length-ends_of p =
     let one : length bindings ≡ length p.initiators = length-map (enumerate_from 0 p.initiators) binding_ends ∙ length-enumerate_from 0 p.initiators in
     let rest : length windows ≡ sum_by (λ (row : RouterRow). length row.windows) p.routers = router_ends_count 0 p.routers in
     omega (arith, both, one, rest)
+
+-- the objects are few
+pub few_objects : (p : Platform) → IsBounded p → object_count p ≤ 336
+few_objects p h =
+    let f : RouterRow → ℕ = λ row. length row.windows in
+    let few : All (λ (row : RouterRow). length row.windows ≤ 16) p.routers = All-weaker (IsBoundedRouter p) (λ (row : RouterRow). length row.windows ≤ 16) (λ row b. b.window_count) p.routers h.routers in
+    let sum : sum_by f p.routers ≤ length p.routers * 16 = sum_by-le f 16 p.routers few in
+    omega (arith, sum, h.initiator_count, h.router_count, h.memory_count)
 
 within_some : {X : Type 0} (xs : List X) (i : ℕ) → IsSome (slice_get xs i) → i < length xs
 within_some [] i h = absurd (false≢true h)

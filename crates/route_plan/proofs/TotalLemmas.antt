@@ -1,5 +1,5 @@
 -- What all initiators of a plan add up to, and its limits.
-use Rattle.std.proofs.Common.{◌≡◌, ℕ, zero, suc, ◌+◌, ◌<◌, ◌≤◌, Bool, true, false, List, [], ◌∷◌, length, map, get_or, sum_by, Option, Some, slice_get, nat_lt, Result, Ok, Err, refl, sym, ap, subst, ◌∙◌, add-one, zero-add, arith}
+use Rattle.std.proofs.Common.{◌≡◌, ℕ, ◌+◌, ◌*◌, ◌<◌, ◌≤◌, Bool, true, false, List, [], ◌∷◌, length, get_or, sum_by, Option, Some, slice_get, nat_lt, Result, Ok, Err, refl, sym, ap, subst, ◌∙◌, add-one, mul-zero, zero-add, arith}
 use Rattle.std.specs.Prelude.{All, codes, if◌then◌else◌}
 use Rattle.std.specs.List.{range_with_len}
 use Rattle.std.proofs.lemmas.Bool.{false≢true, ltb-false}
@@ -26,17 +26,15 @@ use Rattle.tlm_model.specs.declared.ask.Ask.TheVariants.{Access as AnAccess, Deb
 use Rattle.tlm_model.specs.Plan.{Plan, Initiator, initiators_from, initiators_of}
 use Rattle.route_plan.specs.declared.shares.Share.{Share}
 use Rattle.route_plan.specs.Counted.{logged_share_at, logged_share_by, share_at, share_by}
-use Rattle.route_plan.specs.Planned.{asks_in, at_hop, at_pool, by_fourphase, logged_bytes, planned_at, share_of}
-use Rattle.route_plan.specs.Shape.{IsShape, checked_acyclic, checked_depth, checked_memory_named, checked_router_named, checked_shape, checked_single, checked_style, checked_windowed, style_is_built}
-use Rattle.route_plan.specs.Shares.{checked_shares, entries_in, logged_in, memory_shares, pair_share, shares_of, with_scripts}
+use Rattle.route_plan.specs.Paths.{once}
+use Rattle.route_plan.specs.Places.{object_at, object_count}
+use Rattle.route_plan.specs.Planned.{asks_in, at_hop, at_pool, by_fourphase, is_routed_to, logged_at, logged_bytes, logged_share, planned_at, share_of}
+use Rattle.route_plan.specs.Shape.{IsServed, checked_served, checked_style, style_is_built}
+use Rattle.route_plan.specs.Shares.{checked_shares, entries_in, logged_in, object_shares, pair_share, shares_of, with_scripts}
 use Rattle.route_plan.specs.Valid.{IsObject, checked_plan, hop_count, logged_in_all, most_entries, most_logged, planned, planned_in_all}
+use Rattle.route_plan.proofs.PlaceLemmas.{hop_at, memory_at, pool_at, shifted, sum_places}
 use Rattle.route_plan.proofs.ShareLemmas.{count_initiators, numbered}
-
-shifted : (g h : ℕ → ℕ) → ((k : ℕ) → g (k + 1) ≡ h k) → (a n : ℕ) → sum_by g (range_with_len (a + 1) n) ≡ sum_by h (range_with_len a n)
-shifted g h e a zero = refl
-shifted g h e a (suc n) =
-    sum_by-cons g (a + 1) (range_with_len (a + 1 + 1) n) ∙ ap (λ s. g (a + 1) + s) (shifted g h e (a + 1) n) ∙ ap (λ s. s + sum_by h (range_with_len (a + 1) n)) (e a)
-    ∙ sym (sum_by-cons h a (range_with_len (a + 1) n))
+use Rattle.route_plan.proofs.WayLemmas.{none_in, walk_within}
 
 -- a sum over the numbers of elements is one over the elements
 by_number : {X : Type 0} (f : Option X → ℕ) (xs : List X) → sum_by (λ k. f (slice_get xs k)) (range_with_len 0 (length xs)) ≡ sum_by (λ x. f (Some x)) xs
@@ -59,99 +57,62 @@ unfolding logged_bytes
 bytes_add_up plan m same =
     ap (λ k. sum_by (λ n. logged_share_at plan n m) (range_with_len 0 k)) (sym (count_initiators 0 plan.platform.initiators plan.scripts same)) ∙ by_number (logged_share_by plan m) (initiators_of plan)
 
-pub entries_at : (plan : Plan) (m : ℕ) → length plan.scripts ≡ length plan.platform.initiators → entries_in (memory_shares plan m) ≡ planned_at plan (Memory m)
-unfolding memory_shares
-entries_at plan m same =
-    fold-map (λ (a : ℕ) (s : Share). a + s.entries) (pair_share plan m) 0 (range_with_len 0 (length plan.platform.initiators)) ∙ shares_add_up plan (Memory m) same
+pub entries_at : (plan : Plan) (k : ℕ) → length plan.scripts ≡ length plan.platform.initiators → entries_in (object_shares plan k) ≡ planned_at plan (object_at plan.platform k)
+unfolding object_shares
+entries_at plan k same =
+    fold-map (λ (a : ℕ) (s : Share). a + s.entries) (pair_share plan k) 0 (range_with_len 0 (length plan.platform.initiators)) ∙ shares_add_up plan (object_at plan.platform k) same
 
-pub bytes_at : (plan : Plan) (m : ℕ) → length plan.scripts ≡ length plan.platform.initiators → logged_in (memory_shares plan m) ≡ logged_bytes plan m
-unfolding memory_shares
-bytes_at plan m same =
-    fold-map (λ (a : ℕ) (s : Share). a + s.logged) (pair_share plan m) 0 (range_with_len 0 (length plan.platform.initiators)) ∙ bytes_add_up plan m same
+pub bytes_at : (plan : Plan) (k : ℕ) → length plan.scripts ≡ length plan.platform.initiators → logged_in (object_shares plan k) ≡ logged_bytes plan k
+unfolding object_shares
+bytes_at plan k same =
+    fold-map (λ (a : ℕ) (s : Share). a + s.logged) (pair_share plan k) 0 (range_with_len 0 (length plan.platform.initiators)) ∙ bytes_add_up plan k same
 
--- hops and pools have no entries, since no initiator is four-phase
-all_built : (p : Platform) → checked_shape p ≡ Ok tt → All (λ (i : InitiatorRow). style_is_built i.style ≡ true) p.initiators
-unfolding checked_shape
-all_built p h =
-    bind_ok (rows_from checked_windowed 0 p.routers) _ _ h (λ _ _ h1.
-    bind_ok (rows_from (checked_router_named p) 0 p.routers) _ _ h1 (λ _ _ h2.
-    bind_ok (rows_from (checked_memory_named p) 0 p.memories) _ _ h2 (λ _ _ h3.
-    bind_ok (rows_from (checked_acyclic p) 0 p.routers) _ _ h3 (λ _ _ h4.
-    bind_ok (rows_from (checked_depth p) 0 p.initiators) _ _ h4 (λ _ _ h5.
-    bind_ok (rows_from (checked_single p) 0 p.initiators) _ _ h5 (λ _ _ h6.
-    bind_ok (rows_from checked_style 0 p.initiators) _ _ h6 (λ done passed h7.
-    rows_passed (λ (i : InitiatorRow). style_is_built i.style ≡ true) checked_style (λ n i ok. (if_ok (style_is_built i.style) tt _ tt ok).0) 0 p.initiators done passed)))))))
+-- no bytes are logged past the memories
+no_bytes : (plan : Plan) (k : ℕ) → length plan.platform.memories ≤ k → logged_bytes plan k ≡ 0
+unfolding logged_bytes logged_share
+no_bytes plan k past = none_in (λ i. logged_share plan i k) (λ i. none_in (logged_at plan i k) (of_ask i) (asks_in i)) (initiators_of plan)
+  where
+    not_routed : (i : Initiator) (a b : ℕ) → b * once (is_routed_to plan i k a) ≡ 0
+    not_routed i a b = let no : is_routed_to plan i k a ≡ false = (walk_within 9 plan.platform i.row.bind a 0).end k past in ap (λ (r : Bool). b * once r) no ∙ mul-zero b
 
-built_adds_none : (s : Style) (n : ℕ) → style_is_built s ≡ true → by_fourphase s n ≡ 0
-built_adds_none Blocking n e = refl
-built_adds_none Direct n e = refl
-built_adds_none FourPhase n e = absurd (false≢true e)
+    of_ask : (i : Initiator) (ask : Ask) → logged_at plan i k ask ≡ 0
+    of_ask i (AnAccess a b) = not_routed i a b
+    of_ask i (ADebugRead a b) = not_routed i a b
+    of_ask i (AnInvalidation a) = refl
 
-if_none : (b : Bool) (n : ℕ) → n ≡ 0 → (if b then n else 0) ≡ 0
-if_none true n e = e
-if_none false n e = refl
-
-none_at_hop : (plan : Plan) (i : Initiator) (h : ℕ) → style_is_built i.row.style ≡ true → (ask : Ask) → at_hop plan i h ask ≡ 0
-none_at_hop plan i h e (AnAccess a n) = built_adds_none i.row.style _ e
-none_at_hop plan i h e (ADebugRead a n) = refl
-none_at_hop plan i h e (AnInvalidation a) = refl
-
-none_at_pool : (plan : Plan) (i : Initiator) (n : ℕ) → style_is_built i.row.style ≡ true → (ask : Ask) → at_pool plan i n ask ≡ 0
-none_at_pool plan i n e (AnAccess a m) = if_none _ _ (built_adds_none i.row.style _ e)
-none_at_pool plan i n e (ADebugRead a m) = refl
-none_at_pool plan i n e (AnInvalidation a) = refl
-
-none_in : {X : Type 0} (f : X → ℕ) → ((x : X) → f x ≡ 0) → (xs : List X) → sum_by f xs ≡ 0
-none_in f none [] = refl
-none_in f none (x ∷ xs) = omega (arith, sum_by-cons f x xs, none x, none_in f none xs)
-
-none_of_initiators : (f : Initiator → ℕ) → ((i : Initiator) → style_is_built i.row.style ≡ true → f i ≡ 0) → (n : ℕ) (rows : List InitiatorRow) (scripts : List (List Operation))
-    → All (λ (r : InitiatorRow). style_is_built r.style ≡ true) rows → sum_by f (initiators_from n rows scripts) ≡ 0
-none_of_initiators f none n [] scripts built = refl
-none_of_initiators f none n (r ∷ rows) [] built = refl
-none_of_initiators f none n (r ∷ rows) (s ∷ scripts) built =
-    let P : InitiatorRow → Type 0 = λ r. style_is_built r.style ≡ true in
-    omega (arith, sum_by-cons f (numbered n r s) (initiators_from (n + 1) rows scripts), none (numbered n r s) (All-head P r rows built), none_of_initiators f none (n + 1) rows scripts (All-tail P r rows built))
-
-pub none_at_hops : (plan : Plan) (h : ℕ) → IsShape plan.platform → planned_at plan (Hop h) ≡ 0
-unfolding planned_at share_of
-none_at_hops plan h shape =
-    none_of_initiators (λ i. share_of plan i (Hop h)) (λ i e. none_in (at_hop plan i h) (none_at_hop plan i h e) (asks_in i)) 0 plan.platform.initiators plan.scripts (all_built plan.platform shape.checked)
-
-pub none_at_pools : (plan : Plan) (n : ℕ) → IsShape plan.platform → planned_at plan (Pool n) ≡ 0
-unfolding planned_at share_of
-none_at_pools plan n shape =
-    none_of_initiators (λ i. share_of plan i (Pool n)) (λ i e. none_in (at_pool plan i n) (none_at_pool plan i n e) (asks_in i)) 0 plan.platform.initiators plan.scripts (all_built plan.platform shape.checked)
-
-entries_of_all : (plan : Plan) → IsShape plan.platform → length plan.scripts ≡ length plan.platform.initiators → sum_by entries_in (shares_of plan) ≡ planned_in_all plan
+-- the shares of all objects add up to what is planned in all
+entries_of_all : (plan : Plan) → length plan.scripts ≡ length plan.platform.initiators → sum_by entries_in (shares_of plan) ≡ planned_in_all plan
 unfolding shares_of planned_in_all
-entries_of_all plan shape same =
-    let memories = range_with_len 0 (length plan.platform.memories) in
-    let counted : sum_by entries_in (map (memory_shares plan) memories) ≡ sum_by (λ m. planned_at plan (Memory m)) memories =
-    fold-map (λ (a : ℕ) (s : List Share). a + entries_in s) (memory_shares plan) 0 memories ∙ ap (λ (f : ℕ → ℕ). sum_by f memories) (λ j m. entries_at plan m same j) in
-    let hops : sum_by (λ h. planned_at plan (Hop h)) (range_with_len 0 (hop_count plan.platform)) ≡ 0 = none_in (λ h. planned_at plan (Hop h)) (λ h. none_at_hops plan h shape) (range_with_len 0 (hop_count plan.platform)) in
-    let pools : sum_by (λ i. planned_at plan (Pool i)) (range_with_len 0 (length plan.platform.initiators)) ≡ 0 = none_in (λ i. planned_at plan (Pool i)) (λ i. none_at_pools plan i shape) (range_with_len 0 (length plan.platform.initiators)) in
-    omega (arith, counted, hops, pools)
+entries_of_all plan same =
+    let p = plan.platform in
+    let places = range_with_len 0 (object_count p) in
+    fold-map (λ (a : ℕ) (s : List Share). a + entries_in s) (object_shares plan) 0 places ∙ ap (λ (f : ℕ → ℕ). sum_by f places) (λ j k. entries_at plan k same j)
+    ∙ sum_places p (λ k. planned_at plan (object_at p k)) (λ m. planned_at plan (Memory m)) (λ h. planned_at plan (Hop h)) (λ i. planned_at plan (Pool i)) (λ m lt. ap (planned_at plan) (memory_at p m lt))
+    (λ h lt. ap (planned_at plan) (hop_at p h lt)) (λ i lt. ap (planned_at plan) (pool_at p i))
 
 bytes_of_all : (plan : Plan) → length plan.scripts ≡ length plan.platform.initiators → sum_by logged_in (shares_of plan) ≡ logged_in_all plan
 unfolding shares_of logged_in_all
 bytes_of_all plan same =
-    let memories = range_with_len 0 (length plan.platform.memories) in
-    fold-map (λ (a : ℕ) (s : List Share). a + logged_in s) (memory_shares plan) 0 memories ∙ ap (λ (f : ℕ → ℕ). sum_by f memories) (λ j m. bytes_at plan m same j)
+    let p = plan.platform in
+    let places = range_with_len 0 (object_count p) in
+    let all : sum_by (logged_bytes plan) places ≡ sum_by (λ m. logged_bytes plan m) (range_with_len 0 (length p.memories)) + sum_by (λ h. 0) (range_with_len 0 (hop_count p)) + sum_by (λ i. 0) (range_with_len 0 (length p.initiators)) =
+    sum_places p (logged_bytes plan) (λ m. logged_bytes plan m) (λ h. 0) (λ i. 0) (λ m lt. refl) (λ h lt. no_bytes plan (length p.memories + h) (omega arith))
+    (λ i lt. no_bytes plan (length p.memories + hop_count p + i) (omega arith)) in
+    fold-map (λ (a : ℕ) (s : List Share). a + logged_in s) (object_shares plan) 0 places ∙ ap (λ (f : ℕ → ℕ). sum_by f places) (λ j k. bytes_at plan k same j)
+    ∙ omega (arith, all, none_in (λ (h : ℕ). 0) (λ h. refl) (range_with_len 0 (hop_count p)), none_in (λ (i : ℕ). 0) (λ i. refl) (range_with_len 0 (length p.initiators)))
 
 abbrev checked_counts : ℕ → ℕ → Result (Unit {0}) PlatformRefusal
 checked_counts entries bytes =
     if nat_lt most_entries entries then Err (refusal TooManyEntries place.Top (codes "-")) else if nat_lt most_logged bytes then Err (refusal TooMuchData place.Top (codes "-")) else Ok tt
 
 -- the limits of a plan are those of its shares
-pub checked_is : (plan : Plan) → IsShape plan.platform → length plan.scripts ≡ length plan.platform.initiators → checked_shares (shares_of plan) ≡ checked_plan plan
+pub checked_is : (plan : Plan) → length plan.scripts ≡ length plan.platform.initiators → checked_shares (shares_of plan) ≡ checked_plan plan
 unfolding checked_shares checked_plan
-checked_is plan shape same =
-    ap (λ n. checked_counts n (sum_by logged_in (shares_of plan))) (entries_of_all plan shape same) ∙ ap (checked_counts (planned_in_all plan)) (bytes_of_all plan same)
+checked_is plan same = ap (λ n. checked_counts n (sum_by logged_in (shares_of plan))) (entries_of_all plan same) ∙ ap (checked_counts (planned_in_all plan)) (bytes_of_all plan same)
 
-pub limits_by_shares : (p : Platform) (scripts : List (List Operation)) (kept seen : List (List Share)) → IsShape p → length scripts ≡ length p.initiators → kept ≡ shares_of (with_scripts p scripts) → seen ≡ kept
+pub limits_by_shares : (p : Platform) (scripts : List (List Operation)) (kept seen : List (List Share)) → length scripts ≡ length p.initiators → kept ≡ shares_of (with_scripts p scripts) → seen ≡ kept
     → checked_shares seen ≡ checked_plan (with_scripts p scripts)
-limits_by_shares p scripts kept seen shape same counted at = ap checked_shares (at ∙ counted) ∙ checked_is (with_scripts p scripts) shape same
+limits_by_shares p scripts kept seen same counted at = ap checked_shares (at ∙ counted) ∙ checked_is (with_scripts p scripts) same
 
 -- the answer of a plan whose counts are tested
 pub planned_ok : (plan : Plan) → checked_plan plan ≡ Ok tt → planned plan ≡ Ok plan
@@ -196,19 +157,65 @@ pub bytes_le : (plan : Plan) (n m : ℕ) → length plan.scripts ≡ length plan
 bytes_le plan n m same lt = omega (arith, part_le (λ n. logged_share_at plan n m) (length plan.platform.initiators) n lt, bytes_add_up plan m same)
 
 -- what is kept
-pub count_memories : (plan : Plan) → length (shares_of plan) ≡ length plan.platform.memories
+pub count_objects : (plan : Plan) → length (shares_of plan) ≡ object_count plan.platform
 unfolding shares_of
-count_memories plan = length-map-range_with_len (memory_shares plan) 0 (length plan.platform.memories)
+count_objects plan = length-map-range_with_len (object_shares plan) 0 (object_count plan.platform)
 
-pub count_shares : (plan : Plan) (m : ℕ) → length (memory_shares plan m) ≡ length plan.platform.initiators
-unfolding memory_shares
-count_shares plan m = length-map-range_with_len (pair_share plan m) 0 (length plan.platform.initiators)
+pub count_shares : (plan : Plan) (k : ℕ) → length (object_shares plan k) ≡ length plan.platform.initiators
+unfolding object_shares
+count_shares plan k = length-map-range_with_len (pair_share plan k) 0 (length plan.platform.initiators)
 
-pub memory_kept : (plan : Plan) (kept : List (List Share)) (m : ℕ) (row : List Share) → kept ≡ shares_of plan → m < length plan.platform.memories → row ≡ get_or kept m row → row ≡ memory_shares plan m
+pub object_kept : (plan : Plan) (kept : List (List Share)) (k : ℕ) (row : List Share) → kept ≡ shares_of plan → k < object_count plan.platform → row ≡ get_or kept k row → row ≡ object_shares plan k
 unfolding shares_of
-memory_kept plan kept m row same lt at =
-    at ∙ ap (λ (rows : List (List Share)). get_or rows m row) same ∙ get_or-map-range_with_len (memory_shares plan) 0 (length plan.platform.memories) m m row lt (zero-add m)
+object_kept plan kept k row same lt at =
+    at ∙ ap (λ (rows : List (List Share)). get_or rows k row) same ∙ get_or-map-range_with_len (object_shares plan) 0 (object_count plan.platform) k k row lt (zero-add k)
 
-pub share_kept : (plan : Plan) (m n : ℕ) (d : Share) → n < length plan.platform.initiators → get_or (memory_shares plan m) n d ≡ pair_share plan m n
-unfolding memory_shares
-share_kept plan m n d lt = get_or-map-range_with_len (pair_share plan m) 0 (length plan.platform.initiators) n n d lt (zero-add n)
+pub share_kept : (plan : Plan) (k n : ℕ) (d : Share) → n < length plan.platform.initiators → get_or (object_shares plan k) n d ≡ pair_share plan k n
+unfolding object_shares
+share_kept plan k n d lt = get_or-map-range_with_len (pair_share plan k) 0 (length plan.platform.initiators) n n d lt (zero-add n)
+
+-- rows that have passed the test of styles
+pub served_by_rows : (rows : List InitiatorRow) (done : List (Unit {0})) → rows_from checked_style 0 rows ≡ Ok done → All (λ (i : InitiatorRow). style_is_built i.style ≡ true) rows
+served_by_rows rows done passed = rows_passed (λ (i : InitiatorRow). style_is_built i.style ≡ true) checked_style (λ n i ok. (if_ok (style_is_built i.style) tt _ tt ok).0) 0 rows done passed
+
+pub served_by_test : (p : Platform) → checked_served p ≡ Ok tt → IsServed p
+unfolding checked_served
+served_by_test p h = bind_ok (rows_from checked_style 0 p.initiators) _ _ h (λ done passed h1. served_by_rows p.initiators done passed)
+
+-- where each style is built, nothing is planned at hops and pools
+built_adds_none : (s : Style) (n : ℕ) → style_is_built s ≡ true → by_fourphase s n ≡ 0
+built_adds_none Blocking n e = refl
+built_adds_none Direct n e = refl
+built_adds_none FourPhase n e = absurd (false≢true e)
+
+if_none : (b : Bool) (n : ℕ) → n ≡ 0 → (if b then n else 0) ≡ 0
+if_none true n e = e
+if_none false n e = refl
+
+none_at_hop : (plan : Plan) (i : Initiator) (h : ℕ) → style_is_built i.row.style ≡ true → (ask : Ask) → at_hop plan i h ask ≡ 0
+none_at_hop plan i h e (AnAccess a n) = built_adds_none i.row.style _ e
+none_at_hop plan i h e (ADebugRead a n) = refl
+none_at_hop plan i h e (AnInvalidation a) = refl
+
+none_at_pool : (plan : Plan) (i : Initiator) (n : ℕ) → style_is_built i.row.style ≡ true → (ask : Ask) → at_pool plan i n ask ≡ 0
+none_at_pool plan i n e (AnAccess a m) = if_none _ _ (built_adds_none i.row.style _ e)
+none_at_pool plan i n e (ADebugRead a m) = refl
+none_at_pool plan i n e (AnInvalidation a) = refl
+
+none_of_initiators : (f : Initiator → ℕ) → ((i : Initiator) → style_is_built i.row.style ≡ true → f i ≡ 0) → (n : ℕ) (rows : List InitiatorRow) (scripts : List (List Operation))
+    → All (λ (r : InitiatorRow). style_is_built r.style ≡ true) rows → sum_by f (initiators_from n rows scripts) ≡ 0
+none_of_initiators f none n [] scripts built = refl
+none_of_initiators f none n (r ∷ rows) [] built = refl
+none_of_initiators f none n (r ∷ rows) (s ∷ scripts) built =
+    let P : InitiatorRow → Type 0 = λ r. style_is_built r.style ≡ true in
+    omega (arith, sum_by-cons f (numbered n r s) (initiators_from (n + 1) rows scripts), none (numbered n r s) (All-head P r rows built), none_of_initiators f none (n + 1) rows scripts (All-tail P r rows built))
+
+pub none_at_hops : (plan : Plan) (h : ℕ) → IsServed plan.platform → planned_at plan (Hop h) ≡ 0
+unfolding planned_at share_of
+none_at_hops plan h served =
+    none_of_initiators (λ i. share_of plan i (Hop h)) (λ i e. none_in (at_hop plan i h) (none_at_hop plan i h e) (asks_in i)) 0 plan.platform.initiators plan.scripts served
+
+pub none_at_pools : (plan : Plan) (n : ℕ) → IsServed plan.platform → planned_at plan (Pool n) ≡ 0
+unfolding planned_at share_of
+none_at_pools plan n served =
+    none_of_initiators (λ i. share_of plan i (Pool n)) (λ i e. none_in (at_pool plan i n) (none_at_pool plan i n e) (asks_in i)) 0 plan.platform.initiators plan.scripts served

@@ -3,6 +3,7 @@ pub mod Walks
 pub mod Shape
 pub mod Planned
 pub mod Valid
+pub mod Places
 pub mod Routes
 pub mod Kept
 pub mod Plans

@@ -1,5 +1,5 @@
 -- The shape of a platform, or its first fault.
-use Rattle.std.specs.Prelude.{ℕ, ◌≡◌, Bool, true, false, ◌||◌, ◌==◌, length, Result, Ok, Err, if◌then◌else◌, nat_lt, codes}
+use Rattle.std.specs.Prelude.{ℕ, ◌≡◌, Bool, true, false, ◌||◌, ◌==◌, length, All, Result, Ok, Err, if◌then◌else◌, nat_lt, codes}
 use Rattle.std.specs.List.{list_any, range_with_len}
 use Rattle.platform_model.specs.declared.fault.PlatformCode.TheVariants.{Unbound, Cycle, TooDeep, TwoPaths, NotBuilt}
 use Rattle.platform_model.specs.declared.place.Place.TheVariants as place
@@ -43,15 +43,6 @@ has_two_paths p i =
 abbrev pub checked_single : Platform → ℕ → InitiatorRow → Result (Unit {0}) PlatformRefusal
 checked_single p n i = if has_two_paths p i then Err (refusal TwoPaths (place.Initiator n) (codes "bind")) else Ok tt
 
--- other styles than blocking aren't built yet
-abbrev pub style_is_built : Style → Bool
-style_is_built Blocking = true
-style_is_built Direct = false
-style_is_built FourPhase = false
-
-abbrev pub checked_style : ℕ → InitiatorRow → Result (Unit {0}) PlatformRefusal
-checked_style n i = if style_is_built i.style then Ok tt else Err (refusal NotBuilt (place.Initiator n) (codes "style"))
-
 -- the tests of a platform's shape, in this order
 unfoldable pub checked_shape : Platform → Result (Unit {0}) PlatformRefusal
 checked_shape p = do
@@ -61,10 +52,29 @@ checked_shape p = do
   _ ← rows_from (checked_acyclic p) 0 p.routers
   _ ← rows_from (checked_depth p) 0 p.initiators
   _ ← rows_from (checked_single p) 0 p.initiators
-  _ ← rows_from checked_style 0 p.initiators
   Ok tt
 
 -- a platform of a good shape: it is within the bounds of a file, and its bindings and windows have no fault
 pub record IsShape (p : Platform) : Type 0 where
   pub bounded : IsBounded p
   pub checked : checked_shape p ≡ Ok tt
+
+-- A plan may have initiators of every style. What is served so far is said here alone: other styles than blocking
+-- aren't built yet.
+abbrev pub style_is_built : Style → Bool
+style_is_built Blocking = true
+style_is_built Direct = false
+style_is_built FourPhase = false
+
+abbrev pub checked_style : ℕ → InitiatorRow → Result (Unit {0}) PlatformRefusal
+checked_style n i = if style_is_built i.style then Ok tt else Err (refusal NotBuilt (place.Initiator n) (codes "style"))
+
+-- the test that a platform is served
+unfoldable pub checked_served : Platform → Result (Unit {0}) PlatformRefusal
+checked_served p = do
+  _ ← rows_from checked_style 0 p.initiators
+  Ok tt
+
+-- the style of each initiator is built
+abbrev pub IsServed : Platform → Type 0
+IsServed p = All (λ (i : InitiatorRow). style_is_built i.style ≡ true) p.initiators

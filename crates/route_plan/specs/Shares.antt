@@ -1,10 +1,9 @@
--- What each initiator of a plan may add to each memory, as it is counted and as it is kept.
+-- What each initiator of a plan may add to each object, as it is counted and as it is kept.
 use Rattle.std.specs.Prelude.{ℕ, ◌+◌, ◌*◌, List, map, length, sum_by, Option, Some, None, slice_get, Result, Ok, Err, if◌then◌else◌, nat_lt, codes}
 use Rattle.std.specs.List.{range_with_len}
 use Rattle.platform_model.specs.declared.fault.PlatformCode.TheVariants.{TooManyEntries, TooMuchData}
 use Rattle.platform_model.specs.declared.place.Place.TheVariants as place
 use Rattle.platform_model.specs.Reading.{PlatformRefusal, refusal}
-use Rattle.tlm_types.specs.declared.words.ObjectNo.TheVariants.{Memory}
 use Rattle.tlm_model.specs.declared.operation.Operation.{Operation}
 use Rattle.tlm_model.specs.declared.platform.MemoryRow.{MemoryRow}
 use Rattle.tlm_model.specs.declared.platform.Platform.{Platform}
@@ -14,6 +13,7 @@ use Rattle.route_plan.specs.declared.shares.Share.{Share}
 use Rattle.route_plan.specs.Counted.{is_granted_at, logged_share_at, share_at}
 use Rattle.route_plan.specs.Counts.{count_in}
 use Rattle.route_plan.specs.Paths.{once}
+use Rattle.route_plan.specs.Places.{object_at, object_count}
 use Rattle.route_plan.specs.Valid.{most_entries, most_logged}
 
 -- the entries of a memory's gates for the initiator with number n and so many invalidations
@@ -25,13 +25,13 @@ gates_of p n m invalidations (Some row) =
 abbrev pub gates_in : Platform → ℕ → ℕ → ℕ → ℕ
 gates_in p n m invalidations = gates_of p n m invalidations (slice_get p.memories m)
 
--- what the initiator with number n may add to memory m where this is counted of its script
+-- what the initiator with number n may add at place k where this is counted of its script: a memory has gates, too
 abbrev pub share_in : Platform → ℕ → ℕ → Count → Share
-share_in p n m count = record { entries = count.entries + gates_in p n m count.invalidations; logged = count.logged }
+share_in p n k count = record { entries = count.entries + gates_in p n k count.invalidations; logged = count.logged }
 
--- what the initiator with number n and this script may add to each memory
+-- what the initiator with number n and this script may add at each place
 abbrev pub script_shares : Platform → ℕ → List Operation → List Share
-script_shares p n script = map (λ m. share_in p n m (count_in p n script m)) (range_with_len 0 (length p.memories))
+script_shares p n script = map (λ k. share_in p n k (count_in p n script k)) (range_with_len 0 (object_count p))
 
 abbrev pub no_share : Share
 no_share = record { entries = 0; logged = 0 }
@@ -40,25 +40,25 @@ no_share = record { entries = 0; logged = 0 }
 abbrev pub with_scripts : Platform → List (List Operation) → Plan
 with_scripts p scripts = record { platform = p; scripts = scripts }
 
--- what the initiator with number n may add to memory m
+-- what the initiator with number n may add at place k
 abbrev pub pair_share : Plan → ℕ → ℕ → Share
-pair_share p m n = record { entries = share_at p n (Memory m); logged = logged_share_at p n m }
+pair_share p k n = record { entries = share_at p n (object_at p.platform k); logged = logged_share_at p n k }
 
--- what the initiator with number n may add to each memory
+-- what the initiator with number n may add at each place
 abbrev pub initiator_shares : Plan → ℕ → List Share
-initiator_shares p n = map (λ m. pair_share p m n) (range_with_len 0 (length p.platform.memories))
+initiator_shares p n = map (λ k. pair_share p k n) (range_with_len 0 (object_count p.platform))
 
 -- the same of each initiator
 abbrev pub shares_by_initiator : Plan → List (List Share)
 shares_by_initiator p = map (initiator_shares p) (range_with_len 0 (length p.platform.initiators))
 
--- what each initiator may add to memory m
-unfoldable pub memory_shares : Plan → ℕ → List Share
-memory_shares p m = map (pair_share p m) (range_with_len 0 (length p.platform.initiators))
+-- what each initiator may add at place k
+unfoldable pub object_shares : Plan → ℕ → List Share
+object_shares p k = map (pair_share p k) (range_with_len 0 (length p.platform.initiators))
 
--- the same of each memory
+-- the same of each place
 unfoldable pub shares_of : Plan → List (List Share)
-shares_of p = map (memory_shares p) (range_with_len 0 (length p.platform.memories))
+shares_of p = map (object_shares p) (range_with_len 0 (object_count p.platform))
 
 abbrev pub entries_in : List Share → ℕ
 entries_in shares = sum_by (λ (s : Share). s.entries) shares

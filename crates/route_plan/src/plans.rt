@@ -28,7 +28,7 @@ use traffic_script::Script;
 pub struct Plan {
     routes: Routes,
     scripts: Rows<Script>,
-    /// What each initiator may add to each memory, memory by memory.
+    /// What each initiator may add to each object, place by place.
     shares: Rows<Rows<Share>>,
 }
 
@@ -59,7 +59,8 @@ impl Plan {
     }
 
     /// The platform. The plan is valid: its platform is of a good shape, there is a script for each
-    /// initiator, as a text gives one, and what is counted of them is within the limits.
+    /// initiator, as a text gives one, and what is counted of them is within the limits. Its initiators
+    /// may have every style.
     pub fn platform(&self) -> &Platform
         ensures same { result.now ≡ self.now.platform }
         ensures valid { IsValid self.now }
@@ -123,19 +124,16 @@ impl Plan {
     }
 
     /// The entries that the scripts of all initiators may add to an object at most: the sum of the
-    /// shares of the initiators. A plan has at most 1,000,000 entries in all.
+    /// shares of the initiators. A four-phase access counts at each hop that it passes and at its
+    /// initiator's pool, too. A plan has at most 1,000,000 entries in all.
     pub fn entries(&self, object: ObjectNo) -> u64
         requires { IsObject self.now.platform object }
         ensures planned { result ≡ planned_at self.now object }
         ensures shares { result ≡ sum_by (λ n. share_at self.now n object) (range_with_len 0 (length self.now.platform.initiators)) }
         ensures few { result ≤ 1000000 }
     {
-        match object {
-            ObjectNo::Memory(memory) => {
-                entries_in(self.shares.as_slice()[memory as usize].as_slice())
-            }
-            ObjectNo::Hop(_) | ObjectNo::Pool(_) => 0,
-        }
+        let place = self.routes.place(object);
+        entries_in(self.shares.as_slice()[place].as_slice())
     }
 
     /// The entries that the script of the initiator with this number may add to an object at most.
@@ -145,12 +143,8 @@ impl Plan {
         ensures share { result ≡ share_at self.now initiator object }
         ensures few { result ≤ 1000000 }
     {
-        match object {
-            ObjectNo::Memory(memory) => {
-                self.shares.as_slice()[memory as usize].as_slice()[initiator as usize].entries
-            }
-            ObjectNo::Hop(_) | ObjectNo::Pool(_) => 0,
-        }
+        let place = self.routes.place(object);
+        self.shares.as_slice()[place].as_slice()[initiator as usize].entries
     }
 
     /// The bytes that the scripts of all initiators may log at a memory at most: the sum of what

@@ -2,6 +2,7 @@
 ghost use Rattle.std.specs.Prelude.{◌≡◌, ◌<◌, ◌≤◌, Some, Ok, length, map, slice_get, IfOk};
 ghost use Rattle.platform_model.specs.Reading.{Gives};
 ghost use Rattle.tlm_model.specs.Route.{into_memory};
+ghost use Rattle.route_plan.specs.Places.{object_count, place_of};
 ghost use Rattle.route_plan.specs.Routes.{ends_of, first_step, next_step, numbered_windows, route_by, bound_walk};
 ghost use Rattle.route_plan.specs.Shape.{IsShape};
 
@@ -15,6 +16,7 @@ use platform_model::PlatformFault;
 use std::alloc::{AllocError, Global};
 use std::marker::Model;
 use tlm_model::{Platform, Target};
+use tlm_types::ObjectNo;
 
 /// The components that a walk visits at most: 8 routers and a memory.
 pub(crate) const MOST_VISITED: u32 = 9;
@@ -86,6 +88,26 @@ impl Routes {
         ensures { result ≡ slice_get (ends_of self.now) hop }
     {
         self.ends.as_slice().get(hop as usize).copied()
+    }
+
+    /// How many objects there are: memories, hops and pools.
+    pub fn objects(&self) -> usize
+        ensures { result ≡ object_count self.now }
+    {
+        let nodes = self.platform.memories.as_slice().len() + self.ends.len();
+        nodes + self.platform.initiators.as_slice().len()
+    }
+
+    /// The place of an object in their row: the memories come first, then the hops, then the pools.
+    pub fn place(&self, object: ObjectNo) -> usize
+        ensures { result ≡ place_of self.now object }
+    {
+        let memories = self.platform.memories.as_slice().len();
+        match object {
+            ObjectNo::Memory(memory) => memory as usize,
+            ObjectNo::Hop(hop) => memories + hop as usize,
+            ObjectNo::Pool(initiator) => memories + self.ends.len() + initiator as usize,
+        }
     }
 
     /// The step over the binding of the initiator with this number.

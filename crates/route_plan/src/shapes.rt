@@ -7,7 +7,8 @@ use tlm_model::Platform;
 
 /// A platform whose routes are sound, which contracts see as the platform: it keeps the limits of the
 /// format, each router has a window, each component is named, no router leads back to itself, no path
-/// has more than 8 routers, and no two paths lead from an initiator to one component.
+/// has more than 8 routers, and no two paths lead from an initiator to one component. Its initiators may
+/// have every style.
 #[derive(Drop)]
 pub struct Shape {
     platform: Platform,

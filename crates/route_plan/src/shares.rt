@@ -1,4 +1,4 @@
-// What each initiator may add to each memory.
+// What each initiator may add to each object.
 ghost use Rattle.std.specs.Prelude.{◌≡◌, ◌<◌, ◌≤◌, ◌^◌, All, IfOk, List, length, map, slice_index_or, sum_by};
 ghost use Rattle.std.specs.List.{range_with_len};
 ghost use Rattle.tlm_model.specs.declared.operation.Operation.{Operation};
@@ -16,7 +16,7 @@ use std::alloc::{AllocError, Global};
 use tlm_model::{Platform, Rows, Style};
 use traffic_script::Script;
 
-/// What an initiator may add to a memory at most: entries, and bytes of logged data.
+/// What an initiator may add to an object at most: entries, and bytes of logged data.
 #[derive(Clone, Copy)]
 pub struct Share {
     pub entries: u64,
@@ -28,61 +28,62 @@ fn is_granted(
     alloc: Global,
     platform: &Platform,
     initiator: u32,
-    memory: u32,
+    memory: usize,
 ) -> Result<bool, AllocError>
     requires { initiator < length platform.now.initiators }
     ensures { IfOk result (λ b. b ≡ is_granted_at platform.now initiator memory) }
 {
     let row = &platform.initiators.as_slice()[initiator as usize];
     match row.style {
-        Style::Direct => has_path(alloc, platform, row, Component::Memory(memory as usize)),
+        Style::Direct => has_path(alloc, platform, row, Component::Memory(memory)),
         Style::Blocking | Style::FourPhase => Ok(false),
     }
 }
 
-/// The entries of the gates of a memory: granted to the initiator, and closed by its invalidations.
+/// The entries of the gates of the memory at a place, if one is there: granted to the initiator, and
+/// closed by its invalidations.
 fn gates(
     alloc: Global,
     platform: &Platform,
     initiator: u32,
-    memory: u32,
+    place: usize,
     invalidations: u64,
 ) -> Result<u64, AllocError>
-    requires initiator { initiator < length platform.now.initiators }
-    requires memory { memory < length platform.now.memories }
-    ensures gates { IfOk result (λ n. n ≡ gates_in platform.now initiator memory invalidations) }
+    requires { initiator < length platform.now.initiators }
+    ensures gates { IfOk result (λ n. n ≡ gates_in platform.now initiator place invalidations) }
     ensures few { IfOk result (λ n. n < 2 ^ 33) }
 {
-    let row = &platform.memories.as_slice()[memory as usize];
+    let Some(row) = platform.memories.as_slice().get(place) else {
+        return Ok(0);
+    };
     if !row.traits.dmi {
         return Ok(0);
     }
-    let granted = is_granted(alloc, platform, initiator, memory)?;
+    let granted = is_granted(alloc, platform, initiator, place)?;
     let closed = invalidations > 0;
     Ok(row.traits.gates as u64 * (granted as u64 + closed as u64))
 }
 
-/// What an initiator may add to a memory where this is counted of its script.
+/// What an initiator may add at a place where this is counted of its script.
 fn counted_share(
     alloc: Global,
     platform: &Platform,
     initiator: u32,
-    memory: u32,
+    place: usize,
     count: Count,
 ) -> Result<Share, AllocError>
     requires initiator { initiator < length platform.now.initiators }
-    requires memory { memory < length platform.now.memories }
     requires few { count.entries ≤ 1638400000 }
-    ensures { IfOk result (λ share. share ≡ share_in platform.now initiator memory count) }
+    ensures { IfOk result (λ share. share ≡ share_in platform.now initiator place count) }
 {
-    let gates = gates(alloc, platform, initiator, memory, count.invalidations)?;
+    let gates = gates(alloc, platform, initiator, place, count.invalidations)?;
     Ok(Share {
         entries: count.entries + gates,
         logged: count.logged,
     })
 }
 
-/// What the initiator with this script may add to each memory.
+/// What the initiator with this script may add at each place.
 fn script_shares(
     alloc: Global,
     routes: &Routes,
@@ -95,15 +96,14 @@ fn script_shares(
     let platform = routes.platform();
     let counts = counts(alloc, routes, initiator, script)?;
     let mut shares = Vec::new(alloc);
-    for memory in 0..platform.memories.as_slice().len() {
-        let count = counts[memory];
-        let share = counted_share(alloc, platform, initiator, memory as u32, count)?;
+    for place in 0..routes.objects() {
+        let share = counted_share(alloc, platform, initiator, place, counts[place])?;
         shares.push(share)?;
     }
     Ok(Rows::from_vec(shares))
 }
 
-/// What each initiator may add to each memory, by the scripts in their order.
+/// What each initiator may add at each place, by the scripts in their order.
 fn all_shares(
     alloc: Global,
     routes: &Routes,
@@ -120,23 +120,23 @@ fn all_shares(
     Ok(rows)
 }
 
-/// What each initiator may add to the memory in this place of its row.
-fn memory_shares(
+/// What each initiator may add at this place.
+fn object_shares(
     alloc: Global,
     rows: &[Rows<Share>],
-    memory: usize,
+    place: usize,
 ) -> Result<Rows<Share>, AllocError>
-    requires { All (λ row. memory < length row) rows.now }
-    ensures { IfOk result (λ shares. shares ≡ map (λ row. slice_index_or row memory no_share) rows.now) }
+    requires { All (λ row. place < length row) rows.now }
+    ensures { IfOk result (λ shares. shares ≡ map (λ row. slice_index_or row place no_share) rows.now) }
 {
     let mut shares = Vec::new(alloc);
     for row in rows {
-        shares.push(row.as_slice()[memory])?;
+        shares.push(row.as_slice()[place])?;
     }
     Ok(Rows::from_vec(shares))
 }
 
-/// What each initiator may add to each memory, memory by memory.
+/// What each initiator may add to each object, place by place.
 pub fn shares(
     alloc: Global,
     routes: &Routes,
@@ -147,8 +147,8 @@ pub fn shares(
 {
     let rows = all_shares(alloc, routes, scripts)?;
     let mut shares = Vec::new(alloc);
-    for memory in 0..routes.platform().memories.as_slice().len() {
-        let more = memory_shares(alloc, rows.as_slice(), memory)?;
+    for place in 0..routes.objects() {
+        let more = object_shares(alloc, rows.as_slice(), place)?;
         shares.push(more)?;
     }
     Ok(Rows::from_vec(shares))
@@ -176,24 +176,24 @@ pub fn logged_in(shares: &[Share]) -> u64
     sum
 }
 
-/// The entries of all memories together, as far as the greatest number.
+/// The entries of all objects together, as far as the greatest number.
 pub fn entries_in_all(shares: &[Rows<Share>]) -> u64
     ensures { result ≡ capped (sum_by entries_in shares.now) }
 {
     let mut sum: u64 = 0;
-    for of_memory in shares {
-        sum = sum.saturating_add(entries_in(of_memory.as_slice()));
+    for of_object in shares {
+        sum = sum.saturating_add(entries_in(of_object.as_slice()));
     }
     sum
 }
 
-/// The bytes logged at all memories together, as far as the greatest number.
+/// The bytes logged at all objects together, as far as the greatest number.
 pub fn logged_in_all(shares: &[Rows<Share>]) -> u64
     ensures { result ≡ capped (sum_by logged_in shares.now) }
 {
     let mut sum: u64 = 0;
-    for of_memory in shares {
-        sum = sum.saturating_add(logged_in(of_memory.as_slice()));
+    for of_object in shares {
+        sum = sum.saturating_add(logged_in(of_object.as_slice()));
     }
     sum
 }

@@ -1,6 +1,8 @@
 // Plans.
+ghost use Rattle.route_plan.specs.Shape.{IsServed};
+
 use platform_file::read_platform;
-use route_plan::{Plan, plan, shape};
+use route_plan::{Plan, plan, served, shape};
 use std::alloc::Global;
 use std::process::Abort;
 use traffic_script::{Script, read_script};
@@ -14,11 +16,14 @@ fn scripts_of(rt: &impl Abort, alloc: Global, texts: &[&str]) -> Vec<Script> {
     scripts
 }
 
-/// The plan of this platform with these scripts, one for each initiator.
-pub(crate) fn plan_of(rt: &impl Abort, alloc: Global, platform: &str, scripts: &[&str]) -> Plan {
+/// The plan of this platform with these scripts, one for each initiator, which is served.
+pub(crate) fn plan_of(rt: &impl Abort, alloc: Global, platform: &str, scripts: &[&str]) -> Plan
+    ensures { IsServed result.platform }
+{
     let scripts = scripts_of(rt, alloc, scripts);
     let platform = read_platform(alloc, platform.as_bytes()).expect(rt, "a platform");
     let shape = shape(alloc, &platform).expect(rt, "a shape");
+    served(alloc, &shape).expect(rt, "a platform that is served");
     assert!(rt; scripts.len() == shape.platform().initiators.as_slice().len());
     plan(alloc, shape, scripts.as_slice()).expect(rt, "a plan")
 }

@@ -1,6 +1,7 @@
 // Nets that were just built.
 ghost use Rattle.std.specs.Prelude.{◌≡◌};
 ghost use Rattle.plat_build.specs.Objects.{frame_of};
+ghost use Rattle.route_plan.specs.Shape.{IsServed};
 
 use crate::bench::plan_of;
 use plat_build::{Built, Opened, Start, TlmLaw, build, close_unused};
@@ -36,6 +37,7 @@ fn debug_read<N: Naming<Plan, TlmLaw>, R: Wait + Abort>(
     requires history { (opened.table ≡ N.table) × (opened.frame ≡ N.frame) }
     requires tickets { opened.tokens ≡ N.tokens }
     requires plan { plan.now ≡ N.frame.world }
+    requires served { IsServed plan.now.platform }
 {
     assert!(rt; plan.platform().initiators.as_slice().len() == 1);
     let Built { net, mut kept } = build::<N>(alloc, opened, plan).expect(rt, "a net");
@@ -56,7 +58,6 @@ fn debug_read<N: Naming<Plan, TlmLaw>, R: Wait + Abort>(
         initiator: 0,
         seq: 0,
     };
-    let _ = net.plan().platform();
     let carried = net.debug(rt, 0, payload, note, &mut wallet, txn, 7);
     assert!(rt; carried.at == 7);
     (carried.payload.status(), wallet.left(1))

@@ -1,4 +1,6 @@
 // Runs by worker threads.
+ghost use Rattle.route_plan.specs.Shape.{IsServed};
+
 use crate::bench::plan_of;
 use crate::paces::{Holding, InTurn, Watching};
 use outside::{NoPace, Pace};
@@ -34,7 +36,9 @@ fn run_of<P: Pace + Sync, R: Threads + Wait + Abort + Sync>(
     plan: &Plan,
     workers: u32,
     pace: &P,
-) -> Outcome {
+) -> Outcome
+    requires { IsServed plan.now.platform }
+{
     let (outcome, sealed) = run_plan(rt, alloc, plan, workers, pace).expect(rt, "a run");
     assert!(rt; outcome.complete);
     assert!(rt; sealed.len() == outcome.history.len());

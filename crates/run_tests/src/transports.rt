@@ -6,6 +6,7 @@ ghost use Rattle.tlm_model.specs.Store.{zeros};
 ghost use Rattle.region_object.specs.Call.{payload_cost};
 ghost use Rattle.tlm_types.specs.declared.words.TxnId.{TxnId as Txn};
 ghost use Rattle.plat_build.specs.Calls.{CanPay, HasNoPassage, route_at};
+ghost use Rattle.route_plan.specs.Shape.{IsServed};
 ghost use Rattle.run_tests.specs.Bag.{IsBag};
 
 use crate::bench::plan_of;
@@ -46,11 +47,12 @@ struct Bag {
     at: Ps,
 }
 
-// Nobody passes a hop: no initiator of a plan is of four phases yet.
+// Nobody passes a hop: no initiator of a plan that is served is of four phases.
 fn none_passes<N: Naming<Plan, TlmLaw>>(net: &Net<N>)
+    requires { IsServed net.now.platform }
     ensures { (x : Txn) → HasNoPassage net.now x }
 {
-    let _ = net.plan().platform();
+    let _ = net;
 }
 
 // The wallet has a ticket for it, where it has a route.
@@ -88,6 +90,7 @@ fn come_back<N: Naming<Plan, TlmLaw>>(carried: Carried, wallet: Wallet, seq: u64
 // Makes the access of the payload.
 fn access<N: Naming<Plan, TlmLaw>, R: Wait + Abort>(rt: &R, net: &Net<N>, who: u32, bag: Bag) -> Bag
     requires who { who < length net.now.platform.initiators }
+    requires served { IsServed net.now.platform }
     requires bag { IsBag N.table N.tokens bag.payload bag.note bag.wallet }
     requires buffer { bag.payload.command ≡ Read → bag.payload.bytes ≡ zeros (length bag.payload.bytes) }
     ensures { IsBag N.table N.tokens result.payload result.note result.wallet }
@@ -112,6 +115,7 @@ fn access<N: Naming<Plan, TlmLaw>, R: Wait + Abort>(rt: &R, net: &Net<N>, who: u
 // Makes the debug read of the payload.
 fn look<N: Naming<Plan, TlmLaw>, R: Wait + Abort>(rt: &R, net: &Net<N>, who: u32, bag: Bag) -> Bag
     requires who { who < length net.now.platform.initiators }
+    requires served { IsServed net.now.platform }
     requires bag { IsBag N.table N.tokens bag.payload bag.note bag.wallet }
     requires read { bag.payload.command ≡ Read }
     ensures { IsBag N.table N.tokens result.payload result.note result.wallet }
@@ -146,6 +150,7 @@ fn write_and_read<N: Naming<Plan, TlmLaw>, R: Wait + Abort>(
     mut bag: Bag,
 ) -> Bag
     requires who { who < length net.now.platform.initiators }
+    requires served { IsServed net.now.platform }
     requires bag { IsBag N.table N.tokens bag.payload bag.note bag.wallet }
     ensures { IsBag N.table N.tokens result.payload result.note result.wallet }
 {
@@ -167,6 +172,7 @@ fn look_and_miss<N: Naming<Plan, TlmLaw>, R: Wait + Abort>(
     mut bag: Bag,
 ) -> Bag
     requires who { who < length net.now.platform.initiators }
+    requires served { IsServed net.now.platform }
     requires bag { IsBag N.table N.tokens bag.payload bag.note bag.wallet }
     ensures { IsBag N.table N.tokens result.payload result.note result.wallet }
 {
@@ -183,6 +189,7 @@ fn look_and_miss<N: Naming<Plan, TlmLaw>, R: Wait + Abort>(
 // All four. No ticket is left.
 fn tour<N: Naming<Plan, TlmLaw>, R: Wait + Abort>(rt: &R, net: &Net<N>, who: u32, bag: Bag)
     requires who { who < length net.now.platform.initiators }
+    requires served { IsServed net.now.platform }
     requires bag { IsBag N.table N.tokens bag.payload bag.note bag.wallet }
 {
     let bag = write_and_read::<N, R>(rt, net, who, bag);
@@ -221,6 +228,7 @@ fn alone<N: Naming<Plan, TlmLaw>, R: Wait + Abort>(
     requires history { (opened.table ≡ N.table) × (opened.frame ≡ N.frame) }
     requires tickets { opened.tokens ≡ N.tokens }
     requires plan { plan.now ≡ N.frame.world }
+    requires served { IsServed plan.now.platform }
 {
     assert!(rt; plan.platform().initiators.as_slice().len() == 2);
     let Built { net, mut kept } = build::<N>(alloc, opened, plan).expect(rt, "a net");
@@ -238,6 +246,7 @@ fn both<N: Naming<Plan, TlmLaw> + Send + Sync, R: Threads + Wait + Abort + Sync>
     requires history { (opened.table ≡ N.table) × (opened.frame ≡ N.frame) }
     requires tickets { opened.tokens ≡ N.tokens }
     requires plan { plan.now ≡ N.frame.world }
+    requires served { IsServed plan.now.platform }
 {
     assert!(rt; plan.platform().initiators.as_slice().len() == 2);
     let Built { net, mut kept } = build::<N>(alloc, opened, plan).expect(rt, "a net");

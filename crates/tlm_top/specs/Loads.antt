@@ -19,7 +19,7 @@ IsLoadFault f name (TooLong n) = (n ≡ name) × IsLong f.holds name
 IsLoadFault f name NoMemory = Unit {0}
 IsLoadFault f name exit = ⊥
 
--- the load of a platform file failed, or its text or its shape is refused
+-- the load of a platform file failed, or its text, its shape or that it be served is refused
 abbrev pub IsFileFault : Files → List ℕ → Exit → Type 0
 IsFileFault f file (PlatformRefused code table key) = IsFileRefused f.holds file (record { code = code; table = table; key = key })
 IsFileFault f file exit = IsLoadFault f file exit

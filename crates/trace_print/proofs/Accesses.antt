@@ -1,4 +1,4 @@
--- The entries of a good history of a valid plan are accesses.
+-- The entries of a good history of a valid plan that is served are accesses.
 use Rattle.std.proofs.Common.{◌≡◌, ℕ, true, List, [], ◌∷◌, ◌++◌, Option, Some, None, refl, subst}
 use Rattle.std.specs.List.{AllByRecursion}
 use Rattle.tlm_types.specs.declared.words.ObjectNo.{ObjectNo}
@@ -20,6 +20,7 @@ use Rattle.grant_model.proofs.Ungranted.{IsNoCloser, no_closers}
 use Rattle.good_history.specs.Good.{IsSound}
 use Rattle.good_history.specs.Laws.{AllDecoupled}
 use Rattle.good_history.proofs.Decoupled.{sound_is_decoupled}
+use Rattle.route_plan.specs.Shape.{IsServed}
 use Rattle.route_plan.specs.Valid.{IsValid}
 use Rattle.run_outcome.proofs.PlanLemmas.{blocking_at, no_fourphase, no_invalidation}
 use Rattle.trace_print.proofs.OfRequests.{all-at, at-request, request-of}
@@ -65,13 +66,13 @@ accessed-by route asked (Memory m) (Release s f) access is came plain = absurd p
 accessed-by route asked (Hop h) w access is came plain = absurd plain
 accessed-by route asked (Pool n) w access is came plain = absurd plain
 
-module _ (p : Plan) (valid : IsValid p) where
+module _ (p : Plan) (valid : IsValid p) (served : IsServed p.platform) where
   entry-accessed : (before : List Entry) (e : Entry) → Replies p before e → Ways p before e → IsDecoupled e.object e.what → is_access e.what ≡ true
   entry-accessed before e reply way plain =
       let found = request-of p before e (λ i r. IsEntryOf (route_of p.platform i r.address) r.asked e.object e.what) reply in
       let i = found.initiator in
       let r = found.request in
-      let blocking = blocking_at p valid e.txn.initiator i found.of_it in
+      let blocking = blocking_at p served e.txn.initiator i found.of_it in
       let quiet = all-at (λ (x : Initiator). AllByRecursion IsNoInvalidation x.script) (initiators_of p) (no_invalidation p valid) e.txn.initiator i found.of_it in
       let access = all-at IsNoCloser (requests_of p.platform i before) (no_closers p.platform i before 0 0 0 i.script quiet) e.txn.seq r found.asked_for in
       let is = at-request p before e (λ i r. IsEntryOf (route_of p.platform i r.address) r.asked e.object e.what) reply found in
@@ -87,4 +88,4 @@ module _ (p : Plan) (valid : IsValid p) where
   are-accesses h sound =
       let kept = sound.requests in
       let runs = kept.scripts in
-      accessed-from [] h runs.replies runs.ways (sound_is_decoupled p h (no_fourphase p valid) sound)
+      accessed-from [] h runs.replies runs.ways (sound_is_decoupled p h (no_fourphase p served) sound)

@@ -1,4 +1,4 @@
--- The accesses of a good history of a valid plan can be told.
+-- The accesses of a good history of a valid plan that is served can be told.
 use Rattle.std.proofs.Common.{◌≡◌, ℕ, zero, suc, ◌+◌, ◌-◌, ◌%◌, ◌^◌, ◌<◌, ◌≤◌, ◌==◌, Bool, true, false, List, [], ◌∷◌, ◌++◌, length, map, take, drop, Option, Some, None, leb, refl, sym, ap, subst, ◌∙◌, arith}
 use Rattle.std.specs.Prelude.{IfSome, if◌then◌else◌, slice_get, slice_index, slice_set}
 use Rattle.std.specs.List.{AllByRecursion}
@@ -44,6 +44,7 @@ use Rattle.generic_payload.proofs.Moves.{length-taken_from}
 use Rattle.platform_model.specs.Bounded.{IsBounded, IsBoundedRouter}
 use Rattle.platform_model.specs.Windows.{window_at}
 use Rattle.traffic_script.specs.Proper.{AreBytes, AreProper}
+use Rattle.route_plan.specs.Shape.{IsServed}
 use Rattle.route_plan.specs.Valid.{IsValid}
 use Rattle.route_plan.proofs.SinglePaths.{not_none, some_same}
 use Rattle.run_outcome.proofs.PlanLemmas.{blocking_at, initiator_within}
@@ -279,14 +280,14 @@ record IsToldEntry (p : Platform) (s : Store) (e : Entry) : Type 0 where
   gotten : IsGotten e
   stored : HasStoredBytes (after e.object e.what s)
 
-told-entry : (p : Plan) → IsValid p → (before : List Entry) → AllByRecursion IsGotten before → (s : Store) → HasStoredBytes s → (e : Entry) → e.position < 2 ^ 64 → is_access e.what ≡ true
+told-entry : (p : Plan) → IsValid p → IsServed p.platform → (before : List Entry) → AllByRecursion IsGotten before → (s : Store) → HasStoredBytes s → (e : Entry) → e.position < 2 ^ 64 → is_access e.what ≡ true
     → Replies p before e → Ways p before e → Times p before e → IsLegalEntry p.platform s e.object e.what → IsToldEntry p.platform s e
-told-entry p valid before got s stored e position accessed reply way time legal =
+told-entry p valid served before got s stored e position accessed reply way time legal =
     let found = request-of p before e (λ i r. IsEntryOf (route_of p.platform i r.address) r.asked e.object e.what) reply in
     let i = found.initiator in
     let r = found.request in
     let shape = valid.shape in
-    let blocking = blocking_at p valid e.txn.initiator i found.of_it in
+    let blocking = blocking_at p served e.txn.initiator i found.of_it in
     let proper = script-of AreProper 0 e.txn.initiator p.platform.initiators p.scripts i valid.proper found.of_it in
     let all = requests-told p.platform i before got 0 0 0 (omega arith) i.script proper.each in
     let told = all-at IsToldRequest (requests_of p.platform i before) all e.txn.seq r found.asked_for in
@@ -311,19 +312,19 @@ told-entry p valid before got s stored e position accessed reply way time legal 
       stored = what.stored;
     }
 
-told-from : (p : Plan) → IsValid p → (n : ℕ) (before h : List Entry) → AllByRecursion IsGotten before → (s : Store) → HasStoredBytes s → n + length h ≤ 2 ^ 64 → IsNumberedFrom n h
+told-from : (p : Plan) → IsValid p → IsServed p.platform → (n : ℕ) (before h : List Entry) → AllByRecursion IsGotten before → (s : Store) → HasStoredBytes s → n + length h ≤ 2 ^ 64 → IsNumberedFrom n h
     → IsOfAccesses h → IsLegalFrom p.platform s h → EachFrom (Replies p) before h → EachFrom (Ways p) before h → EachFrom (Times p) before h → AllByRecursion (IsTellable p.platform) h
-told-from p valid n before [] got s stored few numbered plain legal replies ways times = tt
-told-from p valid n before (e ∷ h) got s stored few numbered plain legal replies ways times =
-    let one = told-entry p valid before got s stored e (omega (arith, few, numbered.0)) plain.0 replies.0 ways.0 times.0 legal.0 in (
+told-from p valid served n before [] got s stored few numbered plain legal replies ways times = tt
+told-from p valid served n before (e ∷ h) got s stored few numbered plain legal replies ways times =
+    let one = told-entry p valid served before got s stored e (omega (arith, few, numbered.0)) plain.0 replies.0 ways.0 times.0 legal.0 in (
       one.entry,
-      told-from p valid (n + 1) (before ++ e ∷ []) h (AllByRecursion-push IsGotten before e got one.gotten) (after e.object e.what s) one.stored (omega (arith, few)) numbered.1 plain.1 legal.1 replies.1 ways.1 times.1,
+      told-from p valid served (n + 1) (before ++ e ∷ []) h (AllByRecursion-push IsGotten before e got one.gotten) (after e.object e.what s) one.stored (omega (arith, few)) numbered.1 plain.1 legal.1 replies.1 ways.1 times.1,
     )
 
-pub good-told : (p : Plan) → IsValid p → (h : List Entry) → IsGood p h → AllByRecursion (IsTellable p.platform) h
-good-told p valid h good =
-    let plain = are-accesses p valid h good.sound in
+pub good-told : (p : Plan) → IsValid p → IsServed p.platform → (h : List Entry) → IsGood p h → AllByRecursion (IsTellable p.platform) h
+good-told p valid served h good =
+    let plain = are-accesses p valid served h good.sound in
     let kept = good.sound.requests in
     let scripts = kept.scripts in
     let few = few-entries p valid h scripts plain in
-    told-from p valid 0 [] h tt (opening_store p.platform) (λ m. zeros_of-bytes (slice_get p.platform.memories m)) (omega (arith, few)) kept.numbered plain kept.legal scripts.replies scripts.ways kept.times
+    told-from p valid served 0 [] h tt (opening_store p.platform) (λ m. zeros_of-bytes (slice_get p.platform.memories m)) (omega (arith, few)) kept.numbered plain kept.legal scripts.replies scripts.ways kept.times

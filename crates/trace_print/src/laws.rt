@@ -23,8 +23,8 @@ pub fn reports_of_valid_plans_name_histories()
     ensures { NamesValidHistories }
 {}
 
-/// The report of a run with all its entries names its history among the good ones of a valid plan: each
-/// entry of one is an access, with numbers and bytes as a run has them.
+/// The report of a run with all its entries names its history among the good ones of a valid plan that is
+/// served: each entry of one is an access, with numbers and bytes as a run has them.
 pub fn reports_name_good_histories()
     ensures { NamesGoodHistories }
 {}

@@ -9,7 +9,7 @@ push_idle-requires-clause-numbered g c =
     hops_numbered f f.world (c.args.memories + length c.new-seats.result.items) c.args.hops.items refl (omega (arith, ap length c.new-seats.ensures.items, c.requires.memories)) c.requires.hops
 
 pub push_idle-requires-clause-idle : goal.push_idle-requires-clause-idle
-push_idle-requires-clause-idle g c = hops_idle g.N.Naming.frame c.args.hops.items c.requires.frame c.requires.valid c.requires.hops
+push_idle-requires-clause-idle g c = hops_idle g.N.Naming.frame c.args.hops.items c.requires.frame c.requires.served c.requires.hops
 
 pub push_idle-requires-2-clause-numbered : goal.push_idle-requires-2-clause-numbered
 push_idle-requires-2-clause-numbered g c =
@@ -19,7 +19,7 @@ push_idle-requires-2-clause-numbered g c =
     pools_numbered f f.world (c.args.memories + length c.push_idle.new.seats.items) c.args.pools.items refl (omega (arith, ap length c.new-seats.ensures.items, c.requires.memories, a, b)) c.requires.pools
 
 pub push_idle-requires-2-clause-idle : goal.push_idle-requires-2-clause-idle
-push_idle-requires-2-clause-idle g c = pools_idle g.N.Naming.frame c.args.pools.items c.requires.frame c.requires.valid c.requires.pools
+push_idle-requires-2-clause-idle g c = pools_idle g.N.Naming.frame c.args.pools.items c.requires.frame c.requires.served c.requires.pools
 
 pub returns-clause-count : goal.returns-clause-count
 returns-clause-count g c =

@@ -18,12 +18,12 @@ returns-in_err-check_shares c =
     let same : length scripts ≡ length p.initiators = ap length copied ∙ c.requires ∙ ap (λ (q : Platform). length q.initiators) (sym routed) in
     let counted : c.in_ok-shares.shares ≡ shares_of (with_scripts p scripts) = c.in_ok-shares.ensures ∙ ap (λ texts. shares_of (with_scripts p texts)) c.as_slice.ensures in
     let checked : checked_shares c.as_slice-2.result.now ≡ checked_plan (with_scripts p scripts) =
-    limits_by_shares p scripts c.in_ok-shares.shares c.as_slice-2.result.now (subst IsShape c.routes.view_is c.routes.invariant.shape) same counted c.as_slice-2.ensures in
+    limits_by_shares p scripts c.in_ok-shares.shares c.as_slice-2.result.now same counted c.as_slice-2.ensures in
     let asked : with_scripts p scripts ≡ with_scripts c.args.shape c.args.scripts.now = ap (λ (q : Platform). with_scripts q scripts) routed ∙ ap (with_scripts c.args.shape) copied in
     let fault = c.in_err-check_shares.field-0.0 in
     let failed : Fails fault (planned (with_scripts p scripts)) = planned_fails fault (with_scripts p scripts) (subst (λ read. Fails fault read) checked c.in_err-check_shares.ensures) in
     let e = err_from_is_err_and c.from_residual-in_err-check_shares.result c.from_residual-in_err-check_shares.ensures.1 in
-    rw (e.1, e.2) (record { read = subst (λ (q : Plan). Fails fault (planned q)) asked failed; valid = tt })
+    rw (e.1, e.2) (record { read = subst (λ (q : Plan). Fails fault (planned q)) asked failed; valid = tt; platform = tt })
 
 pub of_parts-requires-clause-valid : goal.of_parts-requires-clause-valid
 of_parts-requires-clause-valid c =
@@ -37,7 +37,7 @@ of_parts-requires-clause-valid c =
       shape = shape;
       scripts = same;
       proper = c.in_ok-scripts.ensures.proper;
-      limits = sym (limits_by_shares p scripts c.in_ok-shares.shares c.as_slice-2.result.now shape same counted c.as_slice-2.ensures) ∙ c.in_ok-check_shares.ensures;
+      limits = sym (limits_by_shares p scripts c.in_ok-shares.shares c.as_slice-2.result.now same counted c.as_slice-2.ensures) ∙ c.in_ok-check_shares.ensures;
     }
 
 pub returns-clause-read : goal.returns-clause-read
@@ -49,6 +49,6 @@ returns-clause-read c =
     let same : length scripts ≡ length p.initiators = ap length copied ∙ c.requires ∙ ap (λ (q : Platform). length q.initiators) (sym routed) in
     let counted : c.in_ok-shares.shares ≡ shares_of (with_scripts p scripts) = c.in_ok-shares.ensures ∙ ap (λ texts. shares_of (with_scripts p texts)) c.as_slice.ensures in
     let limits : checked_plan (with_scripts p scripts) ≡ Ok tt =
-    sym (limits_by_shares p scripts c.in_ok-shares.shares c.as_slice-2.result.now (subst IsShape c.routes.view_is c.routes.invariant.shape) same counted c.as_slice-2.ensures) ∙ c.in_ok-check_shares.ensures in
+    sym (limits_by_shares p scripts c.in_ok-shares.shares c.as_slice-2.result.now same counted c.as_slice-2.ensures) ∙ c.in_ok-check_shares.ensures in
     let asked : with_scripts c.args.shape c.args.scripts.now ≡ with_scripts p scripts = ap (λ (q : Platform). with_scripts q c.args.scripts.now) (sym routed) ∙ ap (with_scripts p) (sym copied) in
     ap planned asked ∙ planned_ok (with_scripts p scripts) limits ∙ ap Ok (sym c.of_parts.ensures)

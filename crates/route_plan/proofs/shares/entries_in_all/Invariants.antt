@@ -3,5 +3,5 @@ use Rattle.route_plan.specs.Counts.{capped}
 use Rattle.route_plan.specs.Shares.{entries_in}
 use Rattle.route_plan.proofs.shares.entries_in_all.Given as goal
 
-abbrev pub invariant-loop-of_memory : goal.invariant-loop-of_memory
-invariant-loop-of_memory l = l.sum ≡ capped (sum_by entries_in (take l.of_memory-index l.shares))
+abbrev pub invariant-loop-of_object : goal.invariant-loop-of_object
+invariant-loop-of_object l = l.sum ≡ capped (sum_by entries_in (take l.of_object-index l.shares))

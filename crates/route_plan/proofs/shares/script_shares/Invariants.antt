@@ -4,6 +4,6 @@ use Rattle.route_plan.specs.Counts.{count_in}
 use Rattle.route_plan.specs.Shares.{share_in}
 use Rattle.route_plan.proofs.shares.script_shares.Given as goal
 
-abbrev pub invariant-loop-memory : goal.invariant-loop-memory
-invariant-loop-memory l =
-    l.shares.items ≡ map (λ (m : ℕ). share_in l.routes l.initiator m (count_in l.routes l.initiator l.script m)) (range_with_len 0 l.memory)
+abbrev pub invariant-loop-place : goal.invariant-loop-place
+invariant-loop-place l =
+    l.shares.items ≡ map (λ (k : ℕ). share_in l.routes l.initiator k (count_in l.routes l.initiator l.script k)) (range_with_len 0 l.place)

@@ -1,7 +1,5 @@
-use Rattle.std.proofs.Common.{subst}
-use Rattle.route_plan.specs.Valid.{IsValid}
 use Rattle.plat_run.proofs.PathLemmas.{none_pass}
 use Rattle.run_tests.proofs.transports.none_passes.Goals as goal
 
 pub returns : goal.returns
-returns g c = λ x. none_pass c.args.net.now (subst IsValid c.plan.ensures.plan c.platform.ensures.valid) x
+returns g c = λ x. none_pass c.args.net.now c.requires x

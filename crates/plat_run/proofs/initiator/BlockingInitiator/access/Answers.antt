@@ -55,7 +55,7 @@ send-sent-requires-clause-passage g c =
     let p = n.frame.world in
     let note = c.unwrap-note.result in
     let job : IsInitiator p old.run note.knows old.wallet = set_out n.table n.tokens n.frame.world p old.run old.payload old.note note old.wallet c.self.invariant (sym c.take-2.ensures.value ∙ c.unwrap-note.ensures) refl in
-    none_pass p job.valid c.next_txn-txn.result
+    none_pass p job.served c.next_txn-txn.result
 
 pub complete-requires-clause-whole : goal.complete-requires-clause-whole
 complete-requires-clause-whole g c =

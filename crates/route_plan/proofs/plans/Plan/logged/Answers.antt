@@ -1,13 +1,13 @@
 use Rattle.std.proofs.Common.{◌≡◌, sym, ◌∙◌, arith}
 use Rattle.route_plan.specs.Planned.{logged_bytes}
-use Rattle.route_plan.proofs.KeptLemmas.{bytes_read, kept_by_parts, memory_within, valid_by_parts}
+use Rattle.route_plan.proofs.KeptLemmas.{bytes_read, kept_by_parts, memory_below, place_within, valid_by_parts}
 use Rattle.route_plan.proofs.TotalLemmas.{bytes_add_up, few_bytes}
 use Rattle.route_plan.proofs.plans.Plan.logged.Goals as goal
 
 pub bounds-as_slice-memory : goal.bounds-as_slice-memory
 bounds-as_slice-memory c =
     let p = c.args.self.now in
-    memory_within p c.self.inside.shares c.as_slice.result.now c.args.memory (kept_by_parts c.self.inside p c.self.view_is c.self.invariant) c.as_slice.ensures c.requires
+    place_within p c.self.inside.shares c.as_slice.result.now c.args.memory (kept_by_parts c.self.inside p c.self.view_is c.self.invariant) c.as_slice.ensures (memory_below p c.args.memory c.requires)
 
 pub returns : goal.returns
 returns c =
