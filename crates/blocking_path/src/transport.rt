@@ -11,10 +11,10 @@ ghost use Rattle.shared_object.specs.Steps.{IsNote};
 ghost use Rattle.token_book.specs.Purse.{IsOf};
 ghost use Rattle.region_object.specs.Call.{payload_cost};
 ghost use Rattle.region_object.specs.declared.call.RegionCall.TheVariants.{Access, Debug};
-ghost use Rattle.plat_build.specs.Calls.{CanPay, HasNoPassage, IsCalled, OneTicketLess, route_at};
+ghost use Rattle.plat_net.specs.Calls.{CanPay, HasNoPassage, IsCalled, OneTicketLess, route_at};
 
 use generic_payload::Payload;
-use plat_build::{Carried, Net, PlatNote, Reach, TlmLaw};
+use plat_net::{Carried, Net, PlatNote, Reach, TlmLaw};
 use region_object::RegionCall;
 use route_plan::{Plan, Route};
 use shared_object::Naming;

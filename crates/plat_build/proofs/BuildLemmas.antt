@@ -12,10 +12,10 @@ use Rattle.tlm_model.specs.Plan.{Plan}
 use Rattle.platform_model.specs.Bounded.{IsBounded}
 use Rattle.plat_build.specs.Kept.{AreFreshFrom, AreFreshBooksFrom}
 use Rattle.cargo_model.specs.Known.{objects_of}
-use Rattle.plat_build.specs.Objects.{frame_of, notes_of}
+use Rattle.plat_net.specs.Objects.{frame_of, notes_of}
 use Rattle.plat_build.specs.Opened.{IsOpened}
 use Rattle.plat_build.proofs.KeptLemmas.{books_from, seats_from}
-use Rattle.plat_build.proofs.ObjectLemmas.{count_planned, few_objects}
+use Rattle.plat_net.proofs.ObjectLemmas.{count_planned, few_objects}
 
 -- what the net of a plan is built of
 pub record MayBuild (table tokens : TableId) (frame : Frame Plan) (p : Plan) (seats : List (Held Content Plan)) (note : Held Content Plan) (books : List Account) : Type 0 where

@@ -12,7 +12,7 @@ use Rattle.tlm_model.specs.declared.platform.Platform.{Platform}
 use Rattle.route_plan.specs.Valid.{hop_count}
 use Rattle.cargo_model.specs.Known.{is_used, objects_of}
 use Rattle.cargo_net.specs.Gates.{gates_at, gates_of, row_gates}
-use Rattle.plat_build.specs.Objects.{pools_of}
+use Rattle.plat_net.specs.Objects.{pools_of}
 
 sum_map : {A : Type 0} (f : A → ℕ) (l : List A) → sum (map f l) ≡ sum_by f l
 sum_map f [] = refl

@@ -31,12 +31,12 @@ use Rattle.cargo_model.specs.Known.{object_number, objects_of}
 use Rattle.cargo_net.specs.Gates.{gates_at, gates_of}
 use Rattle.cargo_net.specs.Traffic.{IsHopBuilt}
 use Rattle.plat_build.specs.Hops.{IsMadeTo, IsNextHop}
-use Rattle.plat_build.specs.Objects.{HasObject, frame_of}
+use Rattle.plat_net.specs.Objects.{HasObject, frame_of}
 use Rattle.plat_build.specs.Supplies.{IsSupply}
 use Rattle.plat_build.specs.declared.supplies.Supply.{Supply}
-use Rattle.plat_build.proofs.Lookups.{short_at}
-use Rattle.plat_build.proofs.NumberLemmas.{hop_number, hop_there}
-use Rattle.plat_build.proofs.ObjectLemmas.{gates_at_object}
+use Rattle.plat_net.proofs.Lookups.{short_at}
+use Rattle.plat_net.proofs.NumberLemmas.{hop_number, hop_there}
+use Rattle.plat_net.proofs.ObjectLemmas.{gates_at_object}
 
 -- an element of a mapped list, in front of another and behind one
 front_at : {X Y : Type 0} (f : X → Y) (xs : List X) (ys : List Y) (n : ℕ) (x : X) (d : Y) → slice_get xs n ≡ Some x → get_or (map f xs ++ ys) n d ≡ f x

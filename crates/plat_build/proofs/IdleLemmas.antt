@@ -13,11 +13,11 @@ use Rattle.tlm_model.specs.Plan.{Plan}
 use Rattle.route_plan.specs.Shape.{IsServed}
 use Rattle.route_plan.specs.Valid.{hop_count}
 use Rattle.route_plan.proofs.TotalLemmas.{none_at_hops, none_at_pools}
-use Rattle.plat_build.specs.Net.{AreHops, ArePools, HasPool, HasPoolOf}
-use Rattle.plat_build.specs.Objects.{frame_of, pools_of, pools_start}
+use Rattle.plat_net.specs.Net.{AreHops, ArePools}
+use Rattle.plat_net.specs.Objects.{frame_of, pools_of, pools_start}
 use Rattle.plat_build.specs.Unused.{AreIdle}
-use Rattle.plat_build.proofs.NumberLemmas.{hop_number, hop_there, pool_at_place, pool_rank}
-use Rattle.plat_build.proofs.ObjectLemmas.{count_of, count_planned, planned_at_object}
+use Rattle.plat_net.proofs.NumberLemmas.{hop_number, hop_there, pool_at_place}
+use Rattle.plat_net.proofs.ObjectLemmas.{count_of, count_planned, planned_at_object}
 use Rattle.plat_build.proofs.PoolLemmas.{pools_long}
 
 -- a list whose items were all written anew
@@ -40,21 +40,6 @@ pool_listed p pools k s are at = ap (λ (l : List ObjectNo). slice_get l k) (sym
     mapped [] k s at = absurd (some-ne-none s (sym at))
     mapped (x ∷ l) zero s at = ap (λ (t : Numbers). Some (Pool t.own)) (some-injective x s at)
     mapped (x ∷ l) (suc k) s at = mapped l k s at
-
--- the pool of an initiator that has one
-pub pool_found : (p q : Plan) (pools read : List Numbers) (i : ℕ) → ArePools p.platform pools → p ≡ q → HasPool q.platform i → read ≡ pools → HasPoolOf read i
-pool_found p q pools read i are same has is =
-    let here : HasPool p.platform i = subst (λ (x : Plan). HasPool x.platform i) (sym same) has in
-    let k : ℕ = length (pools_of p.platform i) in
-    subst (λ (l : List Numbers). HasPoolOf l i) (sym is) (unmapped pools k (ap (λ (l : List ObjectNo). slice_get l k) are.objects ∙ pool_rank p.platform i here.0 here.1))
-  where
-    same_own : (a b : ℕ) → Some (Pool a) ≡ Some (Pool b) → a ≡ b
-    same_own a b q = cc
-
-    unmapped : (l : List Numbers) (k : ℕ) → slice_get (map (λ (t : Numbers). Pool t.own) l) k ≡ Some (Pool i) → HasPoolOf l i
-    unmapped [] k at = cc
-    unmapped (x ∷ l) zero at = (x, (0, refl), same_own x.own i at)
-    unmapped (x ∷ l) (suc k) at = let r = unmapped l k at in (r.0, (suc r.1.0, r.1.1), r.2)
 
 pub pools_idle : (frame : Frame Plan) (pools : List Numbers) → frame ≡ frame_of frame.world → IsServed frame.world.platform → ArePools frame.world.platform pools → AreIdle frame pools
 pools_idle frame pools is served are k s at =

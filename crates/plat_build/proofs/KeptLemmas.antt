@@ -16,7 +16,7 @@ use Rattle.token_book.specs.Account.{Account, fresh as fresh_book, AreFresh as A
 use Rattle.tlm_types.specs.declared.entry.Content.{Content}
 use Rattle.tlm_model.specs.Plan.{Plan}
 use Rattle.plat_build.specs.Kept.{AreFreshFrom, AreFreshBooksFrom}
-use Rattle.plat_build.proofs.Lookups.{at_read, map-push}
+use Rattle.plat_net.proofs.Lookups.{at_read, map-push}
 
 module _ {A : Type 0} where
   -- the rest of a list has what comes after its first item

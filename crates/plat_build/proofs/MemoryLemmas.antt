@@ -13,9 +13,9 @@ use Rattle.region_object.specs.Region.{LoggedMemory}
 use Rattle.region_object.specs.Written.{built_of}
 use Rattle.cargo_net.specs.Traffic.{IsMemoryBuilt}
 use Rattle.cargo_net.specs.Gates.{gates_at, gates_of, row_gates}
-use Rattle.plat_build.specs.Objects.{frame_of}
-use Rattle.plat_build.proofs.Lookups.{some_below}
-use Rattle.plat_build.proofs.ObjectLemmas.{gates_at_memory}
+use Rattle.plat_net.specs.Objects.{frame_of}
+use Rattle.plat_net.proofs.Lookups.{some_below}
+use Rattle.plat_net.proofs.ObjectLemmas.{gates_at_memory}
 
 -- a memory with an empty log
 abbrev pub blank_memory : ℕ → MemoryTraits → ℕ → ℕ → ℕ → LoggedMemory

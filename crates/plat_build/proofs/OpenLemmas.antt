@@ -13,9 +13,9 @@ use Rattle.route_plan.specs.Planned.{planned_at}
 use Rattle.route_plan.specs.Valid.{checked_plan, hop_count}
 use Rattle.cargo_model.specs.Known.{objects_of}
 use Rattle.cargo_net.specs.Gates.{gates_at, gates_of}
-use Rattle.plat_build.specs.Objects.{frame_of, notes_of, planned_of, pools_of}
+use Rattle.plat_net.specs.Objects.{frame_of, notes_of, planned_of, pools_of}
 use Rattle.plat_build.proofs.GateLemmas.{few_gates}
-use Rattle.plat_build.proofs.ObjectLemmas.{count_gates, count_planned, few_planned, more_objects}
+use Rattle.plat_net.proofs.ObjectLemmas.{count_gates, count_planned, few_planned, more_objects}
 
 -- the objects, pushed one kind after the other
 pub objects_pushed : (p : Platform) (none memories hops all : List ObjectNo) → none ≡ [] → memories ≡ none ++ map Memory (range_with_len 0 (length p.memories)) → hops ≡ memories ++ map Hop (range_with_len 0 (hop_count p)) → all ≡ hops ++ pools_of p (length p.initiators) → all ≡ objects_of p

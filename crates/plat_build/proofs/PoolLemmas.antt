@@ -20,11 +20,11 @@ use Rattle.payload_pool.specs.Pool.{PoolView}
 use Rattle.payload_pool.specs.Slots.{fresh_slot}
 use Rattle.cargo_model.specs.Known.{has_pool, is_used, object_number}
 use Rattle.cargo_net.specs.Traffic.{IsPoolBuilt}
-use Rattle.plat_build.specs.Net.{ArePoolsTo, pool_numbers}
-use Rattle.plat_build.specs.Objects.{HasObject, frame_of, pools_of, pools_start}
+use Rattle.plat_net.specs.Net.{ArePoolsTo, pool_numbers}
+use Rattle.plat_net.specs.Objects.{HasObject, frame_of, pools_of, pools_start}
 use Rattle.plat_build.specs.Supplies.{IsSupply}
 use Rattle.plat_build.specs.declared.supplies.Supply.{Supply}
-use Rattle.plat_build.proofs.ObjectLemmas.{gates_at_object, pools_more}
+use Rattle.plat_net.proofs.ObjectLemmas.{gates_at_object, pools_more}
 
 -- a new pool
 abbrev pub blank_pool : ℕ → ℕ → ℕ → Account → PoolView

@@ -15,14 +15,14 @@ use Rattle.tlm_model.specs.Plan.{Plan}
 use Rattle.shared_object.specs.Standing.{IsBook}
 use Rattle.route_plan.specs.Planned.{planned_at}
 use Rattle.plat_build.specs.Kept.{AreFreshFrom, AreFreshBooksFrom}
-use Rattle.plat_build.specs.Objects.{HasObject, frame_of}
+use Rattle.plat_net.specs.Objects.{HasObject, frame_of}
 use Rattle.plat_build.specs.Supplies.{AreSupplies, IsSupply, logged_by_all}
 use Rattle.plat_build.specs.Tickets.{AreStocked}
 use Rattle.plat_build.specs.Unused.{added_by_all}
 use Rattle.plat_build.specs.declared.supplies.Supply.{Supply}
 use Rattle.plat_build.proofs.KeptLemmas.{books_rest, fewer_rest, seats_rest}
-use Rattle.plat_build.proofs.ObjectLemmas.{count_planned, planned_at_object}
-use Rattle.plat_build.proofs.Lookups.{short_at}
+use Rattle.plat_net.proofs.ObjectLemmas.{count_planned, planned_at_object}
+use Rattle.plat_net.proofs.Lookups.{short_at}
 use Rattle.cargo_model.specs.Known.{objects_of}
 
 take_at : {A : Type 0} (xs : List A) (n k : ℕ) (x : A) → slice_get (take n xs) k ≡ Some x → slice_get xs k ≡ Some x

@@ -28,12 +28,12 @@ use Rattle.route_plan.specs.Counted.{share_at}
 use Rattle.route_plan.specs.Valid.{hop_count}
 use Rattle.route_plan.proofs.TotalLemmas.{shares_add_up}
 use Rattle.cargo_model.specs.Known.{object_number}
-use Rattle.plat_build.specs.Net.{AreHops, AreMemories, ArePools}
-use Rattle.plat_build.specs.Objects.{HasObject, frame_of, pools_start}
+use Rattle.plat_net.specs.Net.{AreHops, AreMemories, ArePools}
+use Rattle.plat_net.specs.Objects.{HasObject, frame_of, pools_start}
 use Rattle.plat_build.specs.Unused.{AddUp, AreNumberedFrom, AreUnused, HasTicketsFrom, HaveTicketsFrom, IsThere, IsUnused}
 use Rattle.plat_build.proofs.IdleLemmas.{pool_listed}
-use Rattle.plat_build.proofs.NumberLemmas.{hop_number, hop_there, memory_there, pool_at_place}
-use Rattle.plat_build.proofs.ObjectLemmas.{planned_at_object}
+use Rattle.plat_net.proofs.NumberLemmas.{hop_number, hop_there, memory_there, pool_at_place}
+use Rattle.plat_net.proofs.ObjectLemmas.{planned_at_object}
 
 -- the tickets that the plan counts are all that is planned
 pub add_up : (p : Plan) (f : Frame Plan) → f ≡ frame_of p → length p.scripts ≡ length p.platform.initiators → AddUp f

@@ -17,10 +17,10 @@ use Rattle.tlm_types.specs.declared.words.ObjectNo.{ObjectNo}
 use Rattle.tlm_model.specs.Plan.{Plan}
 use Rattle.route_plan.specs.Counted.{share_at}
 use Rattle.cargo_model.specs.Known.{objects_of}
-use Rattle.plat_build.specs.Objects.{HasObject, bytes_at}
+use Rattle.plat_net.specs.Objects.{HasObject, bytes_at}
 use Rattle.plat_build.specs.Tickets.{AreStocked, AreStockedTo, GotRights, IsStocked}
-use Rattle.plat_build.proofs.Lookups.{at_index, at_read}
-use Rattle.plat_build.proofs.ObjectLemmas.{sum_by-map}
+use Rattle.plat_net.proofs.Lookups.{at_index, at_read}
+use Rattle.plat_net.proofs.ObjectLemmas.{sum_by-map}
 
 in_range : (n k : ℕ) → k < n → Has (range_with_len 0 n) k
 in_range n k below = (k, at_read (range_with_len 0 n) k k (omega (arith, length-range_with_len 0 n)) (sym (get_or-range_with_len 0 n k k below ∙ zero-add k)))

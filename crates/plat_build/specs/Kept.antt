@@ -1,5 +1,5 @@
 -- What is seen of what waits to be handed out, and what is handed out.
-use Rattle.std.specs.Prelude.{ℕ, ◌≡◌, ◌+◌, Bool, true, List, [], length, replicate, Option, Some, IsSomeAnd, slice_get}
+use Rattle.std.specs.Prelude.{ℕ, ◌≡◌, ◌+◌, ◌<◌, Bool, true, List, [], length, replicate, Option, Some, IsSomeAnd, slice_get}
 use mathlib.Core.Option.{some}
 use lib.ListN.{get_elem?}
 use Rattle.atomic_table.specs.Seated.{TableId}
@@ -8,7 +8,7 @@ use Rattle.one_history.specs.Held.{Held}
 use Rattle.one_history.specs.Moves.{fresh}
 use Rattle.shared_object.specs.Steps.{IsNote}
 use Rattle.token_book.specs.Account.{Account, fresh as fresh_book}
-use Rattle.token_book.specs.Purse.{Purse, IsOf, left_of, bytes_of}
+use Rattle.token_book.specs.Purse.{Purse, HasPlace, IsOf, left_of, bytes_of}
 use Rattle.tlm_types.specs.declared.entry.Content.{Content}
 use Rattle.tlm_types.specs.declared.words.ObjectNo.{ObjectNo}
 use Rattle.tlm_model.specs.declared.operation.Operation.{Operation}
@@ -19,7 +19,7 @@ use Rattle.script_engine.specs.State.{begun_engine}
 use Rattle.route_plan.specs.Counted.{share_at}
 use Rattle.plat_build.specs.declared.kept.Start.{Start}
 use Rattle.cargo_model.specs.Known.{objects_of}
-use Rattle.plat_build.specs.Objects.{HasObject, bytes_at}
+use Rattle.plat_net.specs.Objects.{HasObject, bytes_at}
 
 -- for each initiator, each router and each memory, whether what it gets still waits
 pub record Waiting : Type 0 where
@@ -38,12 +38,13 @@ pub record IsBlank (table : TableId) (note : Held Content Plan) : Type 0 where
   pub known : note.knows.known ≡ []
   pub looks : note.knows.looks ≡ []
 
--- the wallet of an initiator: a place for each object, as many tickets of it as the plan counts for this initiator, and as many bytes
+-- the wallet of an initiator: a place for each object and for no other, as many tickets of it as the plan counts for this initiator, and as many bytes
 pub record HasShares (tokens : TableId) (p : Plan) (initiator : ℕ) (w : Purse) : Type 0 where
   pub of : IsOf tokens w
   pub places : w.places ≡ length (objects_of p.platform)
   pub left : (k : ℕ) (o : ObjectNo) → HasObject p.platform k o → left_of w k ≡ share_at p initiator o
   pub bytes : (k : ℕ) (o : ObjectNo) → HasObject p.platform k o → bytes_of w k ≡ bytes_at p initiator o
+  pub few : (o : ℕ) → HasPlace w o → o < length (objects_of p.platform)
 
 -- what an initiator starts with: its whole script, a new payload, a note that has seen nothing, and its tickets
 pub record IsStart (table tokens : TableId) (p : Plan) (initiator : ℕ) (s : Start) : Type 0 where

@@ -1,9 +1,6 @@
-pub mod Objects
 pub mod Opened
 pub mod Kept
 pub mod Tickets
 pub mod Unused
 pub mod Supplies
-pub mod Net
 pub mod Hops
-pub mod Calls

@@ -8,7 +8,7 @@ use Rattle.one_history.specs.Seats.{AreFresh}
 use Rattle.token_book.specs.Account.{Account, AreFresh as AreFreshBooks}
 use Rattle.tlm_types.specs.declared.entry.Content.{Content}
 use Rattle.tlm_model.specs.Plan.{Plan}
-use Rattle.plat_build.specs.Objects.{frame_of}
+use Rattle.plat_net.specs.Objects.{frame_of}
 
 -- the table of the history, with what it was made with, and the table of the tokens
 pub record OpenedView : Type 0 where

@@ -11,7 +11,7 @@ use Rattle.tlm_types.specs.declared.entry.Content.{Content}
 use Rattle.tlm_types.specs.declared.words.ObjectNo.{ObjectNo}
 use Rattle.tlm_model.specs.Plan.{Plan}
 use Rattle.plat_build.specs.Kept.{AreFreshFrom, AreFreshBooksFrom}
-use Rattle.plat_build.specs.Objects.{bytes_at}
+use Rattle.plat_net.specs.Objects.{bytes_at}
 use Rattle.plat_build.specs.Tickets.{AreStocked}
 use Rattle.plat_build.specs.Unused.{added_by_all}
 use Rattle.plat_build.specs.declared.supplies.Supply.{Supply}

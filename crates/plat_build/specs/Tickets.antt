@@ -9,7 +9,7 @@ use Rattle.tlm_types.specs.declared.words.ObjectNo.{ObjectNo}
 use Rattle.tlm_model.specs.Plan.{Plan}
 use Rattle.route_plan.specs.Counted.{share_at}
 use Rattle.cargo_model.specs.Known.{objects_of}
-use Rattle.plat_build.specs.Objects.{HasObject, bytes_at}
+use Rattle.plat_net.specs.Objects.{HasObject, bytes_at}
 
 -- the wallet of initiator i, which has the tickets of the first n objects: as many as the plan counts for it there, for as many bytes; it has a place for each object
 pub record IsStocked (tokens : TableId) (p : Plan) (n i : ℕ) (w : Purse) : Type 0 where

@@ -14,7 +14,7 @@ use Rattle.tlm_model.specs.declared.platform.Platform.{Platform}
 use Rattle.tlm_model.specs.Plan.{Plan}
 use Rattle.shared_object.specs.Standing.{Numbers}
 use Rattle.route_plan.specs.Counted.{share_at}
-use Rattle.plat_build.specs.Objects.{HasObject}
+use Rattle.plat_net.specs.Objects.{HasObject}
 
 -- the wallet of initiator i: of each object from number n on it has as many tickets as the plan counts for this initiator
 pub record HasTicketsFrom (tokens : TableId) (p : Plan) (n i : ℕ) (w : Purse) : Type 0 where

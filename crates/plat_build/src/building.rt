@@ -4,9 +4,8 @@ ghost use Rattle.plat_build.specs.Kept.{all_waiting, IsBlank};
 
 use crate::hops::make_hops;
 use crate::kept::Kept;
-use crate::law::{PlatHistory, PlatNote, TlmLaw};
+use plat_net::{Net, PlatHistory, PlatNote, TlmLaw};
 use crate::memories::make_memories;
-use crate::net::Net;
 use crate::objects::notes_of;
 use crate::opened::Opened;
 use crate::pools::make_pools;

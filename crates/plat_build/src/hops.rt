@@ -5,11 +5,11 @@ ghost use Rattle.tlm_model.specs.Route.{window_hop};
 ghost use Rattle.platform_model.specs.Bounded.{is_there};
 ghost use Rattle.route_plan.specs.Valid.{hop_count};
 ghost use Rattle.plat_build.specs.Hops.{IsMadeTo, IsNextHop};
-ghost use Rattle.plat_build.specs.Net.{AreHops, AreHopsTo, hop_numbers};
-ghost use Rattle.plat_build.specs.Objects.{frame_of};
+ghost use Rattle.plat_net.specs.Net.{AreHops, AreHopsTo, hop_numbers};
+ghost use Rattle.plat_net.specs.Objects.{frame_of};
 ghost use Rattle.plat_build.specs.Supplies.{IsSupply};
 
-use crate::law::{SharedHop, TlmLaw};
+use plat_net::{SharedHop, TlmLaw};
 use crate::supplies::{Supplies, Supply};
 use hop_object::{Hop, HopTraits};
 use route_plan::Plan;

@@ -1,11 +1,11 @@
 // The seats of objects at which nothing is planned.
 ghost use Rattle.std.specs.Prelude.{◌≡◌, ◌+◌, length, slice_index_or, IfOk, OnOk};
 ghost use Rattle.route_plan.specs.Shape.{IsServed};
-ghost use Rattle.plat_build.specs.Net.{AreHops, ArePools};
-ghost use Rattle.plat_build.specs.Objects.{frame_of};
+ghost use Rattle.plat_net.specs.Net.{AreHops, ArePools};
+ghost use Rattle.plat_net.specs.Objects.{frame_of};
 ghost use Rattle.plat_build.specs.Unused.{AreIdle, AreNumberedFrom, AreUnusedFrom, IsUnused};
 
-use crate::law::{PlatSeat, SharedHop, SharedPool, TlmLaw};
+use plat_net::{PlatSeat, SharedHop, SharedPool, TlmLaw};
 use route_plan::Plan;
 use shared_object::{Naming, Object, Shared, World};
 use std::alloc::{AllocError, Global};

@@ -2,11 +2,11 @@
 ghost use Rattle.std.specs.Prelude.{◌≡◌, ◌+◌, ◌<◌, ◌≤◌, true, false, All, IsSome, length, map, replicate, slice_get, slice_set, is_some, IfOk, OnOk};
 ghost use Rattle.cargo_model.specs.Known.{objects_of};
 ghost use Rattle.plat_build.specs.Kept.{all_waiting, AreBlank, AreStarts, IsBlank, IsStart};
-ghost use Rattle.plat_build.specs.Objects.{notes_of};
+ghost use Rattle.plat_net.specs.Objects.{notes_of};
 ghost use Rattle.plat_build.specs.Tickets.{AreStocked, IsStocked};
 ghost use Rattle.plat_build.specs.Unused.{HaveTicketsFrom};
 
-use crate::law::{PlatNote, TlmLaw};
+use plat_net::{PlatNote, TlmLaw};
 use generic_payload::Payload;
 use route_plan::Plan;
 use script_engine::Engine;

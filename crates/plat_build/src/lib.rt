@@ -4,42 +4,30 @@
 //!   hops and the pools of four-phase initiators, numbered in this order.
 //! - `build` makes a `Net` of it, which threads share: the plan, the history, the tokens, and each object
 //!   with its log. What it makes for the initiators, routers and memories waits in `Kept`.
-//! - `TlmLaw` is the law of the history: it says which earlier entries back an entry of four-phase traffic,
-//!   and backs every other entry.
-//! - `Net::call_memory` makes a call at a memory, and `Net::debug` a debug read along its route. A `Reach`
-//!   is a way to the memories: of a thread that shares the net, or of the only one who has it.
 //! - `close_unused` ends the history of a net of which nothing was handed out, and `idle_seats` gives the
 //!   seats of the hops and pools at which nothing is planned.
 //!
 //! Promises: the history is made with what the plan counts, in the world that is the plan; each memory, hop
 //! and pool is built as its rows say, and has room for all that is planned. Each initiator gets a wallet with
-//! the tickets of each object that the plan counts for it, which are all that are out. So the history of a new net is empty:
-//! `close_unused` says it of the history's end. A call adds one entry, by the definitions, and takes one
-//! ticket. `build` and `close_unused` are refused for want of memory alone, and no call of a net takes memory.
+//! the tickets of each object that the plan counts for it, which are all that are out. So the history of a new
+//! net is empty: `close_unused` says it of the history's end. `build` and `close_unused` are refused for want of
+//! memory alone.
 #![tactic(auto)]
 
 mod building;
-mod calls;
 mod hops;
 mod idle;
 mod kept;
-mod law;
 mod memories;
-mod net;
 mod objects;
 mod opened;
 mod pools;
-mod reach;
 mod supplies;
 mod unused;
 mod wallets;
 
 pub use building::{Built, build};
-pub use calls::Carried;
 pub use idle::idle_seats;
 pub use kept::{Kept, Start};
-pub use law::{PlatHistory, PlatNote, PlatSeat, SharedHop, SharedMemory, SharedPool, TlmLaw};
-pub use net::{Net, NetParts};
 pub use opened::Opened;
-pub use reach::Reach;
 pub use unused::close_unused;

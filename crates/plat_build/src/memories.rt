@@ -3,11 +3,11 @@ ghost use Rattle.std.specs.Prelude.{◌≡◌, ◌+◌, ◌≤◌, slice_get, le
 ghost use Rattle.tlm_types.specs.declared.words.ObjectNo.TheVariants.{Memory as MemoryObject};
 ghost use Rattle.tlm_model.specs.declared.platform.MemoryRow.{MemoryRow};
 ghost use Rattle.cargo_net.specs.Gates.{gates_of};
-ghost use Rattle.plat_build.specs.Net.{AreMemories, memory_numbers};
-ghost use Rattle.plat_build.specs.Objects.{frame_of};
+ghost use Rattle.plat_net.specs.Net.{AreMemories, memory_numbers};
+ghost use Rattle.plat_net.specs.Objects.{frame_of};
 ghost use Rattle.plat_build.specs.Supplies.{IsSupply};
 
-use crate::law::{SharedMemory, TlmLaw};
+use plat_net::{SharedMemory, TlmLaw};
 use crate::supplies::{Supplies, Supply};
 use region_object::Region;
 use route_plan::Plan;

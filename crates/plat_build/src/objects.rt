@@ -6,7 +6,7 @@ ghost use Rattle.route_plan.specs.Planned.{planned_at};
 ghost use Rattle.route_plan.specs.Valid.{hop_count, IsObject};
 ghost use Rattle.cargo_model.specs.Known.{has_pool, objects_of};
 ghost use Rattle.cargo_net.specs.Gates.{gates_at};
-ghost use Rattle.plat_build.specs.Objects.{notes_of, pools_of};
+ghost use Rattle.plat_net.specs.Objects.{notes_of, pools_of};
 
 use route_plan::Plan;
 use std::alloc::{AllocError, Global};

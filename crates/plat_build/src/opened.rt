@@ -1,8 +1,8 @@
 // The history of a plan and its tokens, before its net is built.
 ghost use Rattle.std.specs.Prelude.{◌≡◌, IfOk};
-ghost use Rattle.plat_build.specs.Objects.{frame_of};
+ghost use Rattle.plat_net.specs.Objects.{frame_of};
 
-use crate::law::{PlatHistory, PlatNote, PlatSeat};
+use plat_net::{PlatHistory, PlatNote, PlatSeat};
 use crate::objects::{gates_of, notes_of, objects_of, planned_of};
 use route_plan::Plan;
 use std::alloc::Global;

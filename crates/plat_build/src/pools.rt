@@ -3,11 +3,11 @@ ghost use Rattle.std.specs.Prelude.{◌≡◌, ◌+◌, ◌≤◌, length, slice
 ghost use Rattle.tlm_types.specs.declared.words.ObjectNo.TheVariants.{Pool as PoolObject};
 ghost use Rattle.tlm_model.specs.declared.platform.InitiatorRow.{InitiatorRow as Row};
 ghost use Rattle.cargo_model.specs.Known.{has_pool, object_number};
-ghost use Rattle.plat_build.specs.Net.{ArePools, ArePoolsTo, pool_numbers};
-ghost use Rattle.plat_build.specs.Objects.{frame_of, HasObject, pools_start};
+ghost use Rattle.plat_net.specs.Net.{ArePools, ArePoolsTo, pool_numbers};
+ghost use Rattle.plat_net.specs.Objects.{frame_of, HasObject, pools_start};
 ghost use Rattle.plat_build.specs.Supplies.{IsSupply};
 
-use crate::law::{SharedPool, TlmLaw};
+use plat_net::{SharedPool, TlmLaw};
 use crate::objects::has_pool;
 use crate::supplies::{Supplies, Supply};
 use payload_pool::Pool;

@@ -1,11 +1,11 @@
 // What the objects of a net are made with, one after the other.
 ghost use Rattle.std.specs.Prelude.{◌≡◌, ◌+◌, ◌*◌, ◌<◌, ◌≤◌, length, IfOk};
 ghost use Rattle.plat_build.specs.Kept.{AreFreshFrom, AreFreshBooksFrom};
-ghost use Rattle.plat_build.specs.Objects.{HasObject};
+ghost use Rattle.plat_net.specs.Objects.{HasObject};
 ghost use Rattle.plat_build.specs.Supplies.{IsSupply};
 ghost use Rattle.plat_build.specs.Tickets.{AreStocked};
 
-use crate::law::{PlatSeat, TlmLaw};
+use plat_net::{PlatSeat, TlmLaw};
 use crate::wallets::issue_all;
 use route_plan::Plan;
 use shared_object::Naming;

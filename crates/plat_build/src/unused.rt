@@ -4,12 +4,11 @@ ghost use Rattle.tlm_types.specs.declared.words.ObjectNo.{ObjectNo as Object};
 ghost use Rattle.token_book.specs.Account.{out_of};
 ghost use Rattle.token_book.specs.Purse.{IsOf, left_of};
 ghost use Rattle.plat_build.specs.Kept.{all_waiting};
-ghost use Rattle.plat_build.specs.Objects.{frame_of, HasObject};
+ghost use Rattle.plat_net.specs.Objects.{frame_of, HasObject};
 ghost use Rattle.plat_build.specs.Unused.{added_by_all, AddUp, AreNumberedFrom, AreUnused, HaveTicketsFrom, IsThere, IsUnused};
 
 use crate::building::Built;
-use crate::law::{PlatSeat, TlmLaw};
-use crate::net::NetParts;
+use plat_net::{NetParts, PlatSeat, TlmLaw};
 use one_history::{Closed, Sealed};
 use route_plan::Plan;
 use shared_object::{Naming, Object, Shared, World};

@@ -5,7 +5,7 @@ ghost use Rattle.token_book.specs.Account.{fresh, out_of};
 ghost use Rattle.token_book.specs.Purse.{HasPlace, IsOf};
 ghost use Rattle.route_plan.specs.Valid.{IsObject};
 ghost use Rattle.cargo_model.specs.Known.{objects_of};
-ghost use Rattle.plat_build.specs.Objects.{bytes_at, HasObject};
+ghost use Rattle.plat_net.specs.Objects.{bytes_at, HasObject};
 ghost use Rattle.plat_build.specs.Tickets.{AreStocked, GotRights, IsOut};
 ghost use Rattle.plat_build.specs.Unused.{added_by_all};
 

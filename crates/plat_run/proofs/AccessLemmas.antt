@@ -20,7 +20,7 @@ use Rattle.initiator_run.specs.Access.{call_at, next_call}
 use Rattle.initiator_run.specs.Moves.{HasReached}
 use Rattle.initiator_run.specs.Run.{Run, accessed}
 use Rattle.initiator_run.proofs.RunLemmas.{accessed_initiator}
-use Rattle.plat_build.specs.Calls.{IsCalled, OneTicketLess}
+use Rattle.plat_net.specs.Calls.{IsCalled, OneTicketLess}
 use Rattle.plat_run.specs.Job.{IsAtRest, IsInitiator}
 use Rattle.plat_run.proofs.JobLemmas.{HasSent, access_made, whole}
 use Rattle.plat_run.proofs.MoveLemmas.{one_value}

@@ -40,7 +40,7 @@ use Rattle.initiator_run.proofs.EndLemmas.{HasCome-begun}
 use Rattle.run_outcome.proofs.ListLemmas.{has_element}
 use Rattle.plat_build.specs.declared.kept.Start.{Start}
 use Rattle.plat_build.specs.Kept.{HasShares, IsStart, Waiting}
-use Rattle.plat_build.proofs.NumberLemmas.{memory_there}
+use Rattle.plat_net.proofs.NumberLemmas.{memory_there}
 use Rattle.plat_run.specs.Job.{HasTickets, IsInitiator, IsJob}
 
 -- a proper script invalidates nothing

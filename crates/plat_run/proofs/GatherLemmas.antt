@@ -23,7 +23,7 @@ use Rattle.region_object.specs.Written.{built_of, written_from}
 use Rattle.initiator_run.specs.Run.{Run, end_at}
 use Rattle.run_outcome.proofs.ListLemmas.{at_push, within}
 use Rattle.cargo_net.specs.Traffic.{IsMemoryBuilt}
-use Rattle.plat_build.specs.Net.{memory_numbers}
+use Rattle.plat_net.specs.Net.{memory_numbers}
 use Rattle.plat_run.specs.Run.{AreDoneWith, AreFinished, HandsIn, IsDoneWith, IsFinished}
 
 -- what stands at a place is read there

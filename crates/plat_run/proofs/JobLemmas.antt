@@ -40,7 +40,7 @@ use Rattle.initiator_run.proofs.EntryLemmas.{entries_at-push, HasCome-turn, goes
 use Rattle.initiator_run.proofs.LeftLemmas.{bytes_after, cost_at, leads_elsewhere, leads_there, left_after}
 use Rattle.initiator_run.proofs.RunLemmas.{accessed_finished, accessed_initiator, accessed_step}
 use Rattle.initiator_run.proofs.SendLemmas.{bytes_come_back, entry_is_made, whole_comes_back}
-use Rattle.plat_build.specs.Calls.{IsCalled, OneTicketLess}
+use Rattle.plat_net.specs.Calls.{IsCalled, OneTicketLess}
 use Rattle.plat_run.specs.Entries.{entries_read, entry_read}
 use Rattle.plat_run.specs.Job.{HasMade, HasTickets, IsInitiator, owner_of, position_of}
 use Rattle.plat_run.proofs.PathLemmas.{route_of_next}

@@ -30,7 +30,7 @@ use Rattle.run_outcome.proofs.PlanLemmas.{no_fourphase}
 use Rattle.initiator_run.proofs.RouteLemmas.{walk_memory, routed, unrouted}
 use Rattle.initiator_run.proofs.LeftLemmas.{bytes_after, cost_at, leads_there, left_after}
 use Rattle.initiator_run.proofs.SendLemmas.{payload_fits}
-use Rattle.plat_build.specs.Calls.{CanPay, HasNoPassage, route_at}
+use Rattle.plat_net.specs.Calls.{CanPay, HasNoPassage, route_at}
 use Rattle.plat_run.specs.Job.{IsInitiator}
 use Rattle.plat_run.specs.Sent.{IsSentBy}
 

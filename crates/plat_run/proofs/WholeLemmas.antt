@@ -42,9 +42,9 @@ use Rattle.run_outcome.proofs.PlanLemmas.{blocking_apart, blocking_at, no_direct
 use Rattle.initiator_run.proofs.EntryLemmas.{some_row, bytes_are}
 use Rattle.route_plan.proofs.ShareLemmas.{count_initiators}
 use Rattle.run_outcome.proofs.ListLemmas.{at_map, has_element, within}
-use Rattle.plat_build.specs.Objects.{frame_of}
+use Rattle.plat_net.specs.Objects.{frame_of}
 use Rattle.plat_build.specs.Unused.{AreUnusedFrom}
-use Rattle.plat_build.proofs.ObjectLemmas.{planned_at_memory}
+use Rattle.plat_net.proofs.ObjectLemmas.{planned_at_memory}
 use Rattle.plat_run.specs.End.{HasEnded, HasLeft, HaveEnded}
 use Rattle.plat_run.specs.Entries.{entries_read, entry_read}
 use Rattle.plat_run.specs.Job.{position_of}

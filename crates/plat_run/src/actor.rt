@@ -9,7 +9,7 @@ use crate::initiator::BlockingInitiator;
 use crate::turn::Turn;
 use initiator_run::InitiatorRun;
 use outside::Pace;
-use plat_build::{PlatNote, Reach, TlmLaw};
+use plat_net::{PlatNote, Reach, TlmLaw};
 use route_plan::Plan;
 use run_queue::Job;
 use shared_object::Naming;

@@ -3,12 +3,12 @@ ghost use Rattle.std.specs.Prelude.{◌≡◌, true, All, length, IfOk};
 ghost use Rattle.tlm_types.specs.declared.words.ObjectNo.TheVariants.{Memory as MemoryObject};
 ghost use Rattle.tlm_model.specs.Log.{IsLog, log_bytes};
 ghost use Rattle.run_queue.specs.Queue.{AreNumbered};
-ghost use Rattle.plat_build.specs.Net.{AreMemories};
+ghost use Rattle.plat_net.specs.Net.{AreMemories};
 ghost use Rattle.plat_run.specs.Actors.{is_done, number_of};
 ghost use Rattle.plat_run.specs.Run.{AreDoneWith, AreFinished};
 
 use crate::actor::Actor;
-use plat_build::{PlatNote, PlatSeat, SharedMemory, TlmLaw};
+use plat_net::{PlatNote, PlatSeat, SharedMemory, TlmLaw};
 use region_object::Region;
 use route_plan::Plan;
 use shared_object::Naming;

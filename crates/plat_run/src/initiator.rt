@@ -11,7 +11,7 @@ use crate::turn::Turn;
 use generic_payload::Payload;
 use initiator_run::{InitiatorRun, Move, NextAccess};
 use outside::Pace;
-use plat_build::{Carried, PlatNote, Reach, TlmLaw};
+use plat_net::{Carried, PlatNote, Reach, TlmLaw};
 use route_plan::Plan;
 use run_queue::Job;
 use shared_object::Naming;

@@ -2,7 +2,7 @@
 ghost use Rattle.std.specs.Prelude.{◌≡◌, ◌+◌, true, length, All, IfOk};
 ghost use Rattle.run_queue.specs.Queue.{AreNumbered};
 ghost use Rattle.plat_build.specs.Kept.{all_waiting};
-ghost use Rattle.plat_build.specs.Objects.{frame_of};
+ghost use Rattle.plat_net.specs.Objects.{frame_of};
 ghost use Rattle.plat_build.specs.Unused.{AreUnusedFrom};
 ghost use Rattle.route_plan.specs.Shape.{IsServed};
 ghost use Rattle.route_plan.specs.Valid.{IsValid};
@@ -17,9 +17,8 @@ use crate::ending::{DoneWith, HandedIn, hand_in, take_apart};
 use crate::workers::{work_all, work_alone};
 use one_history::{Closed, Sealed};
 use outside::Pace;
-use plat_build::{
-    Built, Net, NetParts, Opened, PlatHistory, PlatNote, PlatSeat, TlmLaw, build, idle_seats,
-};
+use plat_build::{Built, Opened, build, idle_seats};
+use plat_net::{Net, NetParts, PlatHistory, PlatNote, PlatSeat, TlmLaw};
 use route_plan::Plan;
 use run_outcome::{MergedLog, Outcome};
 use run_queue::RunQueue;

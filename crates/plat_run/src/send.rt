@@ -3,14 +3,14 @@ ghost use Rattle.std.specs.Prelude.{◌≡◌, ◌+◌, ◌<◌, length, Some};
 ghost use Rattle.shared_object.specs.Steps.{IsNote};
 ghost use Rattle.token_book.specs.Purse.{IsOf};
 ghost use Rattle.region_object.specs.Call.{payload_cost};
-ghost use Rattle.plat_build.specs.Calls.{CanPay, HasNoPassage, IsCalled, OneTicketLess, route_at};
+ghost use Rattle.plat_net.specs.Calls.{CanPay, HasNoPassage, IsCalled, OneTicketLess, route_at};
 ghost use Rattle.initiator_run.specs.Access.{call_at};
 ghost use Rattle.plat_run.specs.Sent.{IsSentBy};
 
 use blocking_path::{b_transport_along, transport_dbg};
 use generic_payload::Payload;
 use initiator_run::NextAccess;
-use plat_build::{Carried, PlatNote, Reach, TlmLaw};
+use plat_net::{Carried, PlatNote, Reach, TlmLaw};
 use route_plan::Plan;
 use script_engine::TransferKind;
 use shared_object::Naming;

@@ -5,7 +5,7 @@ ghost use Rattle.plat_run.specs.Actors.{is_done, number_of};
 use crate::actor::Actor;
 use crate::turn::Turn;
 use outside::Pace;
-use plat_build::{Net, Reach, TlmLaw};
+use plat_net::{Net, Reach, TlmLaw};
 use route_plan::Plan;
 use run_queue::{Job, RunQueue, Taken};
 use shared_object::Naming;

@@ -1,10 +1,11 @@
 // Nets that were just built.
 ghost use Rattle.std.specs.Prelude.{◌≡◌};
-ghost use Rattle.plat_build.specs.Objects.{frame_of};
 ghost use Rattle.route_plan.specs.Shape.{IsServed};
+ghost use Rattle.plat_net.specs.Objects.{frame_of};
 
 use crate::bench::plan_of;
-use plat_build::{Built, Opened, Start, TlmLaw, build, close_unused};
+use plat_build::{Built, Opened, Start, build, close_unused};
+use plat_net::TlmLaw;
 use route_plan::Plan;
 use shared_object::Naming;
 use std::alloc::Global;

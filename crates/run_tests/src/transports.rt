@@ -5,14 +5,15 @@ ghost use Rattle.tlm_types.specs.declared.words.Command.TheVariants.{Read};
 ghost use Rattle.tlm_model.specs.Store.{zeros};
 ghost use Rattle.region_object.specs.Call.{payload_cost};
 ghost use Rattle.tlm_types.specs.declared.words.TxnId.{TxnId as Txn};
-ghost use Rattle.plat_build.specs.Calls.{CanPay, HasNoPassage, route_at};
 ghost use Rattle.route_plan.specs.Shape.{IsServed};
+ghost use Rattle.plat_net.specs.Calls.{CanPay, HasNoPassage, route_at};
 ghost use Rattle.run_tests.specs.Bag.{IsBag};
 
 use crate::bench::plan_of;
 use blocking_path::{b_transport, transport_dbg};
 use generic_payload::Payload;
-use plat_build::{Built, Carried, Kept, Net, Opened, PlatNote, Start, TlmLaw, build};
+use plat_build::{Built, Kept, Opened, Start, build};
+use plat_net::{Carried, Net, PlatNote, TlmLaw};
 use region_object::payload_cost;
 use route_plan::Plan;
 use shared_object::Naming;

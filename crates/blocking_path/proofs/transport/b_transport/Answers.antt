@@ -1,7 +1,7 @@
 use Rattle.std.proofs.Common.{◌<◌, length, subst, ◌∙◌}
 use Rattle.tlm_model.specs.Plan.{Plan}
-use Rattle.plat_build.specs.Calls.{HasNoPassage}
-use Rattle.plat_build.proofs.WalkLemmas.{leads_to_memory}
+use Rattle.plat_net.specs.Calls.{HasNoPassage}
+use Rattle.plat_net.proofs.WalkLemmas.{leads_to_memory}
 use Rattle.blocking_path.proofs.transport.b_transport.Goals as goal
 
 pub b_transport_along-requires-clause-memory : goal.b_transport_along-requires-clause-memory

@@ -5,7 +5,7 @@ use Rattle.cargo_model.specs.Known.{objects_of}
 use Rattle.plat_build.specs.Opened.{OpenedView}
 use Rattle.plat_build.specs.Tickets.{AreStocked}
 use Rattle.plat_build.proofs.BuildLemmas.{may_build}
-use Rattle.plat_build.proofs.ObjectLemmas.{few_objects}
+use Rattle.plat_net.proofs.ObjectLemmas.{few_objects}
 use Rattle.plat_build.proofs.building.build.Goals as goal
 
 pub overflow_cast-len : goal.overflow_cast-len
@@ -83,3 +83,12 @@ new-requires-2-clause-wallets g c =
     let all : c.make_pools.new.supplies ≡ length (objects_of c.args.plan.now.platform) = c.in_ok-pools.ensures.next ∙ (sym may.planned ∙ may.places) in
     subst (λ (n : _). AreStocked g.N.Naming.tokens c.args.plan.now n c.into_wallets.result.items) all
     (subst (λ (p : Plan). AreStocked g.N.Naming.tokens p c.make_pools.new.supplies c.into_wallets.result.items) (sym c.requires.plan) c.into_wallets.ensures)
+
+pub of_parts-net-requires-clause-frame : goal.of_parts-net-requires-clause-frame
+of_parts-net-requires-clause-frame g c =
+    let o = c.opened.inside in
+    let table = ap (λ (x : OpenedView). x.table) c.opened.view_is ∙ c.requires.history.0 in
+    let frame = ap (λ (x : OpenedView). x.frame) c.opened.view_is ∙ c.requires.history.1 in
+    let tokens = ap (λ (x : OpenedView). x.tokens) c.opened.view_is ∙ c.requires.tickets in
+    let may = may_build g.N.Naming.table g.N.Naming.tokens g.N.Naming.frame c.args.plan.now o.history.table o.tickets o.history.frame o.seats.items o.note o.books.items c.opened.invariant table frame tokens c.requires.plan c.platform.ensures.valid.shape.bounded in
+    may.made

@@ -5,7 +5,7 @@ use Rattle.hop_object.specs.View.{HopView}
 use Rattle.cargo_model.specs.declared.cargo.Cargo.{Cargo}
 use Rattle.plat_build.proofs.HopLemmas.{hop_built}
 use Rattle.cargo_model.specs.Known.{object_number}
-use Rattle.plat_build.proofs.NumberLemmas.{hop_number, hop_there, numbers_are}
+use Rattle.plat_net.proofs.NumberLemmas.{hop_number, hop_there, numbers_are}
 use Rattle.plat_build.proofs.SupplyLemmas.{book_is, nothing_logged, room_is}
 use Rattle.plat_build.proofs.hops.make_hop.Goals as goal
 

@@ -1,6 +1,6 @@
 use Rattle.std.proofs.Common.{◌≡◌, ◌+◌, length}
 use Rattle.tlm_model.specs.Route.{window_hop}
-use Rattle.plat_build.specs.Net.{AreHopsTo}
+use Rattle.plat_net.specs.Net.{AreHopsTo}
 use Rattle.plat_build.proofs.hops.make_hops.Given as goal
 
 abbrev pub invariant-loop-row : goal.invariant-loop-row

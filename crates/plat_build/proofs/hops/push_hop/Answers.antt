@@ -7,11 +7,11 @@ use Rattle.shared_object.specs.Standing.{Numbers}
 use Rattle.tlm_types.specs.declared.words.ObjectNo.TheVariants.{Hop}
 use Rattle.tlm_model.specs.Plan.{Plan}
 use Rattle.plat_build.specs.Hops.{IsNextHop}
-use Rattle.plat_build.specs.Net.{hop_numbers}
-use Rattle.plat_build.specs.Objects.{HasObject}
+use Rattle.plat_net.specs.Net.{hop_numbers}
+use Rattle.plat_net.specs.Objects.{HasObject}
 use Rattle.plat_build.specs.Supplies.{IsSupply}
-use Rattle.plat_build.proofs.NumberLemmas.{hop_there}
-use Rattle.plat_build.proofs.ObjectLemmas.{few_hops}
+use Rattle.plat_net.proofs.NumberLemmas.{hop_there}
+use Rattle.plat_net.proofs.ObjectLemmas.{few_hops}
 use Rattle.plat_build.proofs.SupplyLemmas.{more_planned, object_again}
 use Rattle.plat_build.proofs.hops.push_hop.Goals as goal
 

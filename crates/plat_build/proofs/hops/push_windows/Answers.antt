@@ -7,7 +7,7 @@ use Rattle.tlm_model.specs.declared.platform.Target.TheVariants.{Router}
 use Rattle.tlm_model.specs.declared.platform.WindowRow.{WindowRow}
 use Rattle.platform_model.specs.Bounded.{IsBoundedRouter, is_there}
 use Rattle.plat_build.proofs.HopLemmas.{next_router, window_next}
-use Rattle.plat_build.proofs.Lookups.{get_at, row_at, short_at}
+use Rattle.plat_net.proofs.Lookups.{get_at, row_at, short_at}
 use Rattle.plat_build.proofs.hops.push_windows.Goals as goal
 
 pub push_hop-requires-clause-next : goal.push_hop-requires-clause-next

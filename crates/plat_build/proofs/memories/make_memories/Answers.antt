@@ -9,12 +9,12 @@ use Rattle.tlm_types.specs.declared.words.ObjectNo.TheVariants.{Memory}
 use Rattle.tlm_model.specs.declared.platform.Platform.{Platform}
 use Rattle.tlm_model.specs.Plan.{Plan}
 use Rattle.platform_model.specs.Bounded.{IsBoundedMemory}
-use Rattle.plat_build.specs.Net.{memory_numbers}
-use Rattle.plat_build.specs.Objects.{HasObject}
+use Rattle.plat_net.specs.Net.{memory_numbers}
+use Rattle.plat_net.specs.Objects.{HasObject}
 use Rattle.plat_build.specs.Supplies.{IsSupply}
-use Rattle.plat_build.proofs.Lookups.{row_at}
-use Rattle.plat_build.proofs.NumberLemmas.{memory_there}
-use Rattle.plat_build.proofs.ObjectLemmas.{gates_more}
+use Rattle.plat_net.proofs.Lookups.{row_at}
+use Rattle.plat_net.proofs.NumberLemmas.{memory_there}
+use Rattle.plat_net.proofs.ObjectLemmas.{gates_more}
 use Rattle.plat_build.proofs.SupplyLemmas.{more_planned, object_again}
 use Rattle.plat_build.proofs.memories.make_memories.Goals as goal
 use Rattle.std.proofs.lemmas.Option.{get_or_from_slice_get}

@@ -3,7 +3,7 @@ use mathlib.Core.Option.{some}
 use lib.ListN.{get_elem?}
 use Rattle.shared_object.specs.Standing.{Numbers}
 use Rattle.cargo_net.specs.Gates.{gates_of}
-use Rattle.plat_build.specs.Net.{memory_numbers}
+use Rattle.plat_net.specs.Net.{memory_numbers}
 use Rattle.plat_build.proofs.memories.make_memories.Given as goal
 
 abbrev pub invariant-loop-number : goal.invariant-loop-number

@@ -3,9 +3,9 @@ use Rattle.one_history.specs.Moves.{fresh}
 use Rattle.tlm_model.specs.declared.platform.MemoryRow.{MemoryRow}
 use Rattle.tlm_types.specs.declared.words.ObjectNo.TheVariants.{Memory}
 use Rattle.region_object.specs.Region.{LoggedMemory}
-use Rattle.plat_build.proofs.Lookups.{some_below}
+use Rattle.plat_net.proofs.Lookups.{some_below}
 use Rattle.plat_build.proofs.MemoryLemmas.{built_for}
-use Rattle.plat_build.proofs.NumberLemmas.{memory_there, numbers_are}
+use Rattle.plat_net.proofs.NumberLemmas.{memory_there, numbers_are}
 use Rattle.plat_build.proofs.SupplyLemmas.{book_is, room_is}
 use Rattle.plat_build.proofs.memories.make_memory.Goals as goal
 

@@ -2,7 +2,7 @@ use Rattle.std.proofs.Common.{◌≤◌, List, length, sym, subst}
 use Rattle.std.specs.Prelude.{All}
 use Rattle.tlm_types.specs.declared.words.ObjectNo.{ObjectNo}
 use Rattle.route_plan.specs.Valid.{IsObject}
-use Rattle.plat_build.proofs.ObjectLemmas.{all_there, few_objects}
+use Rattle.plat_net.proofs.ObjectLemmas.{all_there, few_objects}
 use Rattle.plat_build.proofs.OpenLemmas.{objects_pushed}
 use Rattle.plat_build.proofs.objects.objects_of.Goals as goal
 

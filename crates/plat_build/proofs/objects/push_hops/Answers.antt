@@ -1,7 +1,7 @@
 use Rattle.std.proofs.Common.{◌<◌, arith, rules}
 use Rattle.tlm_types.specs.declared.words.ObjectNo.TheVariants.{Hop}
 use Rattle.route_plan.specs.Valid.{hop_count}
-use Rattle.plat_build.proofs.ObjectLemmas.{few_hops, pushed_more}
+use Rattle.plat_net.proofs.ObjectLemmas.{few_hops, pushed_more}
 use Rattle.plat_build.proofs.objects.push_hops.Goals as goal
 
 pub overflow_add-hop : goal.overflow_add-hop

@@ -1,5 +1,5 @@
 use Rattle.tlm_types.specs.declared.words.ObjectNo.TheVariants.{Memory}
-use Rattle.plat_build.proofs.ObjectLemmas.{pushed_more}
+use Rattle.plat_net.proofs.ObjectLemmas.{pushed_more}
 use Rattle.plat_build.proofs.objects.push_memories.Goals as goal
 
 pub loop-memory-preserved : goal.loop-memory-preserved

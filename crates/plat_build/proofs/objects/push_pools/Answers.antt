@@ -1,7 +1,7 @@
 use Rattle.std.proofs.Common.{ap, ◌∙◌}
 use Rattle.tlm_model.specs.declared.platform.Platform.{Platform}
-use Rattle.plat_build.proofs.Lookups.{row_at}
-use Rattle.plat_build.proofs.ObjectLemmas.{pools_more}
+use Rattle.plat_net.proofs.Lookups.{row_at}
+use Rattle.plat_net.proofs.ObjectLemmas.{pools_more}
 use Rattle.plat_build.proofs.objects.push_pools.Goals as goal
 
 pub loop-number-preserved : goal.loop-number-preserved

@@ -1,5 +1,5 @@
 use Rattle.std.proofs.Common.{◌≡◌, ◌++◌}
-use Rattle.plat_build.specs.Objects.{pools_of}
+use Rattle.plat_net.specs.Objects.{pools_of}
 use Rattle.plat_build.proofs.objects.push_pools.Given as goal
 
 abbrev pub invariant-loop-number : goal.invariant-loop-number

@@ -4,7 +4,7 @@ use Rattle.tlm_types.specs.declared.words.ObjectNo.TheVariants.{Pool}
 use Rattle.payload_pool.specs.Pool.{PoolView}
 use Rattle.plat_build.proofs.PoolLemmas.{pool_built}
 use Rattle.cargo_model.specs.Known.{object_number}
-use Rattle.plat_build.proofs.NumberLemmas.{numbers_are}
+use Rattle.plat_net.proofs.NumberLemmas.{numbers_are}
 use Rattle.plat_build.proofs.SupplyLemmas.{book_is, nothing_logged, room_is}
 use Rattle.plat_build.proofs.pools.make_pool.Goals as goal
 

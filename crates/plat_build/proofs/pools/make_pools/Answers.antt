@@ -2,8 +2,8 @@ use Rattle.std.proofs.Common.{◌≡◌, ◌+◌, length, ap, ◌∙◌, arith, 
 use Rattle.one_history.specs.declared.view.Frame.{Frame}
 use Rattle.tlm_model.specs.declared.platform.Platform.{Platform}
 use Rattle.tlm_model.specs.Plan.{Plan}
-use Rattle.plat_build.specs.Net.{ArePoolsTo}
-use Rattle.plat_build.proofs.ObjectLemmas.{count_of, count_planned}
+use Rattle.plat_net.specs.Net.{ArePoolsTo}
+use Rattle.plat_net.proofs.ObjectLemmas.{count_of, count_planned}
 use Rattle.plat_build.proofs.PoolLemmas.{pools_long}
 use Rattle.plat_build.proofs.pools.make_pools.Goals as goal
 

@@ -1,6 +1,6 @@
 use Rattle.std.proofs.Common.{◌≡◌, ◌+◌, length}
-use Rattle.plat_build.specs.Net.{ArePoolsTo}
-use Rattle.plat_build.specs.Objects.{pools_start}
+use Rattle.plat_net.specs.Net.{ArePoolsTo}
+use Rattle.plat_net.specs.Objects.{pools_start}
 use Rattle.plat_build.proofs.pools.make_pools.Given as goal
 
 abbrev pub invariant-loop-number : goal.invariant-loop-number

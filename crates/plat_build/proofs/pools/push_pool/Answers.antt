@@ -7,11 +7,11 @@ use Rattle.tlm_model.specs.Plan.{Plan}
 use Rattle.cargo_model.specs.Known.{has_pool, is_used, object_number}
 use Rattle.platform_model.specs.Bounded.{IsBoundedInitiator}
 use Rattle.std.proofs.lemmas.Option.{get_or_from_slice_get}
-use Rattle.plat_build.specs.Objects.{HasObject, pools_of, pools_start}
+use Rattle.plat_net.specs.Objects.{HasObject, pools_of, pools_start}
 use Rattle.plat_build.specs.Supplies.{IsSupply}
-use Rattle.plat_build.proofs.Lookups.{short_at}
-use Rattle.plat_build.proofs.NumberLemmas.{pool_number, pool_there}
-use Rattle.plat_build.proofs.ObjectLemmas.{pool_at}
+use Rattle.plat_net.proofs.Lookups.{short_at}
+use Rattle.plat_net.proofs.NumberLemmas.{pool_number, pool_there}
+use Rattle.plat_net.proofs.ObjectLemmas.{pool_at}
 use Rattle.plat_build.proofs.PoolLemmas.{pools_long, pools_pushed, pools_same}
 use Rattle.plat_build.proofs.SupplyLemmas.{more_planned, object_again}
 use Rattle.plat_build.proofs.pools.push_pool.Goals as goal

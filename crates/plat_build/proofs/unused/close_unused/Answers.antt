@@ -49,7 +49,7 @@ push_unused-requires-3-clause-numbered g c =
     let many = parts.memories.count in
     let hops = parts.hops.count in
     pools_numbered n.frame p (length c.push_unused-2.new.seats.items) c.into_parts-history.result.pools.items parts.world
-    (omega (arith, ap length e, count, count_too, many, hops) ∙ ap (λ (x : Plan). Rattle.plat_build.specs.Objects.pools_start x.platform) parts.world) parts.pools
+    (omega (arith, ap length e, count, count_too, many, hops) ∙ ap (λ (x : Plan). Rattle.plat_net.specs.Objects.pools_start x.platform) parts.world) parts.pools
 
 pub push_unused-requires-2-clause-wallets : goal.push_unused-requires-2-clause-wallets
 push_unused-requires-2-clause-wallets g c =

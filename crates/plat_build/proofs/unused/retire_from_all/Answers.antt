@@ -5,8 +5,8 @@ use Rattle.token_book.specs.Account.{out_of}
 use Rattle.token_book.specs.Purse.{IsOf, left_of}
 use Rattle.tlm_types.specs.declared.words.ObjectNo.{ObjectNo}
 use Rattle.route_plan.specs.Counted.{share_at}
-use Rattle.plat_build.specs.Objects.{HasObject}
-use Rattle.plat_build.proofs.Lookups.{at_index}
+use Rattle.plat_net.specs.Objects.{HasObject}
+use Rattle.plat_net.proofs.Lookups.{at_index}
 use Rattle.plat_build.proofs.UnusedLemmas.{left_next}
 use Rattle.plat_build.proofs.WalletLemmas.{sum_range_more}
 use Rattle.plat_build.proofs.unused.retire_from_all.Goals as goal

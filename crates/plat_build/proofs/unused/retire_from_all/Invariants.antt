@@ -3,7 +3,7 @@ use Rattle.std.specs.List.{range_with_len}
 use Rattle.token_book.specs.Account.{out_of}
 use Rattle.tlm_types.specs.declared.words.ObjectNo.{ObjectNo}
 use Rattle.route_plan.specs.Counted.{share_at}
-use Rattle.plat_build.specs.Objects.{HasObject}
+use Rattle.plat_net.specs.Objects.{HasObject}
 use Rattle.plat_build.proofs.UnusedLemmas.{AreLeftTo}
 use Rattle.plat_build.proofs.unused.retire_from_all.Given as goal
 

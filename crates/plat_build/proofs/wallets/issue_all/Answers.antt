@@ -3,9 +3,9 @@ use Rattle.std.specs.List.{range_with_len}
 use Rattle.tlm_model.specs.declared.platform.Platform.{Platform}
 use Rattle.route_plan.specs.Counted.{share_at}
 use Rattle.cargo_model.specs.Known.{objects_of}
-use Rattle.plat_build.specs.Objects.{bytes_at}
-use Rattle.plat_build.proofs.Lookups.{short_at}
-use Rattle.plat_build.proofs.ObjectLemmas.{object_there}
+use Rattle.plat_net.specs.Objects.{bytes_at}
+use Rattle.plat_net.proofs.Lookups.{short_at}
+use Rattle.plat_net.proofs.ObjectLemmas.{object_there}
 use Rattle.plat_build.proofs.WalletLemmas.{got_same, stocked_at, stocked_end, stocked_more, stocked_next, sum_range_more}
 use Rattle.plat_build.proofs.wallets.issue_all.Goals as goal
 

@@ -2,7 +2,7 @@ use Rattle.std.proofs.Common.{◌≡◌, ◌≤◌, ◌*◌, sum_by}
 use Rattle.std.specs.List.{range_with_len}
 use Rattle.token_book.specs.Account.{out_of}
 use Rattle.route_plan.specs.Counted.{share_at}
-use Rattle.plat_build.specs.Objects.{bytes_at}
+use Rattle.plat_net.specs.Objects.{bytes_at}
 use Rattle.plat_build.specs.Tickets.{AreStockedTo}
 use Rattle.plat_build.proofs.wallets.issue_all.Given as goal
 

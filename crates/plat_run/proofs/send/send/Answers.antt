@@ -1,4 +1,4 @@
-use Rattle.plat_build.proofs.WalkLemmas.{leads_to_memory}
+use Rattle.plat_net.proofs.WalkLemmas.{leads_to_memory}
 use Rattle.plat_run.proofs.send.send.Goals as goal
 use Rattle.std.proofs.Common.{sym}
 

@@ -6,7 +6,7 @@ use Rattle.one_history.specs.Held.{Held}
 use Rattle.tlm_types.specs.declared.entry.Content.{Content}
 use Rattle.tlm_model.specs.Plan.{Plan}
 use Rattle.plat_build.specs.Kept.{IsBlank, Waiting}
-use Rattle.plat_build.proofs.Lookups.{Waits, at_read, map-set, waits}
+use Rattle.plat_net.proofs.Lookups.{Waits, at_read, map-set, waits}
 use Rattle.plat_build.proofs.KeptLemmas.{taken_kept}
 use Rattle.plat_build.proofs.kept.Kept.memory_note.Goals as goal
 

@@ -4,7 +4,7 @@ use mathlib.Core.Option.{some}
 use lib.ListN.{get_elem?}
 use Rattle.plat_build.specs.declared.kept.Start.{Start}
 use Rattle.plat_build.specs.Kept.{IsStart, Waiting}
-use Rattle.plat_build.proofs.Lookups.{Waits, at_read, map-set, waits}
+use Rattle.plat_net.proofs.Lookups.{Waits, at_read, map-set, waits}
 use Rattle.plat_build.proofs.KeptLemmas.{taken_kept}
 use Rattle.plat_build.proofs.kept.Kept.start.Goals as goal
 

@@ -2,8 +2,8 @@ use Rattle.std.proofs.Common.{◌≡◌, length, map, sym, ap, ◌∙◌, arith}
 use Rattle.one_history.specs.Moves.{counting}
 use Rattle.tlm_model.specs.declared.platform.Platform.{Platform}
 use Rattle.cargo_net.specs.Gates.{gates_at, gates_of}
-use Rattle.plat_build.specs.Objects.{frame_of, planned_of}
-use Rattle.plat_build.proofs.ObjectLemmas.{count_planned}
+use Rattle.plat_net.specs.Objects.{frame_of, planned_of}
+use Rattle.plat_net.proofs.ObjectLemmas.{count_planned}
 use Rattle.plat_build.proofs.OpenLemmas.{frame_again, frame_is, gates_are, may_open, planned_is}
 use Rattle.plat_build.proofs.opened.Opened.new.Goals as goal
 

@@ -1,7 +1,7 @@
 use Rattle.std.proofs.Common.{ℕ, ◌<◌, length, refl, ap, sym, subst, ◌∙◌}
 use Rattle.tlm_model.specs.Plan.{Plan}
 use Rattle.generic_payload.specs.Payload.{PayloadView}
-use Rattle.plat_build.specs.Calls.{CanPay}
+use Rattle.plat_net.specs.Calls.{CanPay}
 use Rattle.script_engine.specs.State.{State, is_fenced, op_of}
 use Rattle.initiator_run.specs.Moves.{HasReached}
 use Rattle.initiator_run.specs.Run.{Run}

@@ -1,0 +1,9 @@
+pub mod Lookups
+pub mod ObjectLemmas
+pub mod NumberLemmas
+pub mod PoolPlaces
+pub mod CallLemmas
+pub mod WalkLemmas
+pub mod NoCycle
+pub mod Targets
+pub mod Given

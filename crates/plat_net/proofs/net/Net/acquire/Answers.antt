@@ -1,0 +1,21 @@
+use Rattle.std.proofs.Common.{◌≡◌, ℕ, sym, subst}
+use Rattle.tlm_model.specs.Plan.{Plan}
+use Rattle.plat_net.specs.Net.{HasPool}
+use Rattle.plat_net.specs.Places.{own_pool}
+use Rattle.cargo_net.specs.Pools.{HasAcquired, MayAcquire}
+use Rattle.plat_net.proofs.Given.{has_pool_of, may_acquire, pool_numbered}
+use Rattle.plat_net.proofs.net.Net.acquire.Goals as goal
+
+pub pool-pool-requires : goal.pool-pool-requires
+pool-pool-requires g c =
+    subst (λ (q : Plan). HasPool q.platform c.args.initiator) (sym c.plan.ensures.world) (has_pool_of g.N.Naming.frame.world c.args.initiator c.args.baton.txn c.requires.can.pass c.requires.can.access)
+
+pub acquire-requires-clause-may : goal.acquire-requires-clause-may
+acquire-requires-clause-may g c =
+    let num : c.pool-pool.result.now.number ≡ own_pool g.N.Naming.frame.world c.args.initiator = pool_numbered c.args.self.now g.N.Naming.frame.world c.args.initiator c.pool-pool.result.now c.pool-pool.ensures c.plan.ensures.world in
+    subst (λ (n : ℕ). MayAcquire g.N.Naming.frame g.N.Naming.tokens n c.args.baton c.args.at c.args.note.knows.known) (sym num) (may_acquire g.N.Naming.frame g.N.Naming.tokens c.args.note.knows.known c.plan.ensures.frame c.args.initiator c.args.baton c.args.at c.requires.can)
+
+pub returns-clause-acquired : goal.returns-clause-acquired
+returns-clause-acquired g c = λ can.
+    let num : c.pool-pool.result.now.number ≡ own_pool g.N.Naming.frame.world c.args.initiator = pool_numbered c.args.self.now g.N.Naming.frame.world c.args.initiator c.pool-pool.result.now c.pool-pool.ensures c.plan.ensures.world in
+    (subst (λ (n : ℕ). (may : MayAcquire g.N.Naming.frame g.N.Naming.tokens n c.args.baton c.args.at c.args.note.knows.known) → HasAcquired g.N.Naming.frame g.N.Naming.tokens n c.args.baton c.args.at may.position may.count c.acquire.result.0.baton c.acquire.result.0.hold c.acquire.result.1.knows.known) num c.acquire.ensures.acquired) (may_acquire g.N.Naming.frame g.N.Naming.tokens c.args.note.knows.known c.plan.ensures.frame c.args.initiator c.args.baton c.args.at can)

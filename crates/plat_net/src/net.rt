@@ -1,0 +1,212 @@
+// The net: what threads share of a platform.
+ghost use Rattle.std.specs.Prelude.{◌≡◌, ◌<◌, length};
+ghost use Rattle.view_lists.specs.Lists.{Has};
+ghost use Rattle.route_plan.specs.Valid.{hop_count};
+ghost use Rattle.plat_net.specs.Net.{hop_numbers, memory_numbers, pool_numbers, HasPool, HasPoolOf};
+
+use crate::calls::returned;
+use crate::law::{PlatHistory, PlatNote, SharedHop, SharedMemory, SharedPool, TlmLaw};
+use crate::reach::Reach;
+use generic_payload::Payload;
+use region_object::RegionCall;
+use route_plan::Plan;
+use shared_object::{Naming, Stepped, Unstepped};
+use std::marker::Model;
+use std::sync::Wait;
+use token_book::{Tokens, Wallet};
+
+/// The objects of a platform under their locks, with their history and their tokens, which N names.
+/// Threads share it. Contracts see the plan.
+#[derive(Drop)]
+pub struct Net<N: Naming<Plan, TlmLaw>> {
+    plan: Plan,
+    history: PlatHistory,
+    tickets: Tokens,
+    memories: Vec<SharedMemory<N>>,
+    hops: Vec<SharedHop<N>>,
+    pools: Vec<SharedPool<N>>,
+}
+
+impl<N: Naming<Plan, TlmLaw>> Model for Net<N> {
+    ghost use Rattle.std.specs.Prelude.{◌≡◌};
+    ghost use Rattle.tlm_model.specs.Plan as model;
+    ghost use Rattle.plat_net.specs.Net.{AreHops, AreMemories, ArePools};
+    ghost use Rattle.plat_net.specs.Objects.{frame_of};
+
+    ghost Value = { model.Plan };
+
+    ghost view = { λ n. n.plan };
+
+    ghost invariant = { λ n. (n.plan ≡ N.frame.world) × (n.history.table ≡ N.table) × (n.history.frame ≡ N.frame)
+        × (n.tickets ≡ N.tokens) × AreMemories n.plan n.memories.items
+        × AreHops n.plan.platform n.hops.items × ArePools n.plan.platform n.pools.items
+        × (N.frame ≡ frame_of n.plan) };
+}
+
+/// What a net consists of.
+#[derive(Drop)]
+pub struct NetParts<N: Naming<Plan, TlmLaw>> {
+    pub history: PlatHistory,
+    pub tickets: Tokens,
+    pub memories: Vec<SharedMemory<N>>,
+    pub hops: Vec<SharedHop<N>>,
+    pub pools: Vec<SharedPool<N>>,
+}
+
+impl<N: Naming<Plan, TlmLaw>> Net<N> {
+    ghost use Rattle.plat_net.specs.Net.{AreHops, AreMemories, ArePools};
+    ghost use Rattle.plat_net.specs.Objects.{frame_of};
+
+    /// The net of a plan, of its history, its tokens and its objects in order. N names the history, which is
+    /// made with what the plan counts, and the tokens.
+    pub fn of_parts(
+        plan: Plan,
+        history: PlatHistory,
+        tickets: Tokens,
+        memories: Vec<SharedMemory<N>>,
+        hops: Vec<SharedHop<N>>,
+        pools: Vec<SharedPool<N>>,
+    ) -> Net<N>
+        requires plan { plan ≡ N.frame.world }
+        requires frame { N.frame ≡ frame_of plan }
+        requires history { (history.table ≡ N.table) × (history.frame ≡ N.frame) }
+        requires tickets { tickets ≡ N.tokens }
+        requires memories { AreMemories plan memories.items }
+        requires hops { AreHops plan.platform hops.items }
+        requires pools { ArePools plan.platform pools.items }
+        ensures { result ≡ plan }
+    {
+        Net {
+            plan,
+            history,
+            tickets,
+            memories,
+            hops,
+            pools,
+        }
+    }
+
+    /// The plan. The history was made with what it counts.
+    pub fn plan(&self) -> &Plan
+        ensures plan { result.now ≡ self.now }
+        ensures world { self.now ≡ N.frame.world }
+        ensures frame { N.frame ≡ frame_of N.frame.world }
+    {
+        &self.plan
+    }
+
+    /// The history.
+    pub fn history(&self) -> &PlatHistory
+        ensures { (result.now.table ≡ N.table) × (result.now.frame ≡ N.frame) }
+    {
+        &self.history
+    }
+
+    /// The tokens of the tickets.
+    pub fn tickets(&self) -> &Tokens
+        ensures { result.now ≡ N.tokens }
+    {
+        &self.tickets
+    }
+
+    /// The memory with this number.
+    pub fn memory(&self, number: u32) -> &SharedMemory<N>
+        requires { number < length self.now.platform.memories }
+        ensures { result.now ≡ memory_numbers number }
+    {
+        &self.memories[number as usize]
+    }
+
+    /// The hop with this number.
+    pub fn hop(&self, number: u32) -> &SharedHop<N>
+        requires { number < hop_count self.now.platform }
+        ensures { result.now ≡ hop_numbers self.now.platform number }
+    {
+        &self.hops[number as usize]
+    }
+
+    /// The pool of the initiator with this number, which is of four phases.
+    pub fn pool(&self, initiator: u32) -> &SharedPool<N>
+        requires { HasPool self.now.platform initiator }
+        ensures { result.now ≡ pool_numbers self.now.platform initiator }
+    {
+        pool_of(&self.pools, initiator)
+    }
+
+    /// The history, the tokens, and the memories, hops and pools in order.
+    pub fn into_parts(self) -> NetParts<N>
+        ensures world { self ≡ N.frame.world }
+        ensures history { (result.history.table ≡ N.table) × (result.history.frame ≡ N.frame) }
+        ensures tickets { result.tickets ≡ N.tokens }
+        ensures memories { AreMemories self result.memories.items }
+        ensures hops { AreHops self.platform result.hops.items }
+        ensures pools { ArePools self.platform result.pools.items }
+    {
+        let Net {
+            plan: _,
+            history,
+            tickets,
+            memories,
+            hops,
+            pools,
+        } = self;
+        NetParts {
+            history,
+            tickets,
+            memories,
+            hops,
+            pools,
+        }
+    }
+}
+
+// The one of these pools that is the initiator's.
+fn pool_of<N: Naming<Plan, TlmLaw>>(pools: &[SharedPool<N>], initiator: u32) -> &SharedPool<N>
+    requires { HasPoolOf pools.now initiator }
+    ensures own { result.now.own ≡ initiator }
+    ensures has { Has pools.now result.now }
+{
+    for pool in pools {
+        if pool.own_number() == initiator {
+            return pool;
+        }
+    }
+    unreachable!()
+}
+
+impl<N: Naming<Plan, TlmLaw>> Reach<N> for Net<N> {
+    #[inline(always)]
+    fn net(&self) -> &Net<N> {
+        self
+    }
+
+    #[inline(always)]
+    fn call<R: Wait>(
+        &mut self,
+        rt: &R,
+        memory: u32,
+        note: PlatNote,
+        wallet: &mut Wallet,
+        call: RegionCall,
+    ) -> (Payload, PlatNote) {
+        let ticket = wallet.pull(&self.tickets, memory, call.cost());
+        let place = &mut self.memories[memory as usize];
+        match place.step_alone(rt, &self.history, &self.tickets, note, Some(ticket), call) {
+            Ok(
+                Stepped {
+                    reply,
+                    position: _,
+                    note,
+                    ticket: _,
+                },
+            ) => (returned(reply), note),
+            Err(
+                Unstepped {
+                    note: _,
+                    ticket: _,
+                    call: _,
+                },
+            ) => unreachable!(),
+        }
+    }
+}
