@@ -1,8 +1,7 @@
 // The end of a history of whose net nothing was handed out.
-ghost use Rattle.std.specs.Prelude.{◌≡◌, ◌≢◌, ℕ, ◌+◌, [], length, IfOk, OnOk};
+ghost use Rattle.std.specs.Prelude.{◌≡◌, ◌+◌, [], length, IfOk, OnOk};
 ghost use Rattle.tlm_types.specs.declared.words.ObjectNo.{ObjectNo as Object};
 ghost use Rattle.token_book.specs.Account.{out_of};
-ghost use Rattle.token_book.specs.Purse.{IsOf, left_of};
 ghost use Rattle.plat_build.specs.Kept.{all_waiting};
 ghost use Rattle.plat_net.specs.Objects.{frame_of, HasObject};
 ghost use Rattle.plat_build.specs.Unused.{added_by_all, AddUp, AreNumberedFrom, AreUnused, HaveTicketsFrom, IsThere, IsUnused};
@@ -16,22 +15,6 @@ use std::alloc::{AllocError, Global};
 use std::sync::Wait;
 use tlm_types::{Content, Memory};
 use token_book::{Book, Tokens, Wallet};
-
-// Retires the tickets of the book's owner that the wallet has.
-fn retire_from(tickets: &Tokens, book: &mut Book, wallet: &mut Wallet)
-    requires book { book.old.table ≡ tickets.now }
-    requires wallet { IsOf tickets.now wallet.old }
-    ensures book { (book.new.table ≡ book.old.table) × (book.new.owner ≡ book.old.owner) }
-    ensures out { out_of 0 book.new.out + left_of wallet.old book.old.owner ≡ out_of 0 book.old.out }
-    ensures wallet { IsOf tickets.now wallet.new }
-    ensures others { (o : ℕ) → o ≢ book.old.owner → left_of wallet.new o ≡ left_of wallet.old o }
-{
-    let owner = book.owner();
-    for _ticket in 0..wallet.left(owner) {
-        let ticket = wallet.pull(tickets, owner, 0);
-        tickets.retire(book, ticket.entry);
-    }
-}
 
 // Retires the tickets of the book's owner that the wallets of all initiators have.
 fn retire_from_all<N: Naming<Plan, TlmLaw>>(
@@ -47,7 +30,7 @@ fn retire_from_all<N: Naming<Plan, TlmLaw>>(
     ensures wallets { HaveTicketsFrom N.tokens N.frame.world (book.old.owner + 1) wallets.new }
 {
     for wallet in wallets.iter_mut() {
-        retire_from(tickets, book, wallet);
+        wallet.hand_back(tickets, book);
     }
 }
 

@@ -11,8 +11,8 @@ use Rattle.plat_build.proofs.UnusedLemmas.{left_next}
 use Rattle.plat_build.proofs.WalletLemmas.{sum_range_more}
 use Rattle.plat_build.proofs.unused.retire_from_all.Goals as goal
 
-pub retire_from-requires-clause-wallet : goal.retire_from-requires-clause-wallet
-retire_from-requires-clause-wallet g c =
+pub hand_back-requires-clause-of : goal.hand_back-requires-clause-of
+hand_back-requires-clause-of g c =
     let i = c.loop-wallet.invariant in
     let k = c.loop-wallet.wallet-index in
     let below : k < length c.loop-wallet.wallets = omega arith in
@@ -28,9 +28,9 @@ loop-wallet-preserved g c =
     let old = get_or c.loop-wallet.wallets k c.wallet-item.result in
     let below : k < length c.loop-wallet.wallets = omega arith in
     let at = at_index c.loop-wallet.wallets k c.wallet-item.result below in
-    let e = c.retire_from.ensures in
-    let retired : out_of 0 c.retire_from.new.book.out + left_of old c.loop-wallet.book.owner ≡ out_of 0 c.loop-wallet.book.out = e.out in
-    let out : (o : ObjectNo) → HasObject p.platform m o → out_of 0 c.retire_from.new.book.out + sum_by (λ n. share_at p n o) (range_with_len 0 (k + 1)) ≡ out_of 0 c.args.book.now.out =
+    let e = c.hand_back.ensures in
+    let retired : out_of 0 c.hand_back.new.book.out + left_of old c.loop-wallet.book.owner ≡ out_of 0 c.loop-wallet.book.out = e.tickets in
+    let out : (o : ObjectNo) → HasObject p.platform m o → out_of 0 c.hand_back.new.book.out + sum_by (λ n. share_at p n o) (range_with_len 0 (k + 1)) ≡ out_of 0 c.args.book.now.out =
     λ o there.
     let f : ℕ → ℕ = λ n. share_at p n o in
     let had : left_of old c.loop-wallet.book.owner ≡ f k = ap (left_of old) i.owner ∙ i.wallets.here k old o (omega arith) at there in
@@ -41,8 +41,8 @@ loop-wallet-preserved g c =
       table = e.book.0 ∙ i.table;
       owner = e.book.1 ∙ i.owner;
       out = out;
-      wallets = left_next g.N.Naming.tokens p m k c.loop-wallet.wallets old c.retire_from.new.wallet i.wallets at
-          (subst (λ (t : TableId). IsOf t c.retire_from.new.wallet) c.requires.tickets e.wallet)
+      wallets = left_next g.N.Naming.tokens p m k c.loop-wallet.wallets old c.hand_back.new.self i.wallets at
+          (subst (λ (t : TableId). IsOf t c.hand_back.new.self) c.requires.tickets e.of)
           (λ o other. e.others o (λ same. other (same ∙ i.owner)));
     }
 
