@@ -1,7 +1,6 @@
 -- What is seen of an event queue.
 use Rattle.std.specs.Prelude.{ℕ, List, [], ◌∷◌, Option, Some, None, nat_lt, insert}
 use Rattle.std.specs.List.{position_or_len}
-use Rattle.std.specs.List.Sorted.{IsNonDecreasingBy}
 
 -- its entries, each a time in picoseconds and an item, in the order in which they are given, and for how many it has room
 pub record Events (T : Type 0) : Type 0 where
@@ -9,10 +8,6 @@ pub record Events (T : Type 0) : Type 0 where
   pub room : ℕ
 
 module _ {T : Type 0} where
-  -- no entry is earlier than one before it
-  abbrev pub AreInOrder : List (ℕ × T) → Type 0
-  AreInOrder entries = IsNonDecreasingBy (λ (e : ℕ × T). e.0) entries
-
   -- the place of the first entry that is later than a time, or else the end
   abbrev pub place_after : List (ℕ × T) → ℕ → ℕ
   place_after entries at = position_or_len (λ (e : ℕ × T). nat_lt at e.0) entries

@@ -1,1 +1,3 @@
 pub mod EventQueue
+pub mod Waiting
+pub mod Kept

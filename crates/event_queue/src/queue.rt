@@ -1,40 +1,108 @@
 // The queue.
-ghost use Rattle.std.specs.Prelude.{◌≡◌, ◌<◌, ◌≤◌, ◌↔◌, ◌++◌, [], ◌∷◌, length, All, IsNone, IfNone, IfSome, IfOk, IsTrue};
-ghost use Rattle.event_queue.specs.EventQueue.{place_after, notified, first_time};
+ghost use Rattle.std.specs.Prelude.{◌≡◌, ◌+◌, ◌<◌, ◌≤◌, ◌^◌, ◌↔◌, ◌++◌, [], ◌∷◌, length, All, IsNone, IfNone, IfSome, IfOk, IsTrue};
+ghost use Rattle.std.specs.BinaryHeap.{heap_capacity, heap_items, heap_len};
+ghost use Rattle.event_queue.specs.EventQueue.{notified, first_time};
+ghost use Rattle.event_queue.specs.Kept.{AreWaiting};
+ghost use Rattle.event_queue.specs.Waiting.{given_in_order};
 
+use crate::waiting::Waiting;
 use std::alloc::Global;
+use std::collections::BinaryHeap;
 use std::marker::Model;
+use std::mem;
 use tlm_types::Memory;
 
 /// Items that wait for their times, as in the standard's `peq_with_get` (clause 16.3). Times are
 /// absolute, in picoseconds.
 #[derive(Drop)]
 pub struct EventQueue<T> {
-    entries: Vec<(u64, T)>,
+    waiting: BinaryHeap<Waiting<T>>,
+    /// Empty, with the same room: what waits moves there when it is numbered anew.
+    spare: BinaryHeap<Waiting<T>>,
+    /// The number of the next notification.
+    next: u64,
     room: u32,
 }
 
 impl<T> Model for EventQueue<T> {
-    ghost use Rattle.std.specs.Prelude.{◌≤◌, ◌<◌, ◌^◌, vec_len, vec_capacity};
-    ghost use Rattle.event_queue.specs.EventQueue.{Events, AreInOrder};
+    ghost use Rattle.std.specs.Prelude.{◌≡◌, ◌≤◌, ◌<◌, ◌^◌, []};
+    ghost use Rattle.std.specs.BinaryHeap.{heap_capacity, heap_items, heap_len};
+    ghost use Rattle.event_queue.specs.EventQueue.{Events};
+    ghost use Rattle.event_queue.specs.Kept.{AreWaiting};
+    ghost use Rattle.event_queue.specs.Waiting.{given_in_order};
 
     ghost Value = { Events T };
 
-    ghost view = { λ q. record { entries = q.entries.items; room = q.room } };
+    ghost view = { λ q. record { entries = given_in_order (heap_items q.waiting); room = q.room } };
 
-    ghost invariant = { λ q. AreInOrder q.entries.items × (vec_len q.entries ≤ q.room) × (q.room ≤ vec_capacity q.entries) × (q.room < 2 ^ 32) };
+    ghost invariant = { λ q. AreWaiting q.next (heap_items q.waiting) × AreWaiting 0 (heap_items q.spare)
+        × (heap_len q.waiting ≤ q.room) × (q.room ≤ heap_capacity q.waiting) × (q.room ≤ heap_capacity q.spare)
+        × (heap_len q.spare ≡ 0) × (q.room < 2 ^ 32) × (q.next < 2 ^ 64) };
 }
 
-// The place of the first entry that is later than this time, or else the end.
-fn find_place<T>(entries: &[(u64, T)], at: u64) -> usize
-    ensures { result ≡ place_after entries.now at }
+// Moves what waits to an empty heap with room for it, and numbers it from 0 on in the order in which it is
+// given.
+fn number_anew<T>(from: &mut BinaryHeap<Waiting<T>>, to: &mut BinaryHeap<Waiting<T>>, next: u64)
+    requires waiting { AreWaiting next (heap_items from.old) }
+    requires empty { AreWaiting 0 (heap_items to.old) × (heap_len to.old ≡ 0) }
+    requires room { heap_len from.old ≤ heap_capacity to.old }
+    requires few { heap_len from.old < 2 ^ 32 }
+    ensures same { given_in_order (heap_items to.new) ≡ given_in_order (heap_items from.old) }
+    ensures waiting { AreWaiting (heap_len from.old) (heap_items to.new) }
+    ensures empty { AreWaiting 0 (heap_items from.new) × (heap_len from.new ≡ 0) }
+    ensures count { heap_len to.new ≡ heap_len from.old }
+    ensures room { (heap_capacity from.new ≡ heap_capacity from.old) × (heap_capacity to.old ≤ heap_capacity to.new) }
 {
-    for (k, entry) in entries.iter().enumerate() {
-        if at < entry.0 {
-            return k;
-        }
+    let _ = next;
+    for order in 0..from.len() {
+        let Some(first) = from.pop() else {
+            unreachable!()
+        };
+        let Waiting { at, order: _, item } = first;
+        let order = order as u64;
+        to.push(Waiting { at, order, item }).unwrap();
     }
-    entries.len()
+}
+
+// The number of the next notification, and the one after it. Where the last number was taken, what waits is
+// numbered anew.
+fn take_number<T>(
+    waiting: &mut BinaryHeap<Waiting<T>>,
+    spare: &mut BinaryHeap<Waiting<T>>,
+    next: u64,
+    room: u32,
+) -> u64
+    requires waiting { AreWaiting next (heap_items waiting.old) }
+    requires spare { AreWaiting 0 (heap_items spare.old) × (heap_len spare.old ≡ 0) }
+    requires room { (heap_len waiting.old ≤ room) × (room ≤ heap_capacity waiting.old) × (room ≤ heap_capacity spare.old) }
+    ensures same { given_in_order (heap_items waiting.new) ≡ given_in_order (heap_items waiting.old) }
+    ensures waiting { AreWaiting result (heap_items waiting.new) }
+    ensures spare { AreWaiting 0 (heap_items spare.new) × (heap_len spare.new ≡ 0) }
+    ensures count { heap_len waiting.new ≡ heap_len waiting.old }
+    ensures room { (room ≤ heap_capacity waiting.new) × (room ≤ heap_capacity spare.new) }
+    ensures more { result + 1 < 2 ^ 64 }
+{
+    if next < u64::MAX {
+        return next;
+    }
+    let count = waiting.len() as u64;
+    number_anew(waiting, spare, next);
+    mem::swap(waiting, spare);
+    count
+}
+
+// The time of the first of these, where the numbers are below this one.
+fn first_at<T>(waiting: &BinaryHeap<Waiting<T>>, next: u64) -> Option<u64>
+    requires { AreWaiting next (heap_items waiting.now) }
+    ensures first { result ≡ first_time (given_in_order (heap_items waiting.now)) }
+    ensures least { IfSome result (λ time. All (λ e. time ≤ e.0) (given_in_order (heap_items waiting.now))) }
+    ensures empty { IsNone result ↔ (given_in_order (heap_items waiting.now) ≡ []) }
+{
+    let _ = next;
+    match waiting.peek() {
+        Some(first) => Some(first.at),
+        None => None,
+    }
 }
 
 impl<T> EventQueue<T> {
@@ -42,8 +110,17 @@ impl<T> EventQueue<T> {
     pub fn new(alloc: Global, room: u32) -> Result<EventQueue<T>, Memory>
         ensures { IfOk result (λ q. q ≡ record { entries = []; room = room }) }
     {
-        let entries = Vec::with_capacity(alloc, room as usize)?;
-        Ok(EventQueue { entries, room })
+        let waiting = BinaryHeap::with_capacity(alloc, room as usize)?;
+        let Ok(spare) = BinaryHeap::with_capacity(alloc, room as usize) else {
+            waiting.destroy_empty();
+            return Err(Memory);
+        };
+        Ok(EventQueue {
+            waiting,
+            spare,
+            next: 0,
+            room,
+        })
     }
 
     /// Adds an item that is to be given at this time, in picoseconds. It stands behind all entries whose
@@ -52,8 +129,9 @@ impl<T> EventQueue<T> {
         requires { length self.old.entries < self.old.room }
         ensures { self.new ≡ record self.old { entries = notified self.old.entries item at } }
     {
-        let place = find_place(&self.entries, at);
-        self.entries.insert(place, (at, item)).unwrap();
+        let order = take_number(&mut self.waiting, &mut self.spare, self.next, self.room);
+        self.next = order + 1;
+        self.waiting.push(Waiting { at, order, item }).unwrap();
     }
 
     /// Gives the first entry whose time is at most `now`, in picoseconds, with its time.
@@ -68,10 +146,13 @@ impl<T> EventQueue<T> {
         ensures first { IfSome result (λ given. self.old.entries ≡ given ∷ self.new.entries) }
         ensures room { self.new.room ≡ self.old.room }
     {
-        if self.entries.is_empty() || now < self.entries[0].0 {
+        let first = first_at(&self.waiting, self.next)?;
+        if now < first {
             return None;
         }
-        Some(self.entries.remove(0))
+        let given = self.waiting.pop()?;
+        let Waiting { at, order: _, item } = given;
+        Some((at, item))
     }
 
     /// The time of the first entry, in picoseconds, and nothing exactly where there is none.
@@ -80,10 +161,7 @@ impl<T> EventQueue<T> {
         ensures least { IfSome result (λ time. All (λ e. time ≤ e.0) self.now.entries) }
         ensures empty { IsNone result ↔ (self.now.entries ≡ []) }
     {
-        if self.entries.is_empty() {
-            return None;
-        }
-        Some(self.entries[0].0)
+        first_at(&self.waiting, self.next)
     }
 
     /// How many entries wait.
@@ -91,13 +169,13 @@ impl<T> EventQueue<T> {
         ensures count { result ≡ length self.now.entries }
         ensures within { result ≤ self.now.room }
     {
-        self.entries.len() as u32
+        self.waiting.len() as u32
     }
 
     pub fn is_empty(&self) -> bool
         ensures { IsTrue result ↔ (self.now.entries ≡ []) }
     {
-        self.entries.is_empty()
+        self.waiting.is_empty()
     }
 
     /// How many entries may wait at a time.

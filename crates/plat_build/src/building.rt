@@ -4,13 +4,13 @@ ghost use Rattle.plat_build.specs.Kept.{all_waiting, IsBlank};
 
 use crate::hops::make_hops;
 use crate::kept::Kept;
-use plat_net::{Net, PlatHistory, PlatNote, TlmLaw};
 use crate::memories::make_memories;
 use crate::objects::notes_of;
 use crate::opened::Opened;
 use crate::pools::make_pools;
 use crate::supplies::Supplies;
 use crate::wallets::empty_wallets;
+use plat_net::{Net, PlatHistory, PlatNote, TlmLaw};
 use route_plan::Plan;
 use shared_object::Naming;
 use std::alloc::{AllocError, Global};

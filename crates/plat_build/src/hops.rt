@@ -9,9 +9,9 @@ ghost use Rattle.plat_net.specs.Net.{AreHops, AreHopsTo, hop_numbers};
 ghost use Rattle.plat_net.specs.Objects.{frame_of};
 ghost use Rattle.plat_build.specs.Supplies.{IsSupply};
 
-use plat_net::{SharedHop, TlmLaw};
 use crate::supplies::{Supplies, Supply};
 use hop_object::{Hop, HopTraits};
+use plat_net::{SharedHop, TlmLaw};
 use route_plan::Plan;
 use shared_object::{Naming, Shared};
 use std::alloc::Global;

@@ -6,8 +6,8 @@ ghost use Rattle.plat_net.specs.Objects.{notes_of};
 ghost use Rattle.plat_build.specs.Tickets.{AreStocked, IsStocked};
 ghost use Rattle.plat_build.specs.Unused.{HaveTicketsFrom};
 
-use plat_net::{PlatNote, TlmLaw};
 use generic_payload::Payload;
+use plat_net::{PlatNote, TlmLaw};
 use route_plan::Plan;
 use script_engine::Engine;
 use shared_object::Naming;

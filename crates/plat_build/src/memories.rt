@@ -7,8 +7,8 @@ ghost use Rattle.plat_net.specs.Net.{AreMemories, memory_numbers};
 ghost use Rattle.plat_net.specs.Objects.{frame_of};
 ghost use Rattle.plat_build.specs.Supplies.{IsSupply};
 
-use plat_net::{SharedMemory, TlmLaw};
 use crate::supplies::{Supplies, Supply};
+use plat_net::{SharedMemory, TlmLaw};
 use region_object::Region;
 use route_plan::Plan;
 use shared_object::{Naming, Shared};

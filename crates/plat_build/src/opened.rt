@@ -2,8 +2,8 @@
 ghost use Rattle.std.specs.Prelude.{◌≡◌, IfOk};
 ghost use Rattle.plat_net.specs.Objects.{frame_of};
 
-use plat_net::{PlatHistory, PlatNote, PlatSeat};
 use crate::objects::{gates_of, notes_of, objects_of, planned_of};
+use plat_net::{PlatHistory, PlatNote, PlatSeat};
 use route_plan::Plan;
 use std::alloc::Global;
 use std::marker::Model;

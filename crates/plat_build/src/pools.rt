@@ -7,10 +7,10 @@ ghost use Rattle.plat_net.specs.Net.{ArePools, ArePoolsTo, pool_numbers};
 ghost use Rattle.plat_net.specs.Objects.{frame_of, HasObject, pools_start};
 ghost use Rattle.plat_build.specs.Supplies.{IsSupply};
 
-use plat_net::{SharedPool, TlmLaw};
 use crate::objects::has_pool;
 use crate::supplies::{Supplies, Supply};
 use payload_pool::Pool;
+use plat_net::{SharedPool, TlmLaw};
 use route_plan::Plan;
 use shared_object::{Naming, Shared};
 use std::alloc::Global;

@@ -5,8 +5,8 @@ ghost use Rattle.plat_net.specs.Objects.{HasObject};
 ghost use Rattle.plat_build.specs.Supplies.{IsSupply};
 ghost use Rattle.plat_build.specs.Tickets.{AreStocked};
 
-use plat_net::{PlatSeat, TlmLaw};
 use crate::wallets::issue_all;
+use plat_net::{PlatSeat, TlmLaw};
 use route_plan::Plan;
 use shared_object::Naming;
 use std::marker::{Model, PhantomData};

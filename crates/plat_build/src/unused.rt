@@ -7,8 +7,8 @@ ghost use Rattle.plat_net.specs.Objects.{frame_of, HasObject};
 ghost use Rattle.plat_build.specs.Unused.{added_by_all, AddUp, AreNumberedFrom, AreUnused, HaveTicketsFrom, IsThere, IsUnused};
 
 use crate::building::Built;
-use plat_net::{NetParts, PlatSeat, TlmLaw};
 use one_history::{Closed, Sealed};
+use plat_net::{NetParts, PlatSeat, TlmLaw};
 use route_plan::Plan;
 use shared_object::{Naming, Object, Shared, World};
 use std::alloc::{AllocError, Global};

@@ -7,3 +7,4 @@ pub mod WalkLemmas
 pub mod NoCycle
 pub mod Targets
 pub mod Given
+pub mod Forwarding

@@ -1,17 +1,21 @@
 // The calls at the hops of a net, and at the memories behind them.
-ghost use Rattle.std.specs.Prelude.{◌≡◌, ◌<◌, [], ◌∷◌, ◌++◌, length, IfSome};
+ghost use Rattle.std.specs.Prelude.{◌≡◌, ◌<◌, [], ◌∷◌, ◌++◌, length, slice_get, IfSome, IsSome};
+ghost use Rattle.std.specs.Option.{option_map};
 ghost use Rattle.view_lists.specs.Lists.{Within};
 ghost use Rattle.one_history.specs.Lists.{StandBelow};
 ghost use Rattle.shared_object.specs.Steps.{IsNote};
 ghost use Rattle.token_book.specs.Ticket.{IsTicket};
 ghost use Rattle.region_object.specs.declared.call.RegionReply.TheVariants.{Accessed};
+ghost use Rattle.route_plan.specs.Routes.{ends_of};
 ghost use Rattle.route_plan.specs.Valid.{hop_count};
 ghost use Rattle.hop_object.specs.Objects.{look_of};
 ghost use Rattle.hop_object.specs.declared.call.HopCall.TheVariants as Calls;
 ghost use Rattle.hop_object.specs.declared.call.HopReply.TheVariants as Replies;
+ghost use Rattle.flow_model.specs.Platform.{world_of};
 ghost use Rattle.cargo_net.specs.Answered.{IsAnsweredAs, answered_note, responded_reply};
 ghost use Rattle.cargo_net.specs.Ends.{HasEndedRequest, HasEndedResponse};
 ghost use Rattle.cargo_net.specs.Fetched.{HasFetchedRequest, HasFetchedResponse, down_reply, ended_reply, up_reply};
+ghost use Rattle.cargo_net.specs.Forwards.{HasForwarded, IsForwarded, forwarded_note};
 ghost use Rattle.cargo_net.specs.Hops.{HasAnswered};
 ghost use Rattle.cargo_net.specs.Memories.{HasServedCall};
 ghost use Rattle.cargo_net.specs.Serves.{access_call};
@@ -19,20 +23,81 @@ ghost use Rattle.cargo_net.specs.Tried.{IsTried, begun_reply, tried_note};
 ghost use Rattle.cargo_net.specs.Wallets.{item_given};
 ghost use Rattle.plat_net.specs.HopCalls.{CanBegin, CanEndRequest, CanEndResponse, CanRespond};
 ghost use Rattle.plat_net.specs.MemoryCalls.{CanServe, IsServedAt};
-ghost use Rattle.plat_net.specs.Places.{hop_place, memory_place};
+ghost use Rattle.plat_net.specs.Places.{hop_place, memory_behind, memory_place};
 
-use crate::law::{PlatNote, TlmLaw};
+use crate::law::{PlatNote, SharedMemory, TlmLaw};
 use crate::net::Net;
 use cargo_model::Cargo;
-use cargo_net::{Answered, FetchedRequest, FetchedResponse, Tried};
+use cargo_net::{Answered, FetchedRequest, FetchedResponse, Forwarded, Tried};
 use hop_object::Leg;
-use route_plan::Plan;
+use route_plan::{Down, HopEnds, Plan};
 use shared_object::Naming;
 use std::sync::Wait;
 use tlm_types::{Ps, TxnId};
 use token_book::Ticket;
 
 impl<N: Naming<Plan, TlmLaw>> Net<N> {
+    // What a hop leads to: the memory, if it is one, and the component's latency in picoseconds.
+    fn behind(&self, hop: u32) -> (Option<&SharedMemory<N>>, Ps)
+        requires hop { hop < hop_count self.now.platform }
+        ensures there { IsSome (slice_get (ends_of self.now.platform) hop) }
+        ensures memory { option_map (λ m. m.now.number) result.0 ≡ memory_behind self.now hop }
+        ensures latency { result.1 ≡ ((world_of self.now).hop hop).latency }
+    {
+        let Some(HopEnds { up: _, down }) = self.plan().hop_ends(hop) else {
+            unreachable!()
+        };
+        let platform = self.plan().platform();
+        match down {
+            Down::Memory(memory) => {
+                let row = &platform.memories.as_slice()[memory as usize];
+                (Some(self.memory(memory)), row.traits.latency)
+            }
+            Down::Router(router) => {
+                let row = &platform.routers.as_slice()[router as usize];
+                (None, row.latency)
+            }
+        }
+    }
+
+    /// Makes BEGIN_REQ on a hop with a payload, with a ticket of its own wallet (IEEE 1666-2011, clause
+    /// 15.2). It is tried at `at` picoseconds. Where the hop leads to a memory that gives the response with
+    /// its answer, its access is made in this call, after the hop's step; a router never answers so. `Busy`
+    /// comes exactly where a request is open on the hop or no lane is free: no entry is made, and payload
+    /// and tickets come back. It can't fail otherwise.
+    pub fn forward<R: Wait>(
+        &self,
+        rt: &R,
+        hop: u32,
+        note: PlatNote,
+        cargo: Cargo,
+        at: Ps,
+    ) -> Forwarded
+        requires hop { hop < hop_count N.frame.world.platform }
+        requires note { IsNote N.table note }
+        requires can { CanBegin N.frame N.tokens hop cargo at note.knows.known }
+        ensures note { IsNote N.table (forwarded_note result) }
+        ensures knew { Within note.knows.known (forwarded_note result).knows.known }
+        ensures below { StandBelow (forwarded_note result).knows.known (forwarded_note result).knows.seen }
+        ensures answer { HasForwarded N.frame N.tokens (hop_place N.frame.world hop) hop cargo at note.knows (forwarded_note result).knows result }
+        ensures forwarded { (can : CanBegin N.frame N.tokens hop cargo at note.knows.known) →
+            IsForwarded N.frame N.tokens (hop_place N.frame.world hop) (memory_behind N.frame.world hop) ((world_of N.frame.world).hop hop).latency cargo at can.pass can.hop note.knows result }
+    {
+        let _ = self.plan().platform();
+        let (memory, latency) = self.behind(hop);
+        cargo_net::forward(
+            self.hop(hop),
+            memory,
+            latency,
+            rt,
+            self.history(),
+            self.tickets(),
+            note,
+            cargo,
+            at,
+        )
+    }
+
     /// Makes BEGIN_REQ on a hop with a payload, with a ticket of its own wallet (IEEE 1666-2011, clause
     /// 15.2), and leaves the access at the memory, where the response comes by return, to the caller. It is
     /// tried at `at` picoseconds. `Busy` comes exactly where a request is open on the hop or no lane is free:

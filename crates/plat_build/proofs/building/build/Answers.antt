@@ -6,6 +6,7 @@ use Rattle.plat_build.specs.Opened.{OpenedView}
 use Rattle.plat_build.specs.Tickets.{AreStocked}
 use Rattle.plat_build.proofs.BuildLemmas.{may_build}
 use Rattle.plat_net.proofs.ObjectLemmas.{few_objects}
+use Rattle.plat_net.specs.Objects.{frame_of}
 use Rattle.plat_build.proofs.building.build.Goals as goal
 
 pub overflow_cast-len : goal.overflow_cast-len
@@ -91,4 +92,4 @@ of_parts-net-requires-clause-frame g c =
     let frame = ap (λ (x : OpenedView). x.frame) c.opened.view_is ∙ c.requires.history.1 in
     let tokens = ap (λ (x : OpenedView). x.tokens) c.opened.view_is ∙ c.requires.tickets in
     let may = may_build g.N.Naming.table g.N.Naming.tokens g.N.Naming.frame c.args.plan.now o.history.table o.tickets o.history.frame o.seats.items o.note o.books.items c.opened.invariant table frame tokens c.requires.plan c.platform.ensures.valid.shape.bounded in
-    may.made
+    subst (λ (q : Plan). g.N.Naming.frame ≡ frame_of q) (sym c.in_ok-copy.ensures) may.made
