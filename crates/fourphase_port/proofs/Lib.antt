@@ -1,0 +1,9 @@
+mod AwayLemmas
+mod WalletLemmas
+mod PortFacts
+mod HandsMore
+mod Goes
+mod FirstHop
+mod Backs
+mod Downs
+mod Scripts

@@ -1,0 +1,43 @@
+use Rattle.std.proofs.Common.{ap, ◌∙◌, inl, inr, sym}
+use Rattle.cargo_net.specs.declared.requests.Tried.TheVariants.{Left, Now, Busy}
+use Rattle.fourphase_port.specs.Moved.{after_begin}
+use Rattle.fourphase_port.specs.State.{StateView}
+use Rattle.fourphase_port.proofs.Backs.{goes_free}
+use Rattle.fourphase_port.proofs.Downs.{begins_left, begins_now, busy_port, finds_busy, may_begin_at, now_port, tried_here}
+use Rattle.fourphase_port.proofs.state.PortState.begin.Goals as goal
+
+pub begin_req-requires-clause-may : goal.begin_req-requires-clause-may
+begin_req-requires-clause-may g c = may_begin_at g.N.Naming.table g.N.Naming.tokens g.N.Naming.frame c.args.self.now c.args.note c.requires.port c.args.cargo c.requires.ready c.initiator-initiator.result c.self.inside.time (c.initiator-initiator.ensures ∙ ap (λ (t : StateView). t.port.engine.initiator) c.self.view_is) (ap (λ (t : StateView). t.port.time) c.self.view_is)
+
+pub returns-in-Left-clause-port : goal.returns-in-Left-clause-port
+returns-in-Left-clause-port g c = goes_free g.N.Naming.table g.N.Naming.tokens g.N.Naming.frame c.args.self.now c.args.note c.requires.port c.in-Left.note c.in-Left.ensures.note c.in-Left.ensures.knew c.in-Left.ensures.below c.requires.free.0
+
+pub returns-in-Left-clause-begun : goal.returns-in-Left-clause-begun
+returns-in-Left-clause-begun g c = inl (
+  begins_left g.N.Naming.table g.N.Naming.tokens g.N.Naming.frame c.args.self.now c.args.note c.requires.port c.args.cargo c.requires.ready c.in-Left.note c.in-Left.ensures.note c.in-Left.ensures.knew c.in-Left.ensures.below c.requires.free.1 c.in-Left.answer c.in-Left.at c.requires.free.0 (tried_here g.N.Naming.table g.N.Naming.tokens g.N.Naming.frame c.args.self.now c.args.note c.requires.port c.args.cargo c.requires.ready (Left c.in-Left.answer c.in-Left.at c.in-Left.note) c.initiator-initiator.result c.self.inside.time (c.initiator-initiator.ensures ∙ ap (λ (t : StateView). t.port.engine.initiator) c.self.view_is) (ap (λ (t : StateView). t.port.time) c.self.view_is) c.in-Left.ensures.tried),
+  c.ends.ensures ∙ ap after_begin (sym c.requires.free.0),
+)
+
+pub returns-in-Now-clause-port : goal.returns-in-Now-clause-port
+returns-in-Now-clause-port g c =
+    now_port g.N.Naming.table g.N.Naming.tokens g.N.Naming.frame c.args.self.now c.args.note c.requires.port c.args.cargo c.requires.ready c.in-Now.note c.in-Now.ensures.note c.in-Now.ensures.knew c.in-Now.ensures.below c.requires.free.1 c.turn_to.new.self c.in-Now.answer c.in-Now.at c.in-Now.leg c.in-Now.cargo c.turn_to.ensures
+    (tried_here g.N.Naming.table g.N.Naming.tokens g.N.Naming.frame c.args.self.now c.args.note c.requires.port c.args.cargo c.requires.ready (Now c.in-Now.answer c.in-Now.at c.in-Now.leg c.in-Now.cargo c.in-Now.note) c.initiator-initiator.result c.self.inside.time (c.initiator-initiator.ensures ∙ ap (λ (t : StateView). t.port.engine.initiator) c.self.view_is) (ap (λ (t : StateView). t.port.time) c.self.view_is) c.in-Now.ensures.tried)
+
+pub returns-in-Now-clause-begun : goal.returns-in-Now-clause-begun
+returns-in-Now-clause-begun g c = inl (
+  begins_now g.N.Naming.table g.N.Naming.tokens g.N.Naming.frame c.args.self.now c.args.note c.requires.port c.args.cargo c.requires.ready c.in-Now.note c.in-Now.ensures.note c.in-Now.ensures.knew c.in-Now.ensures.below c.requires.free.1 c.turn_to.new.self c.in-Now.answer c.in-Now.at c.in-Now.leg c.in-Now.cargo c.turn_to.ensures
+      (tried_here g.N.Naming.table g.N.Naming.tokens g.N.Naming.frame c.args.self.now c.args.note c.requires.port c.args.cargo c.requires.ready (Now c.in-Now.answer c.in-Now.at c.in-Now.leg c.in-Now.cargo c.in-Now.note) c.initiator-initiator.result c.self.inside.time (c.initiator-initiator.ensures ∙ ap (λ (t : StateView). t.port.engine.initiator) c.self.view_is) (ap (λ (t : StateView). t.port.time) c.self.view_is) c.in-Now.ensures.tried),
+  c.made.ensures ∙ ap (λ (t : StateView). after_begin t.hand) (sym c.turn_to.ensures),
+)
+
+pub returns-in-Busy-clause-port : goal.returns-in-Busy-clause-port
+returns-in-Busy-clause-port g c =
+    busy_port g.N.Naming.table g.N.Naming.tokens g.N.Naming.frame c.args.self.now c.args.note c.requires.port c.args.cargo c.requires.ready c.in-Busy.note c.in-Busy.ensures.note c.in-Busy.ensures.knew c.in-Busy.ensures.below c.requires.free.1 c.hold.new.self c.in-Busy.holder c.in-Busy.live c.in-Busy.cargo c.requires.free.0 c.hold.ensures
+    (tried_here g.N.Naming.table g.N.Naming.tokens g.N.Naming.frame c.args.self.now c.args.note c.requires.port c.args.cargo c.requires.ready (Busy c.in-Busy.holder c.in-Busy.live c.in-Busy.cargo c.in-Busy.note) c.initiator-initiator.result c.self.inside.time (c.initiator-initiator.ensures ∙ ap (λ (t : StateView). t.port.engine.initiator) c.self.view_is) (ap (λ (t : StateView). t.port.time) c.self.view_is) c.in-Busy.ensures.tried)
+
+pub returns-in-Busy-clause-begun : goal.returns-in-Busy-clause-begun
+returns-in-Busy-clause-begun g c = inr (
+  finds_busy g.N.Naming.table g.N.Naming.tokens g.N.Naming.frame c.args.self.now c.args.note c.requires.port c.args.cargo c.requires.ready c.in-Busy.note c.in-Busy.ensures.note c.in-Busy.ensures.knew c.in-Busy.ensures.below c.requires.free.1 c.hold.new.self c.in-Busy.holder c.in-Busy.live c.in-Busy.cargo c.requires.free.0 c.hold.ensures
+      (tried_here g.N.Naming.table g.N.Naming.tokens g.N.Naming.frame c.args.self.now c.args.note c.requires.port c.args.cargo c.requires.ready (Busy c.in-Busy.holder c.in-Busy.live c.in-Busy.cargo c.in-Busy.note) c.initiator-initiator.result c.self.inside.time (c.initiator-initiator.ensures ∙ ap (λ (t : StateView). t.port.engine.initiator) c.self.view_is) (ap (λ (t : StateView). t.port.time) c.self.view_is) c.in-Busy.ensures.tried),
+  c.ends-in-Busy.ensures,
+)

@@ -1,0 +1,22 @@
+use Rattle.std.proofs.Common.{ℕ, sym, ap, subst, ◌∙◌}
+use Rattle.tlm_types.specs.declared.words.ObjectNo.TheVariants.{Pool}
+use Rattle.flow_model.specs.Events.{Among}
+use Rattle.cargo_model.specs.Known.{objects_of}
+use Rattle.fourphase_port.specs.State.{StateView}
+use Rattle.fourphase_port.proofs.Backs.{goes_free, own_pool_there}
+use Rattle.fourphase_port.proofs.state.PortState.finish.Goals as goal
+
+pub returns-then-live-eq0-clause-port : goal.returns-then-live-eq0-clause-port
+returns-then-live-eq0-clause-port g c =
+    let e = c.live-live.ensures in
+    goes_free g.N.Naming.table g.N.Naming.tokens g.N.Naming.frame c.args.self.now c.args.note c.requires.port c.live-live.result.1 e.note e.knew e.below c.requires.free.0
+
+pub returns-clause-port : goal.returns-clause-port
+returns-clause-port g c =
+    let e = c.live-live.ensures in
+    goes_free g.N.Naming.table g.N.Naming.tokens g.N.Naming.frame c.args.self.now c.args.note c.requires.port c.live-live.result.1 e.note e.knew e.below c.requires.free.0
+
+pub live-live-requires-clause-pool : goal.live-live-requires-clause-pool
+live-live-requires-clause-pool g c =
+    subst (λ (n : ℕ). Among (objects_of g.N.Naming.frame.world.platform) (Pool n)) (sym (c.initiator.ensures ∙ ap (λ (t : StateView). t.port.engine.initiator) c.self.view_is))
+    (own_pool_there g.N.Naming.table g.N.Naming.tokens g.N.Naming.frame c.args.self.now c.args.note c.requires.port)

@@ -1,0 +1,54 @@
+// Tickets that move between the wallet of a port and that of a payload.
+ghost use Rattle.std.specs.Prelude.{◌≡◌, ℕ, ◌<◌, ◌≤◌};
+ghost use Rattle.token_book.specs.Account.{amount_of};
+ghost use Rattle.token_book.specs.Purse.{HasRoom, IsOf, bytes_of, left_of};
+ghost use Rattle.token_book.specs.Ticket.{IsTicket};
+ghost use Rattle.fourphase_port.specs.Wallets.{Gets, Gives};
+
+use token_book::{Ticket, Tokens, Wallet};
+
+// Moves one ticket of an object, for so many bytes.
+fn hand_one(tickets: &Tokens, from: &mut Wallet, to: &mut Wallet, object: u32, bytes: u64)
+    requires tables { IsOf tickets.now from.old × IsOf tickets.now to.old }
+    requires left { 0 < left_of from.old object }
+    requires bytes { bytes ≤ bytes_of from.old object }
+    requires room { HasRoom to.old object }
+    ensures from { Gives tickets.now object 1 bytes from.old from.new }
+    ensures to { Gets tickets.now object 1 bytes to.old to.new }
+{
+    let Ticket { entry, bytes } = from.pull(tickets, object, bytes);
+    to.put(tickets, entry);
+    if let Some(bytes) = bytes {
+        to.put(tickets, bytes);
+    }
+}
+
+/// Moves so many tickets of an object, which are for no bytes.
+#[tactic(auto, using(crate::proofs::WalletLemmas::gives_more, crate::proofs::WalletLemmas::gets_more, crate::proofs::WalletLemmas::room_got))]
+pub(crate) fn hand_over(
+    tickets: &Tokens,
+    from: &mut Wallet,
+    to: &mut Wallet,
+    object: u32,
+    count: u64,
+)
+    requires tables { IsOf tickets.now from.old × IsOf tickets.now to.old }
+    requires left { count ≤ left_of from.old object }
+    requires room { HasRoom to.old object }
+    ensures from { Gives tickets.now object count 0 from.old from.new }
+    ensures to { Gets tickets.now object count 0 to.old to.new }
+{
+    for _moved in 0..count {
+        hand_one(tickets, from, to, object, 0);
+    }
+}
+
+/// Puts a ticket that wasn't spent back.
+pub(crate) fn put_back(tickets: &Tokens, wallet: &mut Wallet, ticket: Ticket)
+    requires of { IsOf tickets.now wallet.old }
+    requires object { (object : ℕ) × IsTicket tickets.now object ticket × HasRoom wallet.old object × (amount_of ticket.bytes ≡ 0) }
+    ensures back { (object : ℕ) → IsTicket tickets.now object ticket → Gets tickets.now object 1 0 wallet.old wallet.new }
+{
+    let Ticket { entry, bytes: _ } = ticket;
+    wallet.put(tickets, entry);
+}
