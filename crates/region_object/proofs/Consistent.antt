@@ -1,5 +1,5 @@
 -- A memory stays consistent with one more access.
-use Rattle.std.proofs.Common.{◌≡◌, ℕ, ◌+◌, ◌-◌, ◌<◌, IsTrue, false, List, [], ◌∷◌, ◌++◌, length, refl, sym, ap, ◌∙◌, arith}
+use Rattle.std.proofs.Common.{◌≡◌, ℕ, ◌+◌, ◌-◌, ◌<◌, IsTrue, true, false, List, [], ◌∷◌, ◌++◌, length, refl, sym, ap, ◌∙◌, arith}
 use Rattle.std.specs.Prelude.{slice_set}
 use Rattle.tlm_model.specs.Log.{bytes_after, log_bytes, AnswersByBytes}
 use Rattle.std.proofs.lemmas.List.Elements.{All-append, All-cons, All-nil}
@@ -52,11 +52,11 @@ module _ (number : ℕ) (m : MemoryTraits) (bytes : List ℕ) (gates : GatesView
   pub tells_invalidation : (first last : ℕ) → IsConsistent number m bytes gates (log ++ entry_at head (Invalidated first last) ∷ [])
   tells_invalidation first last = told (Invalidated first last) gates refl refl tt refl tt (holds_quiet m gates log before.holds (entry_at head (Invalidated first last)) refl (λ g. (refl, refl)))
 
-  pub tells_grant : gates.given < length gates.gates → IsConsistent number m bytes (record { first = gates.first; gates = slice_set gates.gates gates.given (Given head.position); given = gates.given + 1 }) (log ++ entry_at head (Granted (gates.first + gates.given) 0 (m.size - 1) (allowed_kind m.readable m.writable)) ∷ [])
-  tells_grant left =
+  pub tells_grant : m.dmi ≡ true → gates.given < length gates.gates → IsConsistent number m bytes (record { first = gates.first; gates = slice_set gates.gates gates.given (Given head.position); given = gates.given + 1 }) (log ++ entry_at head (Granted (gates.first + gates.given) 0 (m.size - 1) (allowed_kind m.readable m.writable)) ∷ [])
+  tells_grant dmi left =
       let h = before.holds in
       told (Granted (gates.first + gates.given) 0 (m.size - 1) (allowed_kind m.readable m.writable)) (record { first = gates.first; gates = slice_set gates.gates gates.given (Given head.position); given = gates.given + 1 }) refl refl tt refl
-      ((let c = h.count in omega arith), (let c = h.count in let l = h.long in omega arith), refl, refl, refl)
+      ((let c = h.count in omega arith), (let c = h.count in let l = h.long in omega arith), refl, refl, refl, dmi)
       (holds_given m gates log h head (allowed_kind m.readable m.writable) left)
 
   pub tells_closing : (gate : ℕ) → IsTrue (is_given gate log) → is_closed gate log ≡ false → IsConsistent number m bytes (record { first = gates.first; gates = slice_set gates.gates (gate - gates.first) Shut; given = gates.given }) (log ++ entry_at head (Closed gate) ∷ [])

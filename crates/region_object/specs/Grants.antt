@@ -80,8 +80,8 @@ allows Both Write = true
 allows kind Ignore = false
 allows kind FetchAdd = false
 
--- a grant takes the least gate that was never given, and is of the whole memory and of the kind that it allows; a closing is the first
--- of a gate that was given
+-- a grant is given where the memory grants direct access, takes the least gate that was never given, and is of the whole memory and of the
+-- kind that it allows; a closing is the first of a gate that was given
 abbrev pub IsGrantStep : ℕ → MemoryTraits → List Entry → What → Type 0
 IsGrantStep first_gate m before (Granted gate first last kind) =
     (gate ≡ first_gate + grants_in before)
@@ -89,6 +89,7 @@ IsGrantStep first_gate m before (Granted gate first last kind) =
     × (first ≡ 0)
     × (last ≡ m.size - 1)
     × (kind ≡ allowed_kind m.readable m.writable)
+    × (m.dmi ≡ true)
 IsGrantStep first_gate m before (Closed gate) = IsTrue (is_given gate before) × (is_closed gate before ≡ false)
 IsGrantStep first_gate m before w = Unit {0}
 

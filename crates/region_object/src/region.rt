@@ -313,6 +313,7 @@ impl Region {
 
     // Gives the next gate.
     fn give(&mut self, position: u64, txn: TxnId, time: Ps) -> RegionReply
+        requires dmi { self.old.traits.dmi ≡ true }
         requires allowed { (self.old.traits.readable ≡ true) ⊎ (self.old.traits.writable ≡ true) }
         requires left { grants_in self.old.log.entries < self.old.traits.gates }
         requires room { length self.old.log.entries < self.old.log.room }

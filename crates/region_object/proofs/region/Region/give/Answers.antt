@@ -1,4 +1,4 @@
-use Rattle.std.proofs.Common.{◌≡◌, ◌<◌, ◌+◌, ◌-◌, ◌++◌, ◌∷◌, [], length, refl, sym, ap, ◌∙◌, arith}
+use Rattle.std.proofs.Common.{◌≡◌, ◌<◌, ◌+◌, ◌-◌, ◌++◌, ◌∷◌, [], length, true, refl, sym, ap, ◌∙◌, arith}
 use Rattle.tlm_types.specs.declared.words.ObjectNo.TheVariants.{Memory}
 use Rattle.tlm_types.specs.declared.entry.Head.{Head}
 use Rattle.tlm_types.specs.declared.entry.What.TheVariants.{Granted}
@@ -17,5 +17,6 @@ invariant_of-self c =
     let here = ap (λ (h : Head). h.object) c.head-head.ensures ∙ ap (λ (m : LoggedMemory). Memory m.number) (sym c.self.view_is) in
     let few : grants_in s.log.entries < s.traits.gates = let l = ap (λ (m : LoggedMemory). grants_in m.log.entries) c.self.view_is in let g = ap (λ (m : LoggedMemory). m.traits.gates) c.self.view_is in let left = c.requires.left in omega arith in
     let left : s.gates.given < length s.gates.gates = let n = c.self.invariant.holds.count in let l = c.self.invariant.holds.long in omega arith in
+    let dmi : s.traits.dmi ≡ true = ap (λ (m : LoggedMemory). m.traits.dmi) c.self.view_is ∙ c.requires.dmi in
     let position : head.position ≡ c.args.position = ap (λ (h : Head). h.position) c.head-head.ensures in
-    rw (log, c.give-gate.ensures.given, ← position) (tells_grant s.number s.traits s.store.items s.gates s.log.entries c.self.invariant head here left)
+    rw (log, c.give-gate.ensures.given, ← position) (tells_grant s.number s.traits s.store.items s.gates s.log.entries c.self.invariant head here dmi left)

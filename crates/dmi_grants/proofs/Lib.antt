@@ -1,0 +1,9 @@
+pub mod Lists
+pub mod Known
+pub mod Counts
+pub mod Tickets
+pub mod GateNumbers
+pub mod Uses
+pub mod Endings
+pub mod Lifting
+pub mod Asks

@@ -1,0 +1,45 @@
+-- Tickets that are taken out of a wallet, and put back.
+use Rattle.std.proofs.Common.{◌≡◌, ℕ, ◌+◌, ◌≤◌, length, refl, sym, ◌∙◌, subst, ⊎_elim, arith}
+use Rattle.view_lists.specs.Lists.{Has}
+use Rattle.atomic_table.specs.Seated.{TableId}
+use Rattle.token_book.specs.Account.{Slip}
+use Rattle.token_book.specs.Purse.{Purse, HasPlace, HasRoom, pulled, put_in}
+use Rattle.token_book.proofs.Rooms.{place-pulled, place-put_in, room_within}
+use Rattle.dmi_grants.specs.Made.{HasSpent, IsRoomyFor}
+
+pub roomy_pulled : (table : TableId) (w v : Purse) (m bytes : ℕ) → v ≡ pulled table w m bytes → IsRoomyFor m w → IsRoomyFor m v
+roomy_pulled table w v m bytes is room = record {
+  objects = room.objects;
+  few = subst (λ (u : Purse). length room.objects ≤ u.places) (sym is) room.few;
+  all = λ q has. ⊎_elim
+      (λ (same : q ≡ m). subst (λ (k : ℕ). Has room.objects k) (sym same) room.has)
+      (λ (held : HasPlace w q). room.all q held)
+      (place-pulled table w m bytes q (subst (λ (u : Purse). HasPlace u q) is has));
+  has = room.has;
+}
+
+pub roomy_put : (w v : Purse) (m : ℕ) (t : Slip) → v ≡ put_in w t → t.owner ≡ m → IsRoomyFor m w → IsRoomyFor m v
+roomy_put w v m t is own room = record {
+  objects = room.objects;
+  few = subst (λ (u : Purse). length room.objects ≤ u.places) (sym is) room.few;
+  all = λ q has. ⊎_elim
+      (λ (same : q ≡ t.owner). subst (λ (k : ℕ). Has room.objects k) (sym (same ∙ own)) room.has)
+      (λ (held : HasPlace w q). room.all q held)
+      (place-put_in w t q (subst (λ (u : Purse). HasPlace u q) is has));
+  has = room.has;
+}
+
+pub has_room : (w : Purse) (m o : ℕ) → o ≡ m → IsRoomyFor m w → HasRoom w o
+has_room w m o is room = room_within w room.objects room.few room.all o (subst (λ (k : ℕ). Has room.objects k) (sym is) room.has)
+
+-- what is spent one after the other is spent together
+pub spent_both : (m a b : ℕ) (x y z : Purse) → HasSpent m a x y → HasSpent m b y z → HasSpent m (a + b) x z
+spent_both m a b x y z first second = record {
+  places = second.places ∙ first.places;
+  here = (let f = first.here in let s = second.here in omega arith);
+  others = λ o other. second.others o other ∙ first.others o other;
+  bytes = λ o. second.bytes o ∙ first.bytes o;
+}
+
+pub spent_none : (m : ℕ) (x : Purse) → HasSpent m 0 x x
+spent_none m x = record { places = refl; here = omega arith; others = λ o other. refl; bytes = λ o. refl }

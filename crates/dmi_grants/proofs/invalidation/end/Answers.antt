@@ -1,0 +1,25 @@
+use Rattle.std.proofs.Common.{◌≡◌, ℕ, List, ◌∷◌, refl, sym, ap, ◌∙◌, subst}
+use Rattle.view_lists.specs.Lists.{Has}
+use Rattle.one_history.specs.declared.entry.Entry.{Entry}
+use Rattle.one_history.specs.declared.view.View.{View}
+use Rattle.shared_object.specs.Written.{written_at}
+use Rattle.tlm_types.specs.declared.entry.Content.{Content}
+use Rattle.tlm_model.specs.Plan.{Plan}
+use Rattle.region_object.specs.Call.{IsCloseFit}
+use Rattle.dmi_grants.proofs.Known.{close_fits}
+use Rattle.dmi_grants.proofs.Endings.{closed_by}
+use Rattle.dmi_grants.proofs.invalidation.end.Goals as goal
+
+pub make_paid-note-requires-clause-may : goal.make_paid-note-requires-clause-may
+make_paid-note-requires-clause-may g c =
+    let same : c.drain.new.note.knows.known ≡ c.args.note.knows.known = ap (λ (v : View Content Plan). v.known) c.drain.ensures.drained ∙ ap (λ (v : View Content Plan). v.known) c.mark.ensures.void in
+    let shut : c.drain.new.note.knows.drained ≡ c.args.gate ∷ c.mark.new.note.knows.drained = ap (λ (v : View Content Plan). v.drained) c.drain.ensures.drained in (
+      subst (λ (l : List (Entry Content)). IsCloseFit (written_at c.args.memory l) c.args.gate) (sym same) (close_fits (written_at c.args.memory c.args.note.knows.known) c.args.gate c.requires.granted),
+      subst (λ (l : List ℕ). Has l c.args.gate) (sym shut) (0, refl),
+      c.requires.passage,
+    )
+
+pub returns-clause-closed : goal.returns-clause-closed
+returns-clause-closed g c =
+    let same : c.drain.new.note.knows.known ≡ c.args.note.knows.known = ap (λ (v : View Content Plan). v.known) c.drain.ensures.drained ∙ ap (λ (v : View Content Plan). v.known) c.mark.ensures.void in
+    closed_by g.N.Naming.frame c.args.memory c.requires.memory c.args.txn c.args.at c.args.gate c.args.note.knows c.drain.new.note.knows c.make_paid-note.result.2.knows c.make_paid-note.result.0 c.args.wallet.now c.make_paid-note.new.wallet c.make_paid-note.result.1 same c.make_paid-note.ensures.made c.make_paid-note.ensures.spent

@@ -1,0 +1,6 @@
+pub mod Asking
+pub mod Invalidating
+pub mod Made
+pub mod Ranges
+pub mod Table
+pub mod Using

@@ -1,0 +1,114 @@
+// A wish for a grant.
+ghost use Rattle.std.specs.Prelude.{◌≡◌, ◌<◌, IsSomeAnd, length};
+ghost use Rattle.std.specs.Option.{ForSome};
+ghost use Rattle.shared_object.specs.Steps.{IsNote};
+ghost use Rattle.token_book.specs.Purse.{IsOf};
+ghost use Rattle.region_object.specs.Call.{IsReadOrWrite};
+ghost use Rattle.plat_net.specs.Calls.{HasNoPassage, route_at};
+ghost use Rattle.dmi_grants.specs.Asking.{HasAsked, MayAsk};
+ghost use Rattle.dmi_grants.specs.Made.{IsRoomyFor};
+
+use crate::made::make_paid;
+use crate::range::{Lifted, addresses};
+use crate::table::{GrantTable, Held};
+use plat_net::{Net, PlatNote, TlmLaw};
+use region_object::{Denial, RegionCall, RegionReply};
+use route_plan::Plan;
+use shared_object::Naming;
+use std::sync::Wait;
+use tlm_types::{Command, Ps, TxnId};
+use token_book::Wallet;
+
+/// What a wish for a grant answers: the index at which the grant is held, or why there is none.
+#[derive(Clone, Copy, Debug, PartialEq, Eq)]
+pub enum Asked {
+    Held(u32),
+    Denied(Denial),
+}
+
+impl GrantTable {
+    /// Wishes for direct access by this command at the memory that the address leads to, and holds the
+    /// grant (`get_direct_mem_ptr`, clause 11.2.5), which is one entry, at the time `at`, in picoseconds. The
+    /// addresses that it covers are those that lead into the grant's range: the range is translated up and
+    /// cut to the windows on the way. It is to be called right after an access that was OK and had the DMI
+    /// hint. The address has a route to an offset below the memory's size, and the table has a free place for
+    /// each gate of that memory that it doesn't hold. A ticket of the memory is needed unless all its gates
+    /// are known to be given, and it is spent where a grant is given.
+    pub fn ask<N: Naming<Plan, TlmLaw>, R: Wait>(
+        &mut self,
+        net: &Net<N>,
+        rt: &R,
+        who: u32,
+        command: Command,
+        address: u64,
+        note: PlatNote,
+        wallet: &mut Wallet,
+        txn: TxnId,
+        at: Ps,
+    ) -> (Asked, PlatNote)
+        requires who { who < length N.frame.world.platform.initiators }
+        requires command { IsReadOrWrite command }
+        requires passage { HasNoPassage N.frame.world txn }
+        requires note { IsNote N.table note }
+        requires wallet { IsOf N.tokens wallet.old }
+        requires may { IsSomeAnd (route_at N.frame.world who address) (MayAsk N.frame.world command self.old note.knows wallet.old) }
+
+        // What happened at the memory, what the table holds then, and the ticket that was spent.
+        ensures asked { ForSome (route_at N.frame.world who address) (λ route.
+            HasAsked N.frame who command address route txn at self.old self.new note.knows result.1.knows wallet.old wallet.new result.0) }
+
+        // What comes back.
+        ensures note { IsNote N.table result.1 }
+        ensures wallet { IsOf N.tokens wallet.new }
+        ensures room { ForSome (route_at N.frame.world who address) (λ route. IsRoomyFor route.memory wallet.new) }
+    {
+        let Some(route) = net.plan().route(who, address) else {
+            unreachable!()
+        };
+        if wallet.left(route.memory) == 0 {
+            return (Asked::Denied(Denial::GatesSpent), note);
+        }
+        let call = RegionCall::Grant {
+            txn,
+            time: at,
+            command,
+        };
+        let (reply, position, note) = make_paid(net, rt, route.memory, note, wallet, call);
+        match reply {
+            RegionReply::Granted {
+                gate,
+                first,
+                last,
+                kind,
+            } => {
+                let Some(position) = position else {
+                    unreachable!()
+                };
+                let Lifted { low, high, base } = addresses(
+                    net.plan(),
+                    who,
+                    address,
+                    route,
+                    first,
+                    last,
+                );
+                let which = self.hold(Held {
+                    gate,
+                    memory: route.memory,
+                    first,
+                    last,
+                    kind,
+                    position,
+                    txn,
+                    time: at,
+                    low,
+                    high,
+                    base,
+                });
+                (Asked::Held(which), note)
+            }
+            RegionReply::Denied(denial) => (Asked::Denied(denial), note),
+            _ => unreachable!(),
+        }
+    }
+}

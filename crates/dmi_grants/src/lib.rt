@@ -1,0 +1,30 @@
+//! Direct access to memories (IEEE 1666-2011, clause 11.2): the grants that an initiator holds, their use,
+//! and invalidation.
+//!
+//! - A `GrantTable` has the grants of one direct initiator, each with the addresses of the initiator that
+//!   lead into it. `find` answers the first that covers an access.
+//! - `ask` wishes for a grant after an access, and holds it. `use_grant` makes an access through the gate
+//!   of a grant, or finds the grant stale and drops it.
+//! - `invalidate` tells an invalidation and ends the grants that it overlaps: it marks each gate, waits
+//!   until nobody is inside, and closes it.
+//!
+//! Promises: a grant is held with just the range that the memory gave, translated up and cut to the windows
+//! on the way. A direct access is one entry, after its grant and before any closing of its gate, with status
+//! OK. A grant is found stale only where an invalidation that overlaps it is known after it. When `invalidate`
+//! returns, the closing of each grant that it overlaps and that was given before it is known. No call takes
+//! memory but the making of a table.
+#![tactic(auto)]
+
+mod access;
+mod ask;
+mod invalidation;
+mod made;
+mod range;
+mod table;
+#[cfg(test)]
+mod tests;
+
+pub use access::UseOf;
+pub use ask::Asked;
+pub use invalidation::invalidate;
+pub use table::{GrantTable, Held};
