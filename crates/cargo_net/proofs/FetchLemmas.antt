@@ -185,6 +185,7 @@ module _ (frame : Frame Plan) (tokens : TableId) (number own : ℕ) (note back :
         };
         fits = fits;
         responds = still_to_come (row_of (world_of p) v.pass v.hop) sent.answer r.state fits sent.leads open_lane;
+        leads = sent.leads;
       }
 
   -- the leg that comes with a response is that of the lane of x

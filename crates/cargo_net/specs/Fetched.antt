@@ -11,7 +11,8 @@ use Rattle.tlm_types.specs.declared.words.RespMode.TheVariants.{Accept, EndResp,
 use Rattle.tlm_types.specs.declared.words.TlmSync.{TlmSync}
 use Rattle.tlm_types.specs.declared.words.TxnId.{TxnId}
 use Rattle.tlm_model.specs.Plan.{Plan}
-use Rattle.base_phases.specs.declared.phases.LaneState.TheVariants.{Requested, Waiting, Responding}
+use Rattle.base_phases.specs.declared.phases.LaneState.TheVariants.{Free, Requested, Waiting, Responding}
+use Rattle.base_phases.specs.Phases.{next_state}
 use Rattle.token_book.specs.Account.{Slip}
 use Rattle.hop_model.specs.Answers.{response_answer}
 use Rattle.flow_model.specs.World.{Passage, hop_at, row_of}
@@ -45,7 +46,7 @@ down_reply None = Down None
 down_reply (Some r) = Down (Some (r.leg, r.state, r.txn, r.at, r.cargo))
 
 -- A request of x was fetched, with the leg of its lane: its payload is on its way down there, and its BEGIN_REQ is known, at this time and with an
--- answer that the row has and that left the response to come.
+-- answer that the row has, that left the response to come, and that led to the lane's state.
 pub record HasFetchedRequest (frame : Frame Plan) (tokens : TableId) (number : ℕ) (r : FetchedRequest) (known : List (Entry Content)) : Type 0 where
   pub pass : Passage
   pub hop : ℕ
@@ -57,6 +58,7 @@ pub record HasFetchedRequest (frame : Frame Plan) (tokens : TableId) (number : �
   pub begun : FindsAt (Known frame.world.platform known) (IsCall r.txn (hop_at pass hop) BeginReq answer) r.at
   pub fits : IsAnswerIn (row_of (world_of frame.world) pass hop) answer
   pub responds : responses (row_of (world_of frame.world) pass hop) answer ≡ 1
+  pub leads : next_state Free BeginReq answer ≡ Some r.state
 
 -- the reply is that to a fetch of a response
 abbrev pub IsUpReply : HopReply Cargo → Type 0

@@ -60,7 +60,7 @@ use Rattle.plat_net.proofs.ObjectLemmas.{count_planned, object_there}
 use Rattle.plat_net.proofs.Targets.{ends_stop}
 
 -- what stands at a place is one of the list
-among_at : {A : Type 0} (xs : List A) (k : ℕ) (x : A) → slice_get xs k ≡ Some x → Among xs x
+pub among_at : {A : Type 0} (xs : List A) (k : ℕ) (x : A) → slice_get xs k ≡ Some x → Among xs x
 among_at [] k x at = cc
 among_at (y ∷ xs) zero x at = inl (one y x at)
   where

@@ -1,0 +1,120 @@
+-- A memory keeps what it may do, whatever else comes to be known.
+use Rattle.std.proofs.Common.{◌≡◌, ℕ, zero, suc, ◌+◌, ◌<◌, List, [], ◌∷◌, drop, insert, Option, Some, None, sym, ap, subst, ◌∙◌}
+use Rattle.std.specs.List.{AllByRecursion}
+use Rattle.std.specs.Prelude.{IfSome}
+use Rattle.atomic_table.specs.Seated.{TableId}
+use Rattle.view_lists.specs.Lists.{Within}
+use Rattle.one_history.specs.declared.entry.Entry.{Entry}
+use Rattle.one_history.specs.declared.view.Frame.{Frame}
+use Rattle.tlm_types.specs.declared.entry.Content.{Content}
+use Rattle.tlm_model.specs.declared.platform.Target.TheVariants.{Memory}
+use Rattle.tlm_model.specs.Plan.{Plan}
+use Rattle.flow_model.specs.World.{hop_at}
+use Rattle.flow_model.specs.Events.{Event}
+use Rattle.flow_model.specs.Platform.{hop_in, world_of}
+use Rattle.flow_law.proofs.More.{up_more}
+use Rattle.cargo_model.specs.Known.{Known}
+use Rattle.cargo_model.specs.Travel.{Ready}
+use Rattle.cargo_model.proofs.More.{goes_up_more, is_fetched_more}
+use Rattle.route_plan.specs.Valid.{hop_count}
+use Rattle.plat_net.specs.Places.{LeadsTo, hop_place}
+use Rattle.target_node.specs.Items.{HasServedAt, IsWaiting, latency_of}
+use Rattle.target_node.specs.Node.{IsQueued, IsTarget, IsToSend, row_latency}
+use Rattle.target_node.specs.declared.items.Request.{Request}
+use Rattle.target_node.specs.declared.items.Response.{Response}
+use Rattle.target_node.specs.declared.node.TargetNode.{TargetNode}
+use Rattle.target_node.proofs.Fetches.{latency_is, row_in}
+use Rattle.target_node.proofs.Served.{finds_more, known_more, leg_more}
+
+pub all_by : {A : Type 0} (P Q : A → Type 0) → ((x : A) → P x → Q x) → (xs : List A) → AllByRecursion P xs → AllByRecursion Q xs
+all_by P Q f [] all = all
+all_by P Q f (x ∷ xs) all = (f x all.0, all_by P Q f xs all.1)
+
+-- one more is put in
+pub all_insert : {A : Type 0} (P : A → Type 0) (xs : List A) (k : ℕ) (x : A) → P x → AllByRecursion P xs → AllByRecursion P (insert xs k x)
+all_insert P [] zero x one all = (one, all)
+all_insert P [] (suc k) x one all = (one, all)
+all_insert P (y ∷ xs) zero x one all = (one, all)
+all_insert P (y ∷ xs) (suc k) x one all = (all.0, all_insert P xs k x one all.1)
+
+module _ (frame : Frame Plan) (tokens : TableId) (known back : List (Entry Content)) (w : Within known back) where
+  abbrev p : Plan
+  p = frame.world
+
+  abbrev on : (e : Event) → Known p.platform known e → Known p.platform back e
+  on = known_more p known back w
+
+  -- a request that waits goes on waiting
+  pub waiting_more : (memory : ℕ) (r : Request) → IsWaiting frame tokens memory known r → IsWaiting frame tokens memory back r
+  waiting_more memory r waits =
+      let q = waits.request in
+      let b = q.begun in
+      record {
+        pass = waits.pass;
+        hop = waits.hop;
+        state = waits.state;
+        request = record {
+          here = q.here;
+          leads = q.leads;
+          fetched = is_fetched_more p tokens (Known p.platform known) (Known p.platform back) on r.cargo.baton.txn waits.pass waits.hop r.cargo q.fetched;
+          leg_of = leg_more frame tokens (hop_place p r.hop) known back w r.cargo.baton.txn waits.state r.leg q.leg_of;
+          answer = q.answer;
+          begun = record { event = b.event; known = on b.event b.known; is = b.is; time = b.time };
+          fits = q.fits;
+          responds = q.responds;
+        };
+        open_lane = waits.open_lane;
+        ended = λ row. finds_more p known back w (waits.ended row);
+      }
+
+  pub queued_more : (memory latency : ℕ) (es : List (ℕ × Request)) → AllByRecursion (IsQueued frame tokens memory latency known) es → AllByRecursion (IsQueued frame tokens memory latency back) es
+  queued_more memory latency es all = all_by (IsQueued frame tokens memory latency known) (IsQueued frame tokens memory latency back) (λ e q. record { due = q.due; below = q.below; waits = waiting_more memory e.1 q.waits }) es all
+
+  -- a response that may be sent may be sent later
+  pub to_send_more : (r : Response) → IsToSend frame tokens known r → IsToSend frame tokens back r
+  to_send_more r s =
+      let can = s.can in
+      record {
+        below = s.below;
+        can = record {
+          pass = can.pass;
+          hop = can.hop;
+          here = can.here;
+          up = goes_up_more p tokens (Known p.platform known) (Known p.platform back) on r.cargo.baton.txn can.pass Ready can.hop r.cargo can.up;
+          state = can.state;
+          open_lane = can.open_lane;
+          leg_of = leg_more frame tokens (hop_place p r.hop) known back w r.cargo.baton.txn can.state r.leg can.leg_of;
+          answer = can.answer;
+          begun = finds_more p known back w can.begun;
+          fits = can.fits;
+          responds = can.responds;
+          ended = λ row. finds_more p known back w (can.ended row);
+          least = up_more (world_of p) (Known p.platform known) (Known p.platform back) on r.cargo.baton.txn (hop_at can.pass can.hop) (drop (can.hop + 1) can.pass.hops) r.due can.least;
+        };
+      }
+
+  pub held_more : (held : Option Response) → IfSome held (IsToSend frame tokens known) → IfSome held (IsToSend frame tokens back)
+  held_more None h = h
+  held_more (Some r) h = to_send_more r h
+
+  -- a memory with another queue and another response in hand
+  pub keeps : (t : TargetNode) (es : List (ℕ × Request)) (held : Option Response) → IsTarget frame tokens t known → AllByRecursion (IsQueued frame tokens t.memory t.latency back) es → IfSome held (IsToSend frame tokens back)
+      → IsTarget frame tokens (record t { queue = (let q = t.queue in record q { entries = es }); held = held }) back
+  keeps t es held is queue h = record { memory = is.memory; hops = is.hops; accepts = is.accepts; latency = is.latency; queue = queue; held = h }
+
+  pub target_more : (t : TargetNode) → IsTarget frame tokens t known → IsTarget frame tokens t back
+  target_more t is = record { memory = is.memory; hops = is.hops; accepts = is.accepts; latency = is.latency; queue = queued_more t.memory t.latency t.queue.entries is.queue; held = held_more t.held is.held }
+
+-- the latency of a memory is that of its hops
+pub latency_there : (frame : Frame Plan) (tokens : TableId) (t : TargetNode) (known : List (Entry Content)) → IsTarget frame tokens t known → (r : Request) → IsWaiting frame tokens t.memory known r → t.latency ≡ latency_of frame.world r.hop
+latency_there frame tokens t known is r waits =
+    let p = frame.world in
+    let q = waits.request in
+    let row = row_in p.platform.memories t.memory is.memory in
+    let leads = subst (λ (h : ℕ). LeadsTo p.platform h (Memory t.memory)) (sym q.here) q.leads in
+    let at : (hop_in p.platform (hop_at waits.pass waits.hop)).latency ≡ row.0.traits.latency = latency_is p tokens known r.cargo.baton.txn waits.pass q.fetched.down.asked waits.hop t.memory row.0 q.fetched.down.held.below leads row.1 in
+    is.latency ∙ (ap row_latency row.1 ∙ (sym at ∙ ap (λ (h : ℕ). (hop_in p.platform h).latency) q.here))
+
+-- a response that was served may be sent
+pub served_to_send : (frame : Frame Plan) (tokens : TableId) (latency : ℕ) (r : Request) (known : List (Entry Content)) (a : Response) → r.hop < hop_count frame.world.platform → HasServedAt frame tokens latency r known a → IsToSend frame tokens known a
+served_to_send frame tokens latency r known a below s = record { below = subst (λ (h : ℕ). h < hop_count frame.world.platform) (sym s.hop) below; can = s.can }

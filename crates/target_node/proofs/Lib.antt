@@ -1,0 +1,6 @@
+pub mod Served
+pub mod Fetches
+pub mod Looks
+pub mod Keeps
+pub mod Steps
+pub mod HopLists

@@ -1,0 +1,19 @@
+use Rattle.std.proofs.Common.{◌≡◌, ℕ, refl, ap, subst}
+use Rattle.tlm_types.specs.declared.words.Phase.TheVariants.{BeginResp}
+use Rattle.flow_model.specs.Events.{FindsAt, IsCall}
+use Rattle.cargo_model.specs.declared.cargo.Cargo.{Cargo}
+use Rattle.cargo_model.specs.Known.{Known}
+use Rattle.target_node.proofs.Served.{may_again}
+use Rattle.target_node.proofs.moves.respond.Goals as goal
+
+pub returns-in-Sent-clause-responded : goal.returns-in-Sent-clause-responded
+returns-in-Sent-clause-responded g c =
+    let a = c.in-Sent.ensures.responded c.requires.can in
+    let made = subst (λ (h : ℕ). FindsAt (Known g.N.Naming.frame.world.platform c.in-Sent.note.knows.known) (IsCall c.args.response.cargo.baton.txn h BeginResp c.in-Sent.answer) c.in-Sent.at) c.requires.can.here a.0.made in
+    ((c.in-Sent.answer, c.in-Sent.at, a.0.late, made), a.1)
+
+pub returns-in-Busy-clause-responded : goal.returns-in-Busy-clause-responded
+returns-in-Busy-clause-responded g c =
+    let a = c.in-Busy.ensures.responded c.requires.can in
+    let txn : c.in-Busy.cargo.baton.txn ≡ c.args.response.cargo.baton.txn = ap (λ (d : Cargo). d.baton.txn) a.1 in
+    (refl, a.0, refl, txn, may_again g.N.Naming.frame g.N.Naming.tokens c.args.note.knows.known c.in-Busy.note.knows.known c.args.response c.requires.can c.in-Busy.leg c.in-Busy.cargo c.in-Busy.ensures.knew a.0 txn a.3, a.4)
