@@ -7,7 +7,7 @@ use Rattle.one_history.specs.Held.{Held}
 use Rattle.one_history.specs.declared.view.Frame.{Frame}
 use Rattle.shared_object.specs.Steps.{IsNote}
 use Rattle.tlm_types.specs.declared.entry.Content.{Content}
-use Rattle.tlm_types.specs.declared.words.ObjectNo.TheVariants.{Hop, Pool}
+use Rattle.tlm_types.specs.declared.words.ObjectNo.TheVariants.{Hop}
 use Rattle.tlm_types.specs.declared.words.Phase.TheVariants.{BeginResp, EndResp}
 use Rattle.tlm_types.specs.declared.words.TlmSync.TheVariants.{Completed}
 use Rattle.tlm_types.specs.declared.words.TxnId.{TxnId}
@@ -20,16 +20,19 @@ use Rattle.token_book.specs.Ticket.{IsTicket}
 use Rattle.token_book.specs.declared.ticket.Ticket.{Ticket}
 use Rattle.payload_pool.specs.declared.baton.Baton.{Baton}
 use Rattle.flow_model.specs.World.{hop_at}
-use Rattle.flow_model.specs.Events.{Among, FindsAt, IsCall}
+use Rattle.flow_model.specs.Events.{FindsAt, IsCall}
 use Rattle.cargo_model.specs.declared.cargo.Cargo.{Cargo}
-use Rattle.cargo_model.specs.Known.{Known, object_number, objects_of}
+use Rattle.cargo_model.specs.Known.{Known, object_number}
 use Rattle.cargo_model.specs.Tickets.{Pulls}
 use Rattle.cargo_model.specs.Travel.{with_wallet}
 use Rattle.cargo_model.proofs.Up.{end_resp_paid}
-use Rattle.cargo_net.specs.Ends.{HasEndedResponse, MayEndResponse}
+use Rattle.cargo_net.specs.Ends.{HasEndedResponse}
 use Rattle.cargo_net.specs.Hops.{IsLegOfLane}
 use Rattle.cargo_net.specs.Fetched.{HasFetchedResponse, mode_above}
-use Rattle.cargo_net.specs.Pools.{MayStow}
+use Rattle.route_plan.specs.Valid.{hop_count as route_hops}
+use Rattle.plat_net.specs.HopCalls.{CanEndResponse}
+use Rattle.plat_net.specs.Net.{HasPool}
+use Rattle.plat_net.specs.PoolCalls.{CanStow}
 use Rattle.cargo_net.specs.declared.fetches.FetchedResponse.{FetchedResponse}
 use Rattle.one_history.specs.Lists.{StandBelow}
 use Rattle.fourphase_port.specs.Reach.{first_hop, own_pool}
@@ -38,7 +41,7 @@ use Rattle.fourphase_port.specs.Moves.{Fetches, FindsNone, IsFetched, KeepsPort,
 use Rattle.fourphase_port.specs.Moved.{response_hand}
 use Rattle.fourphase_port.specs.declared.hand.Hand.{Hand}
 use Rattle.fourphase_port.specs.declared.hand.Hand.TheVariants.{Free, Owed, Ended, Released}
-use Rattle.fourphase_port.proofs.FirstHop.{first_of, hop_there, is_first, low, pool_there}
+use Rattle.fourphase_port.proofs.FirstHop.{first_of, has_its_pool, is_first, low}
 use Rattle.fourphase_port.proofs.Goes.{fetched_hand, goes_on, owed_ended, taken_is_take}
 use Rattle.fourphase_port.proofs.HandsMore.{held_more, owed_more}
 
@@ -63,15 +66,18 @@ module _ (table tokens : TableId) (frame : Frame Plan) (s : StateView) (note : H
   pub stands : s.port.engine.initiator < length frame.world.platform.initiators
   stands = subst (λ (n : ℕ). n < length frame.world.platform.initiators) p.number (low frame.world p.initiator its p.style)
 
-  pub first_there : Among (objects_of frame.world.platform) (Hop s.port.engine.initiator)
-  first_there = subst (λ (n : ℕ). Among (objects_of frame.world.platform) (Hop n)) p.number (hop_there frame.world p.initiator its p.style)
+  pub stands_hop : s.port.engine.initiator < route_hops frame.world.platform
+  stands_hop = omega (arith, stands)
 
-  pub own_pool_there : Among (objects_of frame.world.platform) (Pool s.port.engine.initiator)
-  own_pool_there = subst (λ (n : ℕ). Among (objects_of frame.world.platform) (Pool n)) p.number (pool_there frame.world p.initiator its p.style)
+  pub hop_stands : (n : ℕ) → n ≡ s.port.engine.initiator → n < route_hops frame.world.platform
+  hop_stands n who = subst (λ (k : ℕ). k < route_hops frame.world.platform) (sym who) stands_hop
+
+  pub pool_is_there : HasPool frame.world.platform s.port.engine.initiator
+  pool_is_there = subst (HasPool frame.world.platform) p.number (has_its_pool frame.world p.initiator its p.style)
 
   -- STOW
-  pub may_stow : (b : Baton) (t : Ticket) (end : ℕ) → IsHandOf frame tokens (with_note s note) (Released b t end) → MayStow frame tokens (own_pool frame.world s.port.engine.initiator) b end note.knows.known
-  may_stow b t end h = let r = h p.initiator p.is in subst (λ (n : ℕ). MayStow frame tokens (own_pool frame.world n) b end note.knows.known) p.number r.stow
+  pub can_stow : (b : Baton) (t : Ticket) (end : ℕ) → IsHandOf frame tokens (with_note s note) (Released b t end) → CanStow frame tokens s.port.engine.initiator b end note.knows.known
+  can_stow b t end h = let r = h p.initiator p.is in subst (λ (n : ℕ). CanStow frame tokens n b end note.knows.known) p.number r.stow
 
   pub stow_ticket : (b : Baton) (t : Ticket) (end : ℕ) → IsHandOf frame tokens (with_note s note) (Released b t end) → IsTicket tokens (own_pool frame.world s.port.engine.initiator) t
   stow_ticket b t end h = let r = h p.initiator p.is in subst (λ (n : ℕ). IsTicket tokens (own_pool frame.world n) t) p.number r.of
@@ -95,16 +101,15 @@ module _ (table tokens : TableId) (frame : Frame Plan) (s : StateView) (note : H
         let q = end_resp_paid (record { p = frame.world; tokens = tokens; entries = note.knows.known; x = c.baton.txn; pass = owed.pass; c = c }) 0 1 owed.up in
         subst (λ (n : ℕ). 0 < left_of c.baton.wallet n) place_is q
 
-    abbrev pub may_end : MayEndResponse frame tokens (first_hop frame.world s.port.engine.initiator) leg time note.knows.known
-    may_end = record {
+    abbrev pub can_end : CanEndResponse frame tokens s.port.engine.initiator leg time note.knows.known
+    can_end = record {
       x = c.baton.txn;
       pass = owed.pass;
       hop = 0;
       way = record {
         passes = owed.passes;
         below = (let d = owed.up.held in d.below);
-        place = sym place_is;
-        there = subst (λ (n : ℕ). Among (objects_of frame.world.platform) (Hop n)) (sym (end_first ∙ p.number)) first_there;
+        here = end_first ∙ p.number;
         taken = (let d = owed.up.held in let f = d.taken in record { event = f.event; known = f.known; is = taken_is_take c.baton.txn d.position (let b = c.baton in b.slot) f.event f.is });
       };
       leg_of = subst (λ (n : ℕ). IsLegOfLane frame tokens (first_hop frame.world n) note.knows.known c.baton.txn Responding leg) p.number owed.leg_of;

@@ -27,73 +27,61 @@ use Rattle.cargo_model.specs.Tickets.{AreApart}
 use Rattle.cargo_model.specs.Travel.{GoesDown, IsAsked, Ready, There, numbers_for, route_for, with_wallet}
 use Rattle.cargo_model.proofs.Origins.{apart_law}
 use Rattle.cargo_model.proofs.There.{there_law}
-use Rattle.cargo_net.specs.Begins.{HasOwedLeg, HasRequested, MayBegin}
-use Rattle.cargo_net.specs.Starts.{MayStart}
+use Rattle.cargo_net.specs.Begins.{HasOwedLeg, HasRequested}
 use Rattle.cargo_net.specs.Tried.{IsTried}
 use Rattle.cargo_net.specs.declared.requests.Tried.{Tried}
 use Rattle.cargo_net.specs.declared.requests.Tried.TheVariants.{Left, Now, Busy}
 use Rattle.cargo_net.specs.Wallets.{item_given}
+use Rattle.plat_net.specs.HopCalls.{CanBegin}
+use Rattle.plat_net.specs.PoolCalls.{CanStart}
 use Rattle.fourphase_port.specs.Moves.{Acquires, Begins, FindsBusy, HasGone}
 use Rattle.fourphase_port.specs.Reach.{first_hop, own_pool}
 use Rattle.fourphase_port.specs.State.{GoesBack, IsBegun, IsHandOf, IsHeld, IsInHand, IsPort, IsReady, IsTakenUp, StateView, with_note}
 use Rattle.fourphase_port.specs.declared.hand.Hand.{Hand}
 use Rattle.fourphase_port.specs.declared.hand.Hand.TheVariants.{Free, Taken, Acquired, Begun}
-use Rattle.fourphase_port.proofs.Backs.{first_there, its, keeps}
+use Rattle.fourphase_port.proofs.Backs.{its, keeps}
 use Rattle.fourphase_port.proofs.FirstHop.{first_of}
-use Rattle.fourphase_port.proofs.Goes.{acquired_ready, goes_on, taken_is_take}
+use Rattle.fourphase_port.proofs.Goes.{acquired_ready, goes_on}
 use Rattle.fourphase_port.proofs.HandsMore.{step}
 
 never_held : (held : Option Cargo) (hand : Hand) → held ≡ None → (c : Cargo) → held ≡ Some c → GoesBack hand
 never_held held hand none c some = cc
 
-same_owner : (a b : Initiator) → Some a ≡ Some b → a ≡ b
-same_owner a b e = cc
-
 module _ (table tokens : TableId) (frame : Frame Plan) (s : StateView) (note : Held Content Plan) (p : IsPort table tokens frame (with_note s note)) where
   abbrev i : Initiator
   i = p.initiator
-
-  -- an access of its own asks for what it asks for
-  own_style : (K : Event → Type 0) (x : TxnId) (pass : Passage) (asked : IsAsked frame.world tokens K x pass) → x.initiator ≡ i.number → asked.initiator.row.style ≡ FourPhase
-  own_style K x pass asked own =
-      let same = same_owner asked.initiator i (sym asked.is ∙ (ap (λ (n : ℕ). slice_get (initiators_of frame.world) n) own ∙ its table tokens frame s note p)) in
-      subst (λ (j : Initiator). j.row.style ≡ FourPhase) (sym same) p.style
-
-  -- the objects of its way have different numbers
-  pub apart : (K : Event → Type 0) (x : TxnId) (pass : Passage) (asked : IsAsked frame.world tokens K x pass) → x.initiator ≡ i.number → AreApart (hop_count pass) (numbers_for frame.world tokens K x pass asked)
-  apart K x pass asked own =
-      let there : AreThere frame.world x pass (route_for frame.world tokens K x pass asked) = subst (λ (g : Passage). AreThere frame.world x g (route_for frame.world tokens K x pass asked)) (sym asked.way)
-      (there_law frame.world x asked.initiator asked.request.address (is_some (route_for frame.world tokens K x pass asked)) asked.is (own_style K x pass asked own)) in
-      apart_law frame.world x pass (route_for frame.world tokens K x pass asked) ((world_law frame.world p.no_cycle).passages x pass asked.passes) there
 
   -- ACQUIRE
   module _ (b : Baton) (h : IsHandOf frame tokens (with_note s note) (Taken b)) where
     abbrev taken : IsTakenUp frame tokens i s.port note.knows.known b
     taken = h i p.is
 
-    abbrev pub may_acquire : MayStart frame tokens (own_pool frame.world s.port.engine.initiator) b s.port.time note.knows.known
-    may_acquire = subst (λ (n : ℕ). MayStart frame tokens (own_pool frame.world n) b s.port.time note.knows.known) p.number taken.start
+    abbrev pub can_acquire : CanStart frame tokens s.port.engine.initiator b s.port.time note.knows.known
+    can_acquire = subst (λ (n : ℕ). CanStart frame tokens n b s.port.time note.knows.known) p.number taken.start
+
+    pub can_acquire_at : (n d : ℕ) → n ≡ s.port.engine.initiator → d ≡ s.port.time → CanStart frame tokens n b d note.knows.known
+    can_acquire_at n d who when = subst (λ (k : ℕ). CanStart frame tokens k b d note.knows.known) (sym who) (subst (λ (e : ℕ). CanStart frame tokens s.port.engine.initiator b e note.knows.known) (sym when) can_acquire)
 
     module _ (back : Held Content Plan) (of : IsNote table back) (within : Within note.knows.known back.knows.known) (below : StandBelow back.knows.known back.knows.seen) (none : s.held ≡ None) where
-      pub acquired : (c : Cargo) → ((may : MayStart frame tokens (own_pool frame.world s.port.engine.initiator) b s.port.time note.knows.known) → GoesDown frame.world tokens (Known frame.world.platform back.knows.known) b.txn may.pass Ready 0 c)
+      pub acquired : (c : Cargo) → ((can : CanStart frame tokens s.port.engine.initiator b s.port.time note.knows.known) → GoesDown frame.world tokens (Known frame.world.platform back.knows.known) b.txn can.pass Ready 0 c)
           → IsPort table tokens frame (with_note (record s { hand = Acquired c; held = s.held }) back)
       acquired c down = goes_on table tokens frame s note back (Acquired c) s.held p of within below
           (acquired_ready frame tokens i s.port note.knows.known back.knows.known within b c taken
           (by_number s.port.engine.initiator p.number down))
           (subst (λ (held : Option Cargo). IsHeld frame tokens i s.port back.knows.known held) (sym none) tt) (never_held s.held (Acquired c) none)
         where
-          by_number : (n : ℕ) → i.number ≡ n → ((may : MayStart frame tokens (own_pool frame.world n) b s.port.time note.knows.known) → GoesDown frame.world tokens (Known frame.world.platform back.knows.known) b.txn may.pass Ready 0 c)
+          by_number : (n : ℕ) → i.number ≡ n → ((can : CanStart frame tokens n b s.port.time note.knows.known) → GoesDown frame.world tokens (Known frame.world.platform back.knows.known) b.txn can.pass Ready 0 c)
               → GoesDown frame.world tokens (Known frame.world.platform back.knows.known) b.txn taken.start.pass Ready 0 c
-          by_number n q f = subst (λ (k : ℕ). ((may : MayStart frame tokens (own_pool frame.world k) b s.port.time note.knows.known) → GoesDown frame.world tokens (Known frame.world.platform back.knows.known) b.txn may.pass Ready 0 c)) (sym q) f taken.start
+          by_number n q f = subst (λ (k : ℕ). ((can : CanStart frame tokens k b s.port.time note.knows.known) → GoesDown frame.world tokens (Known frame.world.platform back.knows.known) b.txn can.pass Ready 0 c)) (sym q) f taken.start
 
       -- so it was, by what the call says
       pub acquired_as : (new : StateView) (c : Cargo) (n d : ℕ) → n ≡ s.port.engine.initiator → d ≡ s.port.time → new ≡ record s { hand = Acquired c }
-          → ((may : MayStart frame tokens (own_pool frame.world n) b d note.knows.known) → GoesDown frame.world tokens (Known frame.world.platform back.knows.known) b.txn may.pass Ready 0 c)
+          → ((can : CanStart frame tokens n b d note.knows.known) → GoesDown frame.world tokens (Known frame.world.platform back.knows.known) b.txn can.pass Ready 0 c)
           → IsPort table tokens frame (with_note new back)
       acquired_as new c n d who when is f =
           subst (λ (t : StateView). IsPort table tokens frame (with_note t back)) (sym is)
-          (acquired c (subst (λ (k : ℕ). (may : MayStart frame tokens (own_pool frame.world k) b s.port.time note.knows.known) → GoesDown frame.world tokens (Known frame.world.platform back.knows.known) b.txn may.pass Ready 0 c) who
-          (subst (λ (e : ℕ). (may : MayStart frame tokens (own_pool frame.world n) b e note.knows.known) → GoesDown frame.world tokens (Known frame.world.platform back.knows.known) b.txn may.pass Ready 0 c) when f)))
+          (acquired c (subst (λ (k : ℕ). (can : CanStart frame tokens k b s.port.time note.knows.known) → GoesDown frame.world tokens (Known frame.world.platform back.knows.known) b.txn can.pass Ready 0 c) who
+          (subst (λ (e : ℕ). (can : CanStart frame tokens n b e note.knows.known) → GoesDown frame.world tokens (Known frame.world.platform back.knows.known) b.txn can.pass Ready 0 c) when f)))
 
       pub acquires : (new : StateView) (c : Cargo) (n d : ℕ) → n ≡ s.port.engine.initiator → d ≡ s.port.time → new ≡ record s { hand = Acquired c }
           → FindsAt (Known frame.world.platform back.knows.known) (IsAcquire b.txn 0) d → back.knows.looks ≡ note.knows.looks ++ (own_pool frame.world n, 0) ∷ []
@@ -117,32 +105,19 @@ module _ (table tokens : TableId) (frame : Frame Plan) (s : StateView) (note : H
     pub begin_first : hop_at ready.pass 0 ≡ s.port.engine.initiator
     begin_first = first_of frame.world i (its table tokens frame s note p) p.style tokens (Known frame.world.platform note.knows.known) c.baton.txn ready.pass ready.down.asked ready.own ∙ p.number
 
-    abbrev pub may_begin : MayBegin frame tokens (first_hop frame.world s.port.engine.initiator) c s.port.time note.knows.known
-    may_begin = record {
-      pass = ready.pass;
-      hop = 0;
-      way = record {
-        passes = ready.passes;
-        below = (let d = ready.down.held in d.below);
-        place = ap (λ (n : ℕ). object_number frame.world.platform (Hop n)) (sym begin_first);
-        there = subst (λ (n : ℕ). Among (objects_of frame.world.platform) (Hop n)) (sym begin_first) (first_there table tokens frame s note p);
-        taken = (let d = ready.down.held in let f = d.taken in record { event = f.event; known = f.known; is = taken_is_take c.baton.txn d.position (let b = c.baton in b.slot) f.event f.is });
-      };
-      down = ready.down;
-      apart = apart (Known frame.world.platform note.knows.known) c.baton.txn ready.pass ready.down.asked ready.own;
-      least = ready.taken;
-    }
+    abbrev pub can_begin : CanBegin frame tokens s.port.engine.initiator c s.port.time note.knows.known
+    can_begin = record { pass = ready.pass; hop = 0; here = begin_first; down = ready.down; least = ready.taken }
 
     -- what the hop has answered to this
     pub tried_here : (r : Tried) (n d : ℕ) → n ≡ s.port.engine.initiator → d ≡ s.port.time
-        → ((may : MayBegin frame tokens (first_hop frame.world n) c d note.knows.known) → IsTried frame tokens (first_hop frame.world n) c d may.pass may.hop note.knows r)
+        → ((can : CanBegin frame tokens n c d note.knows.known) → IsTried frame tokens (first_hop frame.world n) c d can.pass can.hop note.knows r)
         → IsTried frame tokens (first_hop frame.world s.port.engine.initiator) c s.port.time ready.pass 0 note.knows r
     tried_here r n d who when f =
-        subst (λ (k : ℕ). (may : MayBegin frame tokens (first_hop frame.world k) c s.port.time note.knows.known) → IsTried frame tokens (first_hop frame.world k) c s.port.time may.pass may.hop note.knows r) who
-        (subst (λ (e : ℕ). (may : MayBegin frame tokens (first_hop frame.world n) c e note.knows.known) → IsTried frame tokens (first_hop frame.world n) c e may.pass may.hop note.knows r) when f) may_begin
+        subst (λ (k : ℕ). (can : CanBegin frame tokens k c s.port.time note.knows.known) → IsTried frame tokens (first_hop frame.world k) c s.port.time can.pass can.hop note.knows r) who
+        (subst (λ (e : ℕ). (can : CanBegin frame tokens n c e note.knows.known) → IsTried frame tokens (first_hop frame.world n) c e can.pass can.hop note.knows r) when f) can_begin
 
-    pub may_begin_at : (n d : ℕ) → n ≡ s.port.engine.initiator → d ≡ s.port.time → MayBegin frame tokens (first_hop frame.world n) c d note.knows.known
-    may_begin_at n d who when = subst (λ (k : ℕ). MayBegin frame tokens (first_hop frame.world k) c d note.knows.known) (sym who) (subst (λ (e : ℕ). MayBegin frame tokens (first_hop frame.world s.port.engine.initiator) c e note.knows.known) (sym when) may_begin)
+    pub can_begin_at : (n d : ℕ) → n ≡ s.port.engine.initiator → d ≡ s.port.time → CanBegin frame tokens n c d note.knows.known
+    can_begin_at n d who when = subst (λ (k : ℕ). CanBegin frame tokens k c d note.knows.known) (sym who) (subst (λ (e : ℕ). CanBegin frame tokens s.port.engine.initiator c e note.knows.known) (sym when) can_begin)
 
     module _ (back : Held Content Plan) (of : IsNote table back) (within : Within note.knows.known back.knows.known) (below : StandBelow back.knows.known back.knows.seen) (none : s.held ≡ None) where
       -- BEGIN_REQ was made

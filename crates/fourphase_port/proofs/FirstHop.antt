@@ -1,11 +1,11 @@
 -- The first hop of an access is the one to which its initiator is bound, and no other hop of a way is a binding: so a response that is fetched there
 -- is of that initiator, and is on its first hop.
-use Rattle.std.proofs.Common.{◌≡◌, ℕ, zero, suc, ◌+◌, ◌<◌, List, length, get_or, Some, refl, sym, ap, subst, true, arith}
+use Rattle.std.proofs.Common.{◌≡◌, ℕ, zero, suc, ◌+◌, ◌<◌, List, length, get_or, Some, refl, sym, ap, ◌∙◌, subst, true, arith}
 use Rattle.std.specs.Prelude.{slice_get}
 use Rattle.std.proofs.lemmas.Option.{slice_get_within}
 use Rattle.atomic_table.specs.Seated.{TableId}
 use Rattle.tlm_types.specs.declared.words.ObjectNo.{ObjectNo}
-use Rattle.tlm_types.specs.declared.words.ObjectNo.TheVariants.{Hop, Pool}
+use Rattle.tlm_types.specs.declared.words.ObjectNo.TheVariants.{Hop}
 use Rattle.tlm_types.specs.declared.words.TxnId.{TxnId}
 use Rattle.tlm_model.specs.declared.platform.Platform.{Platform}
 use Rattle.tlm_model.specs.declared.platform.Style.TheVariants.{FourPhase}
@@ -14,11 +14,12 @@ use Rattle.tlm_model.specs.Route.{hops_of, walk}
 use Rattle.flow_model.specs.World.{Passage, hop_at, hop_count}
 use Rattle.flow_model.specs.Events.{Among, Event}
 use Rattle.flow_plan.proofs.Ways.{initiator_from, past_bindings, walk_way}
-use Rattle.cargo_model.specs.Known.{object_number, objects_of}
+use Rattle.cargo_model.specs.Known.{has_pool, object_number, objects_of, row_has_pool}
 use Rattle.cargo_model.specs.Travel.{IsAsked}
 use Rattle.cargo_model.proofs.Origins.{only_object}
 use Rattle.cargo_model.proofs.There.{there_law}
 use Rattle.joined_traffic.specs.Accesses.{txn_of}
+use Rattle.plat_net.specs.Net.{HasPool}
 use Rattle.fourphase_port.specs.Reach.{first_hop}
 
 -- a hop of a way that is a binding is its first one
@@ -43,9 +44,9 @@ module _ (p : Plan) (i : Initiator) (is : slice_get (initiators_of p) i.number �
   pub hop_there : Among (objects_of p.platform) (Hop i.number)
   hop_there = (there_law p (txn_of i.number 0) i 0 true is style).hops 0 (omega arith)
 
-  -- and so is its pool
-  pub pool_there : Among (objects_of p.platform) (Pool i.number)
-  pool_there = (there_law p (txn_of i.number 0) i 0 true is style).pool
+  -- and it has a pool
+  pub has_its_pool : HasPool p.platform i.number
+  has_its_pool = (low, ap row_has_pool (initiator_from 0 p.platform.initiators p.scripts i.number i is).1 ∙ ap has_pool style)
 
   -- an access that passes this hop as its k-th
   pub is_first : (tokens : TableId) (K : Event → Type 0) (x : TxnId) (pass : Passage) (asked : IsAsked p tokens K x pass) (k : ℕ) → k < hop_count pass → first_hop p i.number ≡ object_number p.platform (Hop (hop_at pass k))

@@ -38,14 +38,14 @@ use Rattle.cargo_model.specs.Travel.{Back, GoesDown, GoesUp, IsReplied, IsTaken,
 use Rattle.cargo_net.specs.declared.fetches.FetchedResponse.{FetchedResponse}
 use Rattle.cargo_net.specs.Begins.{HasOwedLeg}
 use Rattle.cargo_net.specs.Fetched.{HasEndLeg, HasFetchedResponse, mode_above}
-use Rattle.cargo_net.specs.Pools.{IsPoolOf, MayRelease, MayStow}
+use Rattle.plat_net.specs.PoolCalls.{CanRelease, CanStow}
 use Rattle.cargo_net.proofs.AskedLemmas.{asked_few}
 use Rattle.port_model.specs.Way.{Port}
 use Rattle.port_model.proofs.Begins.{knows_more}
 use Rattle.port_end.specs.Arrives.{StandBelow, events_of}
 use Rattle.port_end.proofs.Arrives.{knows_more as events_more, stand_below as events_below}
 use Rattle.fourphase_port.specs.Moved.{response_hand}
-use Rattle.fourphase_port.specs.Reach.{first_hop, own_pool}
+use Rattle.fourphase_port.specs.Reach.{first_hop}
 use Rattle.fourphase_port.specs.State.{GoesBack, IsEnded, IsHeld, IsInHand, IsOwed, IsPort, IsReady, IsTakenUp, StateView, left_at, with_note}
 use Rattle.fourphase_port.specs.declared.hand.Hand.{Hand}
 use Rattle.fourphase_port.proofs.HandsMore.{step}
@@ -96,7 +96,7 @@ module _ (frame : Frame Plan) (tokens : TableId) (i : Initiator) (port : Port) (
         time = f.time;
       } in
       record {
-        own = ap (λ (x : TxnId). x.initiator) same ∙ t.own;
+        own = ap (λ (x : TxnId). x.initiator) same ∙ t.start.of;
         pass = t.start.pass;
         passes = subst (λ (x : TxnId). passage_of frame.world x ≡ Some t.start.pass) (sym same) t.start.asked.passes;
         down = subst (λ (x : TxnId). GoesDown frame.world tokens K x t.start.pass Ready 0 c) (sym same) d;
@@ -136,7 +136,7 @@ module _ (frame : Frame Plan) (tokens : TableId) (i : Initiator) (port : Port) (
     is = record { memory = r.memory; object = d.is.object; txn = d.is.txn; way = FourPhase; access = record a { offset = r.offset }; status = d.is.status; got = d.is.got; what = d.is.what };
   }
 
-  ended_backs : (c : Cargo) (end : ℕ) (o : IsEnded frame tokens i port more c end) (n : ℕ) → released_hop n ≡ 0 → ReleaseBacked (world_of frame.world) K c.baton.txn o.pass n end
+  pub ended_backs : (c : Cargo) (end : ℕ) (o : IsEnded frame tokens i port more c end) (n : ℕ) → released_hop n ≡ 0 → ReleaseBacked (world_of frame.world) K c.baton.txn o.pass n end
   ended_backs c end o n zeroth = record {
     below = subst (λ (k : ℕ). k < hop_count o.pass) (sym zeroth) o.up.held.below;
     ended = subst (λ (k : ℕ). Finds K (IsEnder c.baton.txn (hop_at o.pass k))) (sym zeroth) o.ender;
@@ -145,14 +145,13 @@ module _ (frame : Frame Plan) (tokens : TableId) (i : Initiator) (port : Port) (
   }
 
   -- The reference that the payload came with may be given up at the end, and then the initiator's own.
-  pub ended_releases : (c : Cargo) (end : ℕ) (o : IsEnded frame tokens i port more c end) → IsPoolOf frame (own_pool frame.world i.number) c.baton.txn → MayRelease frame tokens (own_pool frame.world i.number) c.hold end more
-  ended_releases c end o pool =
+  abbrev pub ended_releases : (c : Cargo) (end : ℕ) (o : IsEnded frame tokens i port more c end) → CanRelease frame tokens i.number c.hold end more
+  ended_releases c end o =
       let h = o.up.held.hold in
       record {
         x = c.baton.txn;
         pass = o.pass;
-        passes = o.passes;
-        pool = pool;
+        access = record { of = o.own; passes = o.passes };
         position = h.position;
         taken = h.taken;
         count = 0;
@@ -161,15 +160,14 @@ module _ (frame : Frame Plan) (tokens : TableId) (i : Initiator) (port : Port) (
         after = ended_backs c end o 0 refl;
       }
 
-  pub ended_stows : (c : Cargo) (end : ℕ) (o : IsEnded frame tokens i port more c end) → IsPoolOf frame (own_pool frame.world i.number) c.baton.txn
-      → MayStow frame tokens (own_pool frame.world i.number) (let b = c.baton in record b { wallet = empty_purse 12 }) end more
-  ended_stows c end o pool =
+  pub ended_stows : (c : Cargo) (end : ℕ) (o : IsEnded frame tokens i port more c end)
+      → CanStow frame tokens i.number (let b = c.baton in record b { wallet = empty_purse 12 }) end more
+  ended_stows c end o =
       let h = o.up.held in
       let f = h.taken in
       record {
         pass = o.pass;
-        passes = o.passes;
-        pool = pool;
+        access = record { of = o.own; passes = o.passes };
         position = h.position;
         taken = record { event = f.event; known = f.known; is = record { slot = (let b = c.baton in b.slot); take = f.is } };
         count = hop_count o.pass;
@@ -227,7 +225,7 @@ module _ (frame : Frame Plan) (tokens : TableId) (i : Initiator) (port : Port) (
   ends_one : (row : ReqMode) (resp : RespMode) → IsAnswerIn row (Updated BeginResp) → response_ends row resp (Updated BeginResp) ≡ 1
   ends_one row resp fits = grind (arith, common_steps)
 
-  returned_by : (c : Cargo) (pass : Passage) (row : ReqMode) (resp : RespMode) (answer : TlmSync) (leg : Option Slip) (due : ℕ) → passage_of frame.world c.baton.txn ≡ Some pass
+  pub returned_by : (c : Cargo) (pass : Passage) (row : ReqMode) (resp : RespMode) (answer : TlmSync) (leg : Option Slip) (due : ℕ) → passage_of frame.world c.baton.txn ≡ Some pass
       → GoesUp frame.world tokens K c.baton.txn pass (Back (response_ends row resp answer)) 0 c → IsAnswerIn row answer
       → HasOwedLeg frame tokens (first_hop frame.world i.number) more c.baton.txn answer leg → Finds K (IsCall c.baton.txn (hop_at pass 0) BeginReq answer) → UpIs (world_of frame.world) K c.baton.txn pass 0 due
       → c.baton.txn.initiator ≡ i.number → IsInHand frame tokens i port more (response_hand leg c due)

@@ -7,3 +7,13 @@ mod FirstHop
 mod Backs
 mod Downs
 mod Scripts
+mod Served
+mod Telling
+mod TakesIn
+mod TakenBack
+mod Stocking
+mod Stocked
+mod MayStocks
+mod NextIsAsked
+mod Taking
+mod TakeBack

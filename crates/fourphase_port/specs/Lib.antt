@@ -4,3 +4,6 @@ pub mod Reach
 pub mod State
 pub mod Moves
 pub mod Moved
+pub mod Returned
+pub mod Stocks
+pub mod Laws

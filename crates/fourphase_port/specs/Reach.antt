@@ -1,15 +1,15 @@
 -- Where a port finds its objects in the history.
-use Rattle.std.specs.Prelude.{ℕ}
-use Rattle.tlm_types.specs.declared.words.ObjectNo.TheVariants.{Memory, Hop, Pool}
+use Rattle.std.specs.Prelude.{ℕ, ◌≤◌, List}
+use Rattle.one_history.specs.declared.entry.Entry.{Entry}
+use Rattle.one_history.specs.declared.view.Frame.{Frame}
+use Rattle.tlm_types.specs.declared.entry.Content.{Content}
+use Rattle.tlm_types.specs.declared.words.TxnId.{TxnId}
 use Rattle.tlm_model.specs.Plan.{Plan}
-use Rattle.cargo_model.specs.Known.{object_number}
+use Rattle.flow_model.specs.Events.{FindsAt, IsTake}
+use Rattle.cargo_model.specs.Known.{Known}
+pub use Rattle.plat_net.specs.Places.{first_hop, memory_place, own_pool}
 
--- the number in the history of an initiator's pool, of the hop that it is bound to, and of a memory
-abbrev pub own_pool : Plan → ℕ → ℕ
-own_pool p i = object_number p.platform (Pool i)
-
-abbrev pub first_hop : Plan → ℕ → ℕ
-first_hop p i = object_number p.platform (Hop i)
-
-abbrev pub memory_place : Plan → ℕ → ℕ
-memory_place p m = object_number p.platform (Memory m)
+-- a Take of x at this time is known, at a position that is no less than what had been seen
+pub record TakesLate (frame : Frame Plan) (x : TxnId) (at seen : ℕ) (known : List (Entry Content)) : Type 0 where
+  pub take : FindsAt (Known frame.world.platform known) (IsTake x) at
+  pub later : seen ≤ take.event.position

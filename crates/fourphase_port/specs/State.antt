@@ -33,8 +33,7 @@ use Rattle.cargo_model.specs.Tickets.{PullsOwed}
 use Rattle.cargo_model.specs.Travel.{Back, GoesDown, GoesUp, Ready, There, numbers_for, with_wallet}
 use Rattle.cargo_net.specs.Begins.{HasOwedLeg}
 use Rattle.cargo_net.specs.Hops.{IsLegOfLane}
-use Rattle.cargo_net.specs.Pools.{MayStow}
-use Rattle.cargo_net.specs.Starts.{MayStart}
+use Rattle.plat_net.specs.PoolCalls.{CanStart, CanStow}
 use Rattle.port_model.specs.Stages.{count_of}
 use Rattle.port_model.specs.Way.{IsUnderWay, Port}
 use Rattle.port_end.specs.Arrives.{StandBelow, events_of}
@@ -83,8 +82,7 @@ module _ (frame : Frame Plan) (tokens : TableId) (i : Initiator) (port : Port) (
 
   -- A payload was taken and may start, at the current time.
   pub record IsTakenUp (b : Baton) : Type 0 where
-    pub own : b.txn.initiator ≡ i.number
-    pub start : MayStart frame tokens (own_pool frame.world i.number) b port.time known
+    pub start : CanStart frame tokens i.number b port.time known
 
   -- BEGIN_REQ was made at this time, and its answer has brought the response, which is still to be made at the memory.
   pub record IsBegun (c : Cargo) (at : ℕ) (leg : Option Slip) : Type 0 where
@@ -123,7 +121,7 @@ module _ (frame : Frame Plan) (tokens : TableId) (i : Initiator) (port : Port) (
 
   -- The port has it back. What is left is to stow the payload.
   pub record IsReleased (b : Baton) (ticket : Ticket) (end : ℕ) : Type 0 where
-    pub stow : MayStow frame tokens (own_pool frame.world i.number) b end known
+    pub stow : CanStow frame tokens i.number b end known
     pub of : IsTicket tokens (own_pool frame.world i.number) ticket
 
   -- what is known of what a port works on

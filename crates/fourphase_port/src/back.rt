@@ -7,24 +7,25 @@ ghost use Rattle.fourphase_port.specs.Moved.{ends_made, made, went};
 ghost use Rattle.fourphase_port.specs.State.{IsHandOf, IsPort, with_note};
 
 use crate::hand::{Hand, Moved, Pumped};
-use crate::reach::{PlatNote, PortReach};
+use crate::places::hop_place;
 use crate::state::PortState;
 use cargo_model::Cargo;
 use cargo_net::{FetchedResponse, TlmLaw};
 use hop_object::Leg;
 use payload_pool::Baton;
+use plat_net::{Net, PlatNote};
 use route_plan::Plan;
 use shared_object::Naming;
 use std::sync::Wait;
-use tlm_types::{ObjectNo, Ps};
+use tlm_types::Ps;
 use token_book::Ticket;
 
 impl PortState {
     /// Fetches a response from the first hop, if one waits there. It makes no entry.
-    pub(crate) fn fetch<N: Naming<Plan, TlmLaw>, B: PortReach<N>, R: Wait>(
+    pub(crate) fn fetch<N: Naming<Plan, TlmLaw>, R: Wait>(
         &mut self,
         rt: &R,
-        reach: &mut B,
+        net: &Net<N>,
         note: PlatNote,
     ) -> (Moved, PlatNote)
         requires port { IsPort N.table N.tokens N.frame (with_note self.old note) }
@@ -33,7 +34,7 @@ impl PortState {
         ensures fetched { Fetches N.frame (with_note self.old note) (with_note self.new result.1) ⊎ FindsNone N.frame (with_note self.old note) (with_note self.new result.1) }
         ensures moved { result.0 ≡ went }
     {
-        let (fetched, note) = reach.fetch_response(rt, self.engine.initiator(), note);
+        let (fetched, note) = net.fetch_response(rt, self.engine.initiator(), note);
         let Some(response) = fetched else {
             return (Moved::went(), note);
         };
@@ -48,10 +49,10 @@ impl PortState {
     }
 
     /// Makes the END_RESP that is owed, by which the access ends (IEEE 1666-2011, clause 15.2).
-    pub(crate) fn end<N: Naming<Plan, TlmLaw>, B: PortReach<N>, R: Wait>(
+    pub(crate) fn end<N: Naming<Plan, TlmLaw>, R: Wait>(
         &mut self,
         rt: &R,
-        reach: &mut B,
+        net: &Net<N>,
         note: PlatNote,
         cargo: Cargo,
         leg: Leg,
@@ -66,18 +67,18 @@ impl PortState {
     {
         let mut cargo = cargo;
         let initiator = self.engine.initiator();
-        let hop = reach.number(ObjectNo::Hop(initiator));
-        let ticket = cargo.baton.wallet.pull(reach.tickets(), hop, 0);
-        let (end, note) = reach.end_resp(rt, initiator, note, leg, ticket, at);
+        let hop = hop_place(net, initiator);
+        let ticket = cargo.baton.wallet.pull(net.tickets(), hop, 0);
+        let (end, note) = net.end_resp(rt, initiator, note, leg, ticket, at);
         self.turn_to(Hand::Ended { cargo, end });
         (Moved::made(), note)
     }
 
     /// Stows the payload of an access that is back, at the time at which it has ended. With it the pump ends.
-    pub(crate) fn stow<N: Naming<Plan, TlmLaw>, B: PortReach<N>, R: Wait>(
+    pub(crate) fn stow<N: Naming<Plan, TlmLaw>, R: Wait>(
         &mut self,
         rt: &R,
-        reach: &mut B,
+        net: &Net<N>,
         note: PlatNote,
         baton: Baton,
         ticket: Ticket,
@@ -91,7 +92,7 @@ impl PortState {
         ensures moved { result.0 ≡ ends_made Pumps.Did }
     {
         let initiator = self.engine.initiator();
-        let (_, note) = reach.stow(rt, initiator, note, ticket, baton, end);
+        let (_, note) = net.stow(rt, initiator, note, ticket, baton, end);
         (Moved::ends(true, Pumped::Did), note)
     }
 }

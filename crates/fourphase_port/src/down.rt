@@ -6,21 +6,21 @@ ghost use Rattle.fourphase_port.specs.Moved.{after_begin, ends, made};
 ghost use Rattle.fourphase_port.specs.State.{IsHandOf, IsPort, with_note};
 
 use crate::hand::{Hand, Moved, Pumped};
-use crate::reach::{PlatNote, PortReach};
 use crate::state::PortState;
 use cargo_model::Cargo;
 use cargo_net::{TlmLaw, Tried};
 use payload_pool::Baton;
+use plat_net::{Net, PlatNote};
 use route_plan::Plan;
 use shared_object::Naming;
 use std::sync::Wait;
 
 impl PortState {
     /// Acquires the first reference of an access that was taken, at the time of its Take.
-    pub(crate) fn acquire<N: Naming<Plan, TlmLaw>, B: PortReach<N>, R: Wait>(
+    pub(crate) fn acquire<N: Naming<Plan, TlmLaw>, R: Wait>(
         &mut self,
         rt: &R,
-        reach: &mut B,
+        net: &Net<N>,
         note: PlatNote,
         baton: Baton,
     ) -> (Moved, PlatNote)
@@ -32,7 +32,7 @@ impl PortState {
         ensures moved { result.0 ≡ made }
     {
         let initiator = self.engine.initiator();
-        let (cargo, note) = reach.start(rt, initiator, note, baton, self.time);
+        let (cargo, note) = net.start(rt, initiator, note, baton, self.time);
         self.turn_to(Hand::Acquired(cargo));
         (Moved::made(), note)
     }
@@ -40,10 +40,10 @@ impl PortState {
     /// Tries BEGIN_REQ on the first hop, at the current time (IEEE 1666-2011, clause 15.2). Where it was made,
     /// the payload is gone, or its memory is still to be called, which gives the response by return. Where a
     /// request is open or no lane free, the request is held, and the pump ends with `busy`.
-    pub(crate) fn begin<N: Naming<Plan, TlmLaw>, B: PortReach<N>, R: Wait>(
+    pub(crate) fn begin<N: Naming<Plan, TlmLaw>, R: Wait>(
         &mut self,
         rt: &R,
-        reach: &mut B,
+        net: &Net<N>,
         note: PlatNote,
         cargo: Cargo,
         busy: Pumped,
@@ -56,7 +56,7 @@ impl PortState {
             ⊎ (FindsBusy N.frame cargo (with_note self.old note) (with_note self.new result.1) × (result.0 ≡ ends busy)) }
     {
         let initiator = self.engine.initiator();
-        match reach.begin_req(rt, initiator, note, cargo, self.time) {
+        match net.begin_req(rt, initiator, note, cargo, self.time) {
             Tried::Left {
                 answer: _,
                 at: _,

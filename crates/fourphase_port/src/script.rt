@@ -16,9 +16,9 @@ ghost use Rattle.fourphase_port.specs.Moves.{LooksLive, Passes, Settles};
 ghost use Rattle.fourphase_port.specs.State.{IsPort, with_note};
 
 use crate::hand::{Moved, Pumped};
-use crate::reach::{PlatNote, PortReach};
 use crate::state::PortState;
 use cargo_net::TlmLaw;
+use plat_net::{Net, PlatNote};
 use route_plan::Plan;
 use script_engine::Pause;
 use shared_object::Naming;
@@ -68,10 +68,10 @@ impl PortState {
     }
 
     // The script has ended and nothing is outstanding: the port has finished once no slot of its pool is live.
-    fn finish<N: Naming<Plan, TlmLaw>, B: PortReach<N>, R: Wait>(
+    fn finish<N: Naming<Plan, TlmLaw>, R: Wait>(
         &mut self,
         rt: &R,
-        reach: &mut B,
+        net: &Net<N>,
         note: PlatNote,
     ) -> (Moved, PlatNote)
         requires port { IsPort N.table N.tokens N.frame (with_note self.old note) }
@@ -83,7 +83,7 @@ impl PortState {
         ensures ended { (LooksLive N.frame 0 (with_note self.old note) (with_note self.new result.1) × (result.0 ≡ ends Pumps.Finished))
             ⊎ (LooksLive N.frame 7 (with_note self.old note) (with_note self.new result.1) × (result.0 ≡ ends Pumps.Nothing)) }
     {
-        let (live, note) = reach.live(rt, self.engine.initiator(), note);
+        let (live, note) = net.live(rt, self.engine.initiator(), note);
         if live == 0 {
             return (Moved::ends(false, Pumped::Finished), note);
         }

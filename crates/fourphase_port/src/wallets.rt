@@ -1,20 +1,29 @@
 // Tickets that move between the wallet of a port and that of a payload.
-ghost use Rattle.std.specs.Prelude.{◌≡◌, ℕ, ◌<◌, ◌≤◌};
+ghost use Rattle.std.specs.Prelude.{◌≡◌, ◌⊎◌, ℕ, ◌<◌, ◌≤◌};
 ghost use Rattle.token_book.specs.Account.{amount_of};
-ghost use Rattle.token_book.specs.Purse.{HasRoom, IsOf, bytes_of, left_of};
+ghost use Rattle.token_book.specs.Purse.{HasPlace, HasRoom, IsOf, bytes_of, left_of};
 ghost use Rattle.token_book.specs.Ticket.{IsTicket};
 ghost use Rattle.fourphase_port.specs.Wallets.{Gets, Gives};
 
 use token_book::{Ticket, Tokens, Wallet};
 
 // Moves one ticket of an object, for so many bytes.
-fn hand_one(tickets: &Tokens, from: &mut Wallet, to: &mut Wallet, object: u32, bytes: u64)
+#[tactic(auto, using(crate::proofs::WalletLemmas::pulled_in, crate::proofs::WalletLemmas::put_once, crate::proofs::WalletLemmas::put_twice))]
+pub(crate) fn hand_one(
+    tickets: &Tokens,
+    from: &mut Wallet,
+    to: &mut Wallet,
+    object: u32,
+    bytes: u64,
+)
     requires tables { IsOf tickets.now from.old × IsOf tickets.now to.old }
     requires left { 0 < left_of from.old object }
     requires bytes { bytes ≤ bytes_of from.old object }
     requires room { HasRoom to.old object }
     ensures from { Gives tickets.now object 1 bytes from.old from.new }
     ensures to { Gets tickets.now object 1 bytes to.old to.new }
+    ensures from_in { (o : ℕ) → HasPlace from.new o → HasPlace from.old o }
+    ensures to_in { (o : ℕ) → HasPlace to.new o → HasPlace to.old o ⊎ (o ≡ object) }
 {
     let Ticket { entry, bytes } = from.pull(tickets, object, bytes);
     to.put(tickets, entry);
@@ -24,7 +33,7 @@ fn hand_one(tickets: &Tokens, from: &mut Wallet, to: &mut Wallet, object: u32, b
 }
 
 /// Moves so many tickets of an object, which are for no bytes.
-#[tactic(auto, using(crate::proofs::WalletLemmas::gives_more, crate::proofs::WalletLemmas::gets_more, crate::proofs::WalletLemmas::room_got))]
+#[tactic(auto, using(crate::proofs::WalletLemmas::gives_more, crate::proofs::WalletLemmas::gets_more, crate::proofs::WalletLemmas::room_got, crate::proofs::WalletLemmas::more_in))]
 pub(crate) fn hand_over(
     tickets: &Tokens,
     from: &mut Wallet,
@@ -37,6 +46,8 @@ pub(crate) fn hand_over(
     requires room { HasRoom to.old object }
     ensures from { Gives tickets.now object count 0 from.old from.new }
     ensures to { Gets tickets.now object count 0 to.old to.new }
+    ensures from_in { (o : ℕ) → HasPlace from.new o → HasPlace from.old o }
+    ensures to_in { (o : ℕ) → HasPlace to.new o → HasPlace to.old o ⊎ (o ≡ object) }
 {
     for _moved in 0..count {
         hand_one(tickets, from, to, object, 0);

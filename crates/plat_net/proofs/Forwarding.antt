@@ -151,7 +151,7 @@ router_mode Reqs.Short t = cc
 router_mode Reqs.BeginResp t = cc
 router_mode Reqs.Complete t = cc
 
-router_answers : (p : Platform) (resp : RespMode) (r : ℕ) → IsBounded p → IsRouterMode (hop_to p resp (Router r)).req
+pub router_answers : (p : Platform) (resp : RespMode) (r : ℕ) → IsBounded p → IsRouterMode (hop_to p resp (Router r)).req
 router_answers p resp r b = at (slice_get p.routers r) refl
   where
     at : (row : Option RouterRow) → slice_get p.routers r ≡ row → IsRouterMode (to_router resp row).req

@@ -8,6 +8,7 @@ ghost use Rattle.route_plan.specs.Valid.{hop_count};
 ghost use Rattle.payload_pool.specs.Calls.{look_of};
 ghost use Rattle.payload_pool.specs.declared.call.PoolCall.TheVariants as Calls;
 ghost use Rattle.payload_pool.specs.declared.call.PoolReply.TheVariants as Replies;
+ghost use Rattle.flow_model.specs.Events.{FindsAt, IsAcquire};
 ghost use Rattle.cargo_model.specs.Known.{Known};
 ghost use Rattle.cargo_model.specs.Travel.{GoesDown, Ready};
 ghost use Rattle.cargo_net.specs.Pools.{HasAcquired, HasPooled, HasReleased};
@@ -93,6 +94,7 @@ impl<N: Naming<Plan, TlmLaw>> Net<N> {
         ensures knew { Within note.knows.known result.1.knows.known }
         ensures below { StandBelow result.1.knows.known result.1.knows.seen }
         ensures look { result.1.knows.looks ≡ note.knows.looks ++ (own_pool N.frame.world initiator, 0) ∷ [] }
+        ensures acquired { FindsAt (Known N.frame.world.platform result.1.knows.known) (IsAcquire baton.txn 0) at }
         ensures started { (can : CanStart N.frame N.tokens initiator baton at note.knows.known) →
             GoesDown N.frame.world N.tokens (Known N.frame.world.platform result.1.knows.known) baton.txn can.pass Ready 0 result.0 }
     {

@@ -203,10 +203,12 @@ impl Wallet {
         ensures left { (o : ℕ) → left_of self.new o ≡ left_of self.old o + left_of from.old o }
         ensures bytes { (o : ℕ) → bytes_of self.new o ≡ bytes_of self.old o + bytes_of from.old o }
         ensures empty { from.new ≡ empty_purse from.old.places }
+        ensures full { (o : ℕ) → HasPlace self.new o → 0 < left_of self.new o + bytes_of self.new o }
     {
         while let Some(place) = from.pop() {
             self.put_place(tokens, place);
         }
+        let _ = &self.places;
     }
 
     // Takes out all that it holds of this object.

@@ -2,12 +2,12 @@ use Rattle.std.proofs.Common.{ap, ◌∙◌, inl, inr, sym}
 use Rattle.cargo_net.specs.declared.requests.Tried.TheVariants.{Left, Now, Busy}
 use Rattle.fourphase_port.specs.Moved.{after_begin}
 use Rattle.fourphase_port.specs.State.{StateView}
-use Rattle.fourphase_port.proofs.Backs.{goes_free}
-use Rattle.fourphase_port.proofs.Downs.{begins_left, begins_now, busy_port, finds_busy, may_begin_at, now_port, tried_here}
+use Rattle.fourphase_port.proofs.Backs.{goes_free, hop_stands}
+use Rattle.fourphase_port.proofs.Downs.{begins_left, begins_now, busy_port, finds_busy, can_begin_at, now_port, tried_here}
 use Rattle.fourphase_port.proofs.state.PortState.begin.Goals as goal
 
-pub begin_req-requires-clause-may : goal.begin_req-requires-clause-may
-begin_req-requires-clause-may g c = may_begin_at g.N.Naming.table g.N.Naming.tokens g.N.Naming.frame c.args.self.now c.args.note c.requires.port c.args.cargo c.requires.ready c.initiator-initiator.result c.self.inside.time (c.initiator-initiator.ensures ∙ ap (λ (t : StateView). t.port.engine.initiator) c.self.view_is) (ap (λ (t : StateView). t.port.time) c.self.view_is)
+pub begin_req-requires-clause-can : goal.begin_req-requires-clause-can
+begin_req-requires-clause-can g c = can_begin_at g.N.Naming.table g.N.Naming.tokens g.N.Naming.frame c.args.self.now c.args.note c.requires.port c.args.cargo c.requires.ready c.initiator-initiator.result c.self.inside.time (c.initiator-initiator.ensures ∙ ap (λ (t : StateView). t.port.engine.initiator) c.self.view_is) (ap (λ (t : StateView). t.port.time) c.self.view_is)
 
 pub returns-in-Left-clause-port : goal.returns-in-Left-clause-port
 returns-in-Left-clause-port g c = goes_free g.N.Naming.table g.N.Naming.tokens g.N.Naming.frame c.args.self.now c.args.note c.requires.port c.in-Left.note c.in-Left.ensures.note c.in-Left.ensures.knew c.in-Left.ensures.below c.requires.free.0
@@ -41,3 +41,6 @@ returns-in-Busy-clause-begun g c = inr (
       (tried_here g.N.Naming.table g.N.Naming.tokens g.N.Naming.frame c.args.self.now c.args.note c.requires.port c.args.cargo c.requires.ready (Busy c.in-Busy.holder c.in-Busy.live c.in-Busy.cargo c.in-Busy.note) c.initiator-initiator.result c.self.inside.time (c.initiator-initiator.ensures ∙ ap (λ (t : StateView). t.port.engine.initiator) c.self.view_is) (ap (λ (t : StateView). t.port.time) c.self.view_is) c.in-Busy.ensures.tried),
   c.ends-in-Busy.ensures,
 )
+
+pub begin_req-requires-clause-hop : goal.begin_req-requires-clause-hop
+begin_req-requires-clause-hop g c = hop_stands g.N.Naming.table g.N.Naming.tokens g.N.Naming.frame c.args.self.now c.args.note c.requires.port c.initiator-initiator.result (c.initiator-initiator.ensures ∙ ap (λ (t : StateView). t.port.engine.initiator) c.self.view_is)

@@ -6,20 +6,19 @@ use Rattle.flow_model.specs.Events.{Among}
 use Rattle.cargo_model.specs.Known.{objects_of}
 use Rattle.cargo_model.specs.Tickets.{Pulls}
 use Rattle.cargo_model.specs.Travel.{with_wallet}
-use Rattle.cargo_net.specs.Ends.{HasEndedResponse, MayEndResponse}
+use Rattle.cargo_net.specs.Ends.{HasEndedResponse}
 use Rattle.cargo_net.proofs.PayloadWallets.{from_pull}
+use Rattle.route_plan.specs.Valid.{hop_count}
+use Rattle.plat_net.specs.HopCalls.{CanEndResponse}
 use Rattle.fourphase_port.specs.Moves.{Ends}
 use Rattle.fourphase_port.specs.Reach.{first_hop}
 use Rattle.fourphase_port.specs.State.{IsPort, StateView, with_note}
 use Rattle.fourphase_port.specs.declared.hand.Hand.TheVariants as Hands
-use Rattle.fourphase_port.proofs.Backs.{end_made, end_of, end_paid, ended, first_there, keeps, may_end}
+use Rattle.fourphase_port.proofs.Backs.{end_made, end_of, end_paid, ended, hop_stands, keeps, can_end}
 use Rattle.fourphase_port.proofs.state.PortState.end.Goals as goal
 
-pub number-hop-requires : goal.number-hop-requires
-number-hop-requires g c =
-    let s = c.args.self.now in
-    let who : c.initiator-initiator.result ≡ s.port.engine.initiator = c.initiator-initiator.ensures ∙ ap (λ (t : StateView). t.port.engine.initiator) c.self.view_is in
-    subst (λ (n : ℕ). Among (objects_of g.N.Naming.frame.world.platform) (Hop n)) (sym who) (first_there g.N.Naming.table g.N.Naming.tokens g.N.Naming.frame s c.args.note c.requires.port)
+pub hop_place-hop-requires : goal.hop_place-hop-requires
+hop_place-hop-requires g c = hop_stands g.N.Naming.table g.N.Naming.tokens g.N.Naming.frame c.args.self.now c.args.note c.requires.port c.initiator-initiator.result (c.initiator-initiator.ensures ∙ ap (λ (t : StateView). t.port.engine.initiator) c.self.view_is)
 
 pub pull-ticket-requires-clause-of : goal.pull-ticket-requires-clause-of
 pull-ticket-requires-clause-of g c =
@@ -29,30 +28,30 @@ pub pull-ticket-requires-clause-left : goal.pull-ticket-requires-clause-left
 pull-ticket-requires-clause-left g c =
     let s = c.args.self.now in
     let who : c.initiator-initiator.result ≡ s.port.engine.initiator = c.initiator-initiator.ensures ∙ ap (λ (t : StateView). t.port.engine.initiator) c.self.view_is in
-    subst (λ (n : ℕ). 0 < left_of c.args.cargo.baton.wallet n) (sym (c.number-hop.ensures ∙ ap (first_hop g.N.Naming.frame.world) who))
+    subst (λ (n : ℕ). 0 < left_of c.args.cargo.baton.wallet n) (sym (c.hop_place-hop.ensures ∙ ap (first_hop g.N.Naming.frame.world) who))
     (end_paid g.N.Naming.table g.N.Naming.tokens g.N.Naming.frame s c.args.note c.requires.port c.args.cargo c.args.leg c.args.at c.requires.owed)
 
-pub end_resp-end-requires-clause-may : goal.end_resp-end-requires-clause-may
-end_resp-end-requires-clause-may g c =
+pub end_resp-end-requires-clause-can : goal.end_resp-end-requires-clause-can
+end_resp-end-requires-clause-can g c =
     let s = c.args.self.now in
     let who : c.initiator-initiator.result ≡ s.port.engine.initiator = c.initiator-initiator.ensures ∙ ap (λ (t : StateView). t.port.engine.initiator) c.self.view_is in
-    subst (λ (n : ℕ). MayEndResponse g.N.Naming.frame g.N.Naming.tokens (first_hop g.N.Naming.frame.world n) c.args.leg c.args.at c.args.note.knows.known) (sym who)
-    (may_end g.N.Naming.table g.N.Naming.tokens g.N.Naming.frame s c.args.note c.requires.port c.args.cargo c.args.leg c.args.at c.requires.owed)
+    subst (λ (n : ℕ). CanEndResponse g.N.Naming.frame g.N.Naming.tokens n c.args.leg c.args.at c.args.note.knows.known) (sym who)
+    (can_end g.N.Naming.table g.N.Naming.tokens g.N.Naming.frame s c.args.note c.requires.port c.args.cargo c.args.leg c.args.at c.requires.owed)
 
 -- what the call at the hop has left
-made : (g : _) (c : goal.After-made g) → HasEndedResponse g.N.Naming.frame c.args.at c.args.cargo.baton.txn (may_end g.N.Naming.table g.N.Naming.tokens g.N.Naming.frame c.args.self.now c.args.note c.requires.port c.args.cargo c.args.leg c.args.at c.requires.owed).pass 0 c.end_resp-end.result.0 c.end_resp-end.result.1.knows.known
+made : (g : _) (c : goal.After-made g) → HasEndedResponse g.N.Naming.frame c.args.at c.args.cargo.baton.txn (can_end g.N.Naming.table g.N.Naming.tokens g.N.Naming.frame c.args.self.now c.args.note c.requires.port c.args.cargo c.args.leg c.args.at c.requires.owed).pass 0 c.end_resp-end.result.0 c.end_resp-end.result.1.knows.known
 made g c =
     let s = c.args.self.now in
     let who : c.initiator-initiator.result ≡ s.port.engine.initiator = c.initiator-initiator.ensures ∙ ap (λ (t : StateView). t.port.engine.initiator) c.self.view_is in
-    subst (λ (n : ℕ). (may : MayEndResponse g.N.Naming.frame g.N.Naming.tokens (first_hop g.N.Naming.frame.world n) c.args.leg c.args.at c.args.note.knows.known) → HasEndedResponse g.N.Naming.frame c.args.at may.x may.pass may.hop c.end_resp-end.result.0 c.end_resp-end.result.1.knows.known) who c.end_resp-end.ensures.ended
-    (may_end g.N.Naming.table g.N.Naming.tokens g.N.Naming.frame s c.args.note c.requires.port c.args.cargo c.args.leg c.args.at c.requires.owed)
+    subst (λ (n : ℕ). (can : CanEndResponse g.N.Naming.frame g.N.Naming.tokens n c.args.leg c.args.at c.args.note.knows.known) → HasEndedResponse g.N.Naming.frame c.args.at can.x can.pass can.hop c.end_resp-end.result.0 c.end_resp-end.result.1.knows.known) who c.end_resp-end.ensures.ended
+    (can_end g.N.Naming.table g.N.Naming.tokens g.N.Naming.frame s c.args.note c.requires.port c.args.cargo c.args.leg c.args.at c.requires.owed)
 
 pulls : (g : _) (c : goal.After-made g) → Pulls g.N.Naming.tokens (first_hop g.N.Naming.frame.world c.args.self.now.port.engine.initiator) 0 c.args.cargo.baton.wallet c.pull-ticket.new.self
 pulls g c =
     let s = c.args.self.now in
     let who : c.initiator-initiator.result ≡ s.port.engine.initiator = c.initiator-initiator.ensures ∙ ap (λ (t : StateView). t.port.engine.initiator) c.self.view_is in
     let e = c.pull-ticket.ensures in
-    from_pull g.N.Naming.tokens c.tickets.result.now (first_hop g.N.Naming.frame.world s.port.engine.initiator) c.number-hop.result c.args.cargo.baton.wallet c.pull-ticket.new.self (c.number-hop.ensures ∙ ap (first_hop g.N.Naming.frame.world) who) c.tickets.ensures e.wallet e.of e.left e.bytes
+    from_pull g.N.Naming.tokens c.tickets.result.now (first_hop g.N.Naming.frame.world s.port.engine.initiator) c.hop_place-hop.result c.args.cargo.baton.wallet c.pull-ticket.new.self (c.hop_place-hop.ensures ∙ ap (first_hop g.N.Naming.frame.world) who) c.tickets.ensures e.wallet e.of e.left e.bytes
 
 pub returns-clause-port : goal.returns-clause-port
 returns-clause-port g c =
@@ -81,3 +80,6 @@ returns-clause-ended g c =
       held = refl;
       look = subst (λ (n : ℕ). back.knows.looks ≡ c.args.note.knows.looks ++ (first_hop g.N.Naming.frame.world n, 0) ∷ []) who e.look;
     })
+
+pub end_resp-end-requires-clause-hop : goal.end_resp-end-requires-clause-hop
+end_resp-end-requires-clause-hop g c = hop_stands g.N.Naming.table g.N.Naming.tokens g.N.Naming.frame c.args.self.now c.args.note c.requires.port c.initiator-initiator.result (c.initiator-initiator.ensures ∙ ap (λ (t : StateView). t.port.engine.initiator) c.self.view_is)

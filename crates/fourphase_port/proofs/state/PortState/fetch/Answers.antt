@@ -1,17 +1,18 @@
 use Rattle.std.proofs.Common.{◌≡◌, ◌<◌, ℕ, [], ◌∷◌, ◌++◌, length, Option, sym, ap, subst, ◌∙◌, inl}
 use Rattle.std.specs.Prelude.{IfSome}
+use Rattle.route_plan.specs.Valid.{hop_count}
 use Rattle.hop_object.specs.Objects.{look_of}
 use Rattle.cargo_net.specs.Fetched.{HasFetchedResponse, up_reply}
 use Rattle.cargo_net.specs.declared.fetches.FetchedResponse.{FetchedResponse}
 use Rattle.fourphase_port.specs.Reach.{first_hop}
 use Rattle.fourphase_port.specs.State.{StateView}
 use Rattle.fourphase_port.specs.declared.hand.Hand.{Hand}
-use Rattle.fourphase_port.proofs.Backs.{fetched_as, fetches_as, goes_free, stands}
+use Rattle.fourphase_port.proofs.Backs.{fetched_as, fetches_as, goes_free, stands_hop}
 use Rattle.fourphase_port.proofs.state.PortState.fetch.Goals as goal
 
-pub fetch_response-fetched-requires-clause-initiator : goal.fetch_response-fetched-requires-clause-initiator
-fetch_response-fetched-requires-clause-initiator g c =
-    subst (λ (n : ℕ). n < length g.N.Naming.frame.world.platform.initiators) (sym (c.initiator.ensures ∙ ap (λ (t : StateView). t.port.engine.initiator) c.self.view_is)) (stands g.N.Naming.table g.N.Naming.tokens g.N.Naming.frame c.args.self.now c.args.note c.requires.port)
+pub fetch_response-fetched-requires-clause-hop : goal.fetch_response-fetched-requires-clause-hop
+fetch_response-fetched-requires-clause-hop g c =
+    subst (λ (n : ℕ). n < hop_count g.N.Naming.frame.world.platform) (sym (c.initiator.ensures ∙ ap (λ (t : StateView). t.port.engine.initiator) c.self.view_is)) (stands_hop g.N.Naming.table g.N.Naming.tokens g.N.Naming.frame c.args.self.now c.args.note c.requires.port)
 
 pub returns-in_default-clause-port : goal.returns-in_default-clause-port
 returns-in_default-clause-port g c = goes_free g.N.Naming.table g.N.Naming.tokens g.N.Naming.frame c.args.self.now c.args.note c.requires.port c.fetch_response-fetched.result.1 c.fetch_response-fetched.ensures.note c.fetch_response-fetched.ensures.knew c.fetch_response-fetched.ensures.below c.requires.free

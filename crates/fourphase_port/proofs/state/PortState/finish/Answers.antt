@@ -1,9 +1,7 @@
 use Rattle.std.proofs.Common.{ℕ, sym, ap, subst, ◌∙◌}
-use Rattle.tlm_types.specs.declared.words.ObjectNo.TheVariants.{Pool}
-use Rattle.flow_model.specs.Events.{Among}
-use Rattle.cargo_model.specs.Known.{objects_of}
+use Rattle.plat_net.specs.Net.{HasPool}
 use Rattle.fourphase_port.specs.State.{StateView}
-use Rattle.fourphase_port.proofs.Backs.{goes_free, own_pool_there}
+use Rattle.fourphase_port.proofs.Backs.{goes_free, pool_is_there}
 use Rattle.fourphase_port.proofs.state.PortState.finish.Goals as goal
 
 pub returns-then-live-eq0-clause-port : goal.returns-then-live-eq0-clause-port
@@ -18,5 +16,5 @@ returns-clause-port g c =
 
 pub live-live-requires-clause-pool : goal.live-live-requires-clause-pool
 live-live-requires-clause-pool g c =
-    subst (λ (n : ℕ). Among (objects_of g.N.Naming.frame.world.platform) (Pool n)) (sym (c.initiator.ensures ∙ ap (λ (t : StateView). t.port.engine.initiator) c.self.view_is))
-    (own_pool_there g.N.Naming.table g.N.Naming.tokens g.N.Naming.frame c.args.self.now c.args.note c.requires.port)
+    subst (λ (n : ℕ). HasPool g.N.Naming.frame.world.platform n) (sym (c.initiator.ensures ∙ ap (λ (t : StateView). t.port.engine.initiator) c.self.view_is))
+    (pool_is_there g.N.Naming.table g.N.Naming.tokens g.N.Naming.frame c.args.self.now c.args.note c.requires.port)

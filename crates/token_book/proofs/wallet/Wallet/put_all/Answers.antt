@@ -1,5 +1,6 @@
-use Rattle.std.proofs.Common.{◌+◌, sym, ap, ◌∙◌, subst, arith}
-use Rattle.token_book.specs.Purse.{HasRoomForAll, IsOf, Purse, bytes_of, left_of}
+use Rattle.std.proofs.Common.{◌+◌, ◌<◌, sym, ap, ◌∙◌, subst, arith}
+use Rattle.token_book.specs.Purse.{HasPlace, HasRoomForAll, IsOf, Purse, bytes_of, left_of}
+use Rattle.token_book.proofs.PlaceLists.{placed}
 use Rattle.token_book.proofs.Merging.{bytes_moved, bytes_none, has_room, left_moved, left_none, more, of_less, of_more, room_moved}
 use Rattle.token_book.proofs.wallet.Wallet.put_all.Goals as goal
 
@@ -32,3 +33,6 @@ returns-clause-left c = λ o. (let none = left_none c.loop-place.from o c.in_def
 
 pub returns-clause-bytes : goal.returns-clause-bytes
 returns-clause-bytes c = λ o. (let none = bytes_none c.loop-place.from o c.in_default.ensures.none.0 in omega (arith, none, c.loop-place.invariant.bytes o))
+
+pub returns-clause-full : goal.returns-clause-full
+returns-clause-full c = λ o. subst (λ (w : Purse). HasPlace w o → 0 < left_of w o + bytes_of w o) c.self.view_is (placed c.self.inside.most c.self.inside.places.items o c.self.invariant.full).0

@@ -1,0 +1,17 @@
+//! What a port has for the access that is next.
+ghost use Rattle.fourphase_port.specs.Laws.{NextIsPaid, NextMayBeStocked, NextMayStart};
+
+/// A port has all tickets and bytes of the access that is next.
+pub fn next_may_be_stocked()
+    ensures { NextMayBeStocked }
+{}
+
+/// With them it pays the price of the access, object by object.
+pub fn next_is_paid()
+    ensures { NextIsPaid }
+{}
+
+/// Once its payload was taken, filled and stocked, the access may start.
+pub fn next_may_start()
+    ensures { NextMayStart }
+{}
