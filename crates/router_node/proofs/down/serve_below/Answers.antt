@@ -1,0 +1,10 @@
+use Rattle.router_node.proofs.Passes.{can_serve, served_below}
+use Rattle.router_node.proofs.down.serve_below.Goals as goal
+
+pub serve-cargo-requires-clause-can : goal.serve-cargo-requires-clause-can
+serve-cargo-requires-clause-can g c = can_serve g.N.Naming.frame g.N.Naming.tokens c.args.note.knows.known c.args.memory c.args.held.now c.args.begun c.requires.begun c.requires.leads
+
+pub returns-clause-served : goal.returns-clause-served
+returns-clause-served g c =
+    served_below g.N.Naming.frame g.N.Naming.tokens c.args.note.knows.known c.args.memory c.args.held.now c.args.begun c.requires.begun c.requires.leads c.serve-cargo.result.1.knows.known c.serve-cargo.ensures.knew c.args.latency c.saturating_add.result c.serve-cargo.result.0
+    c.requires.latency c.saturating_add.ensures (c.serve-cargo.ensures.served (can_serve g.N.Naming.frame g.N.Naming.tokens c.args.note.knows.known c.args.memory c.args.held.now c.args.begun c.requires.begun c.requires.leads))

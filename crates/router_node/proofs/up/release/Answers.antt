@@ -1,0 +1,10 @@
+use Rattle.router_node.proofs.Sends.{can_release, was_released}
+use Rattle.router_node.proofs.up.release.Goals as goal
+
+pub release-note-requires-clause-can : goal.release-note-requires-clause-can
+release-note-requires-clause-can g c = can_release g.N.Naming.frame g.N.Naming.tokens c.args.note.knows.known c.args.rest c.requires.rest c.in-At.at c.in-At.is
+
+pub returns-clause-released : goal.returns-clause-released
+returns-clause-released g c =
+    was_released g.N.Naming.frame g.N.Naming.tokens c.args.note.knows.known c.args.rest c.requires.rest c.in-At.at c.in-At.is c.release-note.result.1.knows.known c.release-note.result.0
+    (c.release-note.ensures.released (can_release g.N.Naming.frame g.N.Naming.tokens c.args.note.knows.known c.args.rest c.requires.rest c.in-At.at c.in-At.is))

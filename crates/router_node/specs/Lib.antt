@@ -1,0 +1,4 @@
+pub mod Items
+pub mod Moves
+pub mod Laws
+pub mod Turns

@@ -1,0 +1,12 @@
+//! Laws of what a router holds.
+ghost use Rattle.router_node.specs.Laws.{EndedHoldsOn, MoreIsKnown};
+
+/// What a router knows of the transactions that it holds stays known while it makes moves for others.
+pub fn more_is_known()
+    ensures { MoreIsKnown }
+{}
+
+/// END_REQ above changes nothing below.
+pub fn ended_holds_on()
+    ensures { EndedHoldsOn }
+{}
