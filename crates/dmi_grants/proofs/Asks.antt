@@ -39,7 +39,7 @@ use Rattle.plat_net.proofs.Lookups.{some_below}
 use Rattle.dmi_grants.specs.declared.table.Held.{Held}
 use Rattle.dmi_grants.specs.Made.{HasSpent, IsMade, added, dmi_gates, is_given_in}
 use Rattle.dmi_grants.specs.Asking.{AreGiven, IsCause, IsCauseAt, IsDenied, IsTaken, MayAsk}
-use Rattle.dmi_grants.specs.Ranges.{lifted_at}
+use Rattle.dmi_grants.specs.Ranges.{AreAddressesOf, lifted_at}
 use Rattle.dmi_grants.specs.Table.{AreKnown, HasPlaces, TableView, is_held}
 use Rattle.dmi_grants.proofs.Lists.{has_any}
 use Rattle.dmi_grants.proofs.Known.{given_more, given_of_log, granted_in, log_given, log_known}
@@ -259,9 +259,9 @@ module _ (frame : Frame Plan) (command : Command) (address : ℕ) (route : Route
 
   pub ask_taken : (who gate first last low high base p which : ℕ) (kind : Kind) (new : TableView) (after : Purse) → o ≡ GrantedReply gate first last kind → position ≡ Some p
       → new ≡ record { held = old.held ++ record { gate = gate; memory = route.memory; first = first; last = last; kind = kind; position = p; txn = txn; time = time; low = low; high = high; base = base } ∷ []; room = old.room }
-      → which ≡ length old.held → lifted_at frame.world who address (first, last) ≡ Some (low, high) → (low ≤ address) × (address ≤ high) → base + (address - low) ≡ route.offset → (first ≤ base) × (base + (high - low) ≤ last)
+      → which ≡ length old.held → lifted_at frame.world who address (first, last) ≡ Some (low, high) → AreAddressesOf frame.world who route.memory first last low high base → (low ≤ address) × (address ≤ high) → base + (address - low) ≡ route.offset → (first ≤ base) × (base + (high - low) ≤ last)
       → HasSpent route.memory (added position) w after → IsTaken frame who command address route txn time old new note back which × HasSpent route.memory 1 w after
-  ask_taken who gate first last low high base p which kind new after is some table place range within start inside spent =
+  ask_taken who gate first last low high base p which kind new after is some table place range addresses within start inside spent =
       let reply = said (GrantedReply gate first last kind) is in
       let g = given_by frame route.memory there txn time command note back gate first last kind position reply in
       let h : Held = record { gate = gate; memory = route.memory; first = first; last = last; kind = kind; position = p; txn = txn; time = time; low = low; high = high; base = base } in (
@@ -272,6 +272,7 @@ module _ (frame : Frame Plan) (command : Command) (address : ℕ) (route : Route
           told = (refl, refl);
           made = subst (λ (x : Option ℕ). IsMade frame route.memory (Grant txn time command) note back x (GrantedReply gate first last kind)) some reply;
           range = range;
+          addresses = addresses;
           base = start;
           within = within;
           usable = record { memory = refl; gate = g.total; granted = g.granted; inside = inside };
@@ -282,4 +283,4 @@ module _ (frame : Frame Plan) (command : Command) (address : ℕ) (route : Route
   pub ask_denied : (denial : Denial) (after : Purse) → o ≡ Denied denial → HasSpent route.memory (added position) w after → IsDenied frame command route.memory old old note back denial × HasSpent route.memory 0 w after
   ask_denied denial after is spent =
       let d = denied_by frame route.memory there txn time command note back denial position (said (Denied denial) is) in
-      (record { table = refl; keeps = made.enters.knew; cause = d.1 }, subst (λ (x : Option ℕ). HasSpent route.memory (added x) w after) d.0 spent)
+      (record { table = refl; keeps = made.enters.knew; below = λ lower. made.enters.below; cause = d.1 }, subst (λ (x : Option ℕ). HasSpent route.memory (added x) w after) d.0 spent)

@@ -4,9 +4,11 @@ use Rattle.std.specs.Prelude.{nat_le}
 use Rattle.std.proofs.lemmas.Bool.{and_parts, and_cases, cases_Bool, eq-eqb, le-leb, not-false}
 use Rattle.view_lists.specs.Lists.{Has, Within}
 use Rattle.view_lists.proofs.Members.{has_either, has_left, has_none, has_one, has_right, has_later}
+use Rattle.one_history.specs.declared.entry.Entry.{Entry}
 use Rattle.one_history.specs.declared.view.Frame.{Frame}
 use Rattle.one_history.specs.declared.view.View.{View}
 use Rattle.one_history.specs.Gates.{IsRevoked, total_gates}
+use Rattle.one_history.specs.Lists.{StandBelow}
 use Rattle.shared_object.specs.Steps.{addition}
 use Rattle.shared_object.specs.Written.{Written, wrote, written_at}
 use Rattle.token_book.specs.Purse.{Purse, left_of}
@@ -77,20 +79,21 @@ module _ (frame : Frame Plan) (m : ℕ) (there : m < length frame.world.platform
       omega (arith, one)
 
   -- the gate was closed, now or before
-  closes_by : (txn : TxnId) (time gate : ℕ) (note d back : View Content Plan) (reply : RegionReply) (before after : Purse) (position : Option ℕ) → d.known ≡ note.known → IsMade frame m (Close txn time gate) d back position reply → HasSpent m (added position) before after → HasClosed frame m txn time gate note back before after
-  closes_by txn time gate note d back reply before after None same made spent =
+  closes_by : (txn : TxnId) (time gate : ℕ) (note d back : View Content Plan) (reply : RegionReply) (before after : Purse) (position : Option ℕ) → d.known ≡ note.known → StandBelow note.known d.seen → IsMade frame m (Close txn time gate) d back position reply → HasSpent m (added position) before after → HasClosed frame m txn time gate note back before after
+  closes_by txn time gate note d back reply before after None same below made spent =
       let shut : is_closed gate made.memory.log.entries ≡ true = not-false (is_closed gate made.memory.log.entries) made.enters.when in
       record {
         own = [];
         each = λ w has. absurd (has_none w has);
         past = λ w x has known. absurd (has_none w has);
+        above = λ w e has known. absurd (has_none w has);
         few = omega arith;
         keeps = subst (λ l. Within l back.known) same made.enters.knew;
         knows = λ w has. absurd (has_none w has);
         wallet = spent;
         closed = closed_more (entries_of made.memory) (written_at m back.known) gate (before_known (Close txn time gate) d back None reply made) (closed_of_log made.memory.log.entries gate shut);
       }
-  closes_by txn time gate note d back reply before after (Some p) same made spent =
+  closes_by txn time gate note d back reply before after (Some p) same below made spent =
       let w : Written = wrote p (content_of made.memory (Close txn time gate)) in
       let there_ : Has (written_at m back.known) w = log_known m _ back.known made.enters.knows w (subst (λ l. Has l w) (sym made.enters.log) (has_right (entries_of made.memory) (w ∷ []) w (0, refl))) in
       record {
@@ -100,6 +103,12 @@ module _ (frame : Frame Plan) (m : ℕ) (there : m < length frame.world.platform
             let is : w ≡ x = has_one w x has in
             let under = made.enters.past y (made.known y (subst (λ l. Has (written_at m l) y) (sym same) known)) in
             subst (λ (z : Written). y.position < z.position) is under;
+        above = λ x e has known.
+            let is : w ≡ x = has_one w x has in
+            let under = below e known in
+            let late = made.enters.late.0 in
+            let lower : e.position < w.position = omega (arith, under, late) in
+            subst (λ (z : Written). e.position < z.position) is lower;
         few = omega arith;
         keeps = subst (λ l. Within l back.known) same made.enters.knew;
         knows = λ x has. subst (λ (z : Written). Has (written_at m back.known) z) (has_one w x has) there_;
@@ -107,7 +116,7 @@ module _ (frame : Frame Plan) (m : ℕ) (there : m < length frame.world.platform
         closed = any_has (λ (x : Written). closes gate x.content.what) (written_at m back.known) w there_ (eq-eqb gate gate refl);
       }
 
-  pub closed_by : (txn : TxnId) (time gate : ℕ) (note d back : View Content Plan) (reply : RegionReply) (before after : Purse) (position : Option ℕ) → d.known ≡ note.known → IsMade frame m (Close txn time gate) d back position reply → HasSpent m (added position) before after → HasClosed frame m txn time gate note back before after
+  pub closed_by : (txn : TxnId) (time gate : ℕ) (note d back : View Content Plan) (reply : RegionReply) (before after : Purse) (position : Option ℕ) → d.known ≡ note.known → StandBelow note.known d.seen → IsMade frame m (Close txn time gate) d back position reply → HasSpent m (added position) before after → HasClosed frame m txn time gate note back before after
   closed_by = closes_by
 
 rising_short : (own : List Written) → length own ≤ 1 → IsRising place_of own
@@ -127,6 +136,7 @@ module _ (frame : Frame Plan) (m : ℕ) (txn : TxnId) (time low high told : ℕ)
       overlapped = overlapped_more log (written_at m back.known) low high told gate (λ x in_log. known_more m seen.known back.known c.keeps x (logged x in_log)) found.overlapped;
     };
     past = λ w x has known. c.past w x has (known_more m note.known seen.known knew x known);
+    above = λ w e has known. c.above w e has (knew e known);
     rising = rising_short c.own c.few;
     keeps = λ e has. c.keeps e (knew e has);
     knows = c.knows;
@@ -144,6 +154,7 @@ module _ (frame : Frame Plan) (m : ℕ) (txn : TxnId) (time low high told : ℕ)
   ended_none note w = record {
     each = λ x has. absurd (has_none x has);
     past = λ x y has known. absurd (has_none x has);
+    above = λ x e has known. absurd (has_none x has);
     rising = tt;
     keeps = λ e has. has;
     knows = λ x has. absurd (has_none x has);
@@ -166,6 +177,7 @@ module _ (frame : Frame Plan) (m : ℕ) (txn : TxnId) (time low high told : ℕ)
   ended_both xs ys a b c u v w first second = record {
     each = λ z has. ⊎_elim (λ (l : Has xs z). own_more z b c second.keeps (first.each z l)) (λ (r : Has ys z). second.each z r) (has_either xs ys z has);
     past = λ z x has known. ⊎_elim (λ (l : Has xs z). first.past z x l known) (λ (r : Has ys z). second.past z x r (known_more m a.known b.known first.keeps x known)) (has_either xs ys z has);
+    above = λ z e has known. ⊎_elim (λ (l : Has xs z). first.above z e l known) (λ (r : Has ys z). second.above z e r (first.keeps e known)) (has_either xs ys z has);
     rising = rising_both xs ys first.rising second.rising (λ x y in_xs in_ys. second.past y x in_ys (first.knows x in_xs));
     keeps = λ e has. second.keeps e (first.keeps e has);
     knows = λ z has. ⊎_elim (λ (l : Has xs z). known_more m b.known c.known second.keeps z (first.knows z l)) (λ (r : Has ys z). second.knows z r) (has_either xs ys z has);

@@ -118,6 +118,9 @@ close_fits known g is =
 pub granted_in : (known : List Written) (g first last : ℕ) (kind : Kind) → HasGrant known g first last kind → IsTrue (is_given_in known g)
 granted_in known g first last kind has = any_has (λ (w : Written). gives g w.content.what) known has.0 has.1 (ap (gives g) has.2 ∙ eq-eqb g g refl)
 
+pub grant_more : (xs ys : List Written) (g first last : ℕ) (kind : Kind) → Within xs ys → HasGrant xs g first last kind → HasGrant ys g first last kind
+grant_more xs ys g first last kind more has = (has.0, more has.0 has.1, has.2)
+
 -- a gate that is open in a log, and its grant
 pub open_grant : (log : List Entry) (low high told g : ℕ) → IsTrue (is_open log low high told g) → IsOverlapped (written_from 0 log) low high told g
 open_grant log low high told g is =

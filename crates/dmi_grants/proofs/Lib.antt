@@ -6,4 +6,5 @@ pub mod GateNumbers
 pub mod Uses
 pub mod Endings
 pub mod Lifting
+pub mod OnlyWay
 pub mod Asks

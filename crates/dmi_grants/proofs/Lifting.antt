@@ -29,7 +29,7 @@ use Rattle.route_plan.proofs.StepLemmas.{router_there}
 use Rattle.route_plan.proofs.NumberLemmas.{decoded_numbered, seen_by, window_is_found}
 use Rattle.dmi_grants.specs.Ranges.{lifted, lifted_at, lifted_by, over_router, over_window}
 
-mapped_at : {X Y : Type 0} (f : X → Y) (xs : List X) (k : ℕ) (x : X) → slice_get xs k ≡ Some x → slice_get (map f xs) k ≡ Some (f x)
+pub mapped_at : {X Y : Type 0} (f : X → Y) (xs : List X) (k : ℕ) (x : X) → slice_get xs k ≡ Some x → slice_get (map f xs) k ≡ Some (f x)
 mapped_at f [] k x at = absurd (cc (at))
 mapped_at f (y ∷ ys) zero x at = let same : y ≡ x = cc (at) in ap (λ z. Some (f z)) same
 mapped_at f (y ∷ ys) (suc k) x at = mapped_at f ys k x at
@@ -195,7 +195,7 @@ pub window_has_it : (n : ℕ) (ws : List WindowRow) (a : ℕ) (f : Found) → wi
 window_has_it n [] a f is = absurd (cc (is))
 window_has_it n (w ∷ ws) a f is = has_by_test n w a (window_of (n + 1) ws a) f (window_has_it (n + 1) ws a f) (nat_le w.first a && nat_le a w.last) refl is
 
-into_end : (o : Option MemoryRow) (n a before m off : ℕ) → (model.into_memory o n a before).end ≡ Some (record { memory = m; offset = off }) → a ≡ off
+pub into_end : (o : Option MemoryRow) (n a before m off : ℕ) → (model.into_memory o n a before).end ≡ Some (record { memory = m; offset = off }) → a ≡ off
 into_end None n a before m off is = absurd (cc (is))
 into_end (Some row) n a before m off is = let r : model.Route = record { memory = n; offset = a } in let s : model.Route = record { memory = m; offset = off } in let e : r ≡ s = cc (is) in ap (λ (x : model.Route). x.offset) e
 
@@ -204,7 +204,7 @@ abbrev pub HasLifted : Option (ℕ × ℕ) → ℕ → ℕ → ℕ → ℕ → T
 HasLifted o a off first last = (r : ℕ × ℕ) × (o ≡ Some r) × IsLifted r a off first last
 
 -- where a walk ends at a memory
-abbrev EndsAt : Walk → ℕ → ℕ → Type 0
+abbrev pub EndsAt : Walk → ℕ → ℕ → Type 0
 EndsAt w m off = w.end ≡ Some (record { memory = m; offset = off })
 
 module _ (p : Platform) (r a m off first last : ℕ) (walks : Target → ℕ → ℕ → Walk) (lifts_to : Target → ℕ → Option (ℕ × ℕ)) (next : (t : Target) (b before : ℕ) → EndsAt (walks t b before) m off → HasLifted (lifts_to t b) b off first last) where
@@ -236,7 +236,7 @@ by_row : (p : Platform) (n a m off first last : ℕ) (o : Option InitiatorRow) �
 by_row p n a m off first last None is from to = absurd (cc (is))
 by_row p n a m off first last (Some row) is from to = lifts 9 p row.bind a 0 m off first last is from to
 
-route_end : (w : Walk) (route : Route) → route_by w ≡ Some route → (o : Option model.Route) → w.end ≡ o → EndsAt w route.memory route.offset
+pub route_end : (w : Walk) (route : Route) → route_by w ≡ Some route → (o : Option model.Route) → w.end ≡ o → EndsAt w route.memory route.offset
 route_end w route is None ends = absurd (let e : route_seen w.before w.latency None ≡ Some route = ap (route_seen w.before w.latency) (sym ends) ∙ is in cc (e))
 route_end w route is (Some x) ends =
     let made : Route = record { memory = x.memory; offset = x.offset; before = w.before; latency = w.latency } in

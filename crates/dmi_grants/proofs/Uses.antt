@@ -9,6 +9,7 @@ use Rattle.one_history.specs.declared.entry.Entry.{Entry as HistoryEntry}
 use Rattle.one_history.specs.declared.view.Frame.{Frame}
 use Rattle.one_history.specs.declared.view.View.{View}
 use Rattle.one_history.specs.Gates.{IsRevoked}
+use Rattle.one_history.specs.Lists.{StandBelow}
 use Rattle.shared_object.specs.Written.{placed, written_at}
 use Rattle.token_book.specs.Purse.{Purse}
 use Rattle.tlm_types.specs.declared.entry.Content.{Content}
@@ -141,12 +142,13 @@ use_given frame p note seen w h may same =
     subst (λ (l : List (HistoryEntry Content)). IsTrue (is_given_in (written_at h.memory l) h.gate)) (sym same) (granted_in (written_at h.memory note.known) h.gate h.first h.last h.kind may.usable.granted)
 
 -- a grant that was found stale
-pub found_stale : (h x : Held) (which : ℕ) (old new : TableView) (note seen known : View Content Plan) (w : Purse) → Some h ≡ Some x → new ≡ record { held = remove old.held which; room = old.room } → seen.known ≡ note.known → Within seen.known known.known → IsRevoked known.known h.gate → IsFoundStale x which old new note w w known
-found_stale h x which old new note seen known w is table same keeps revoked =
+pub found_stale : (h x : Held) (which : ℕ) (old new : TableView) (note seen known : View Content Plan) (w : Purse) → Some h ≡ Some x → new ≡ record { held = remove old.held which; room = old.room } → seen.known ≡ note.known → Within seen.known known.known → IsRevoked known.known h.gate → StandBelow known.known known.seen → IsFoundStale x which old new note w w known
+found_stale h x which old new note seen known w is table same keeps revoked below =
     let e : h ≡ x = cc (is) in
     record {
       table = table;
       keeps = subst (λ (l : List (HistoryEntry Content)). Within l known.known) same keeps;
       revoked = subst (λ (y : Held). IsRevoked known.known y.gate) e revoked;
+      below = below;
       wallet = refl;
     }

@@ -3,6 +3,7 @@ use Rattle.std.specs.Prelude.{ℕ, ◌≡◌, ◌+◌, ◌-◌, ◌<◌, ◌≤�
 use Rattle.view_lists.specs.Lists.{Within}
 use Rattle.one_history.specs.declared.view.Frame.{Frame}
 use Rattle.one_history.specs.declared.view.View.{View}
+use Rattle.one_history.specs.Lists.{StandBelow}
 use Rattle.shared_object.specs.Written.{Written, written_at}
 use Rattle.token_book.specs.Purse.{Purse, left_of}
 use Rattle.tlm_types.specs.declared.entry.Content.{Content}
@@ -23,7 +24,7 @@ use Rattle.dmi_grants.specs.declared.ask.Asked.{Asked}
 use Rattle.dmi_grants.specs.declared.ask.Asked.TheVariants.{Held as IsHeldAt, Denied}
 use Rattle.dmi_grants.specs.declared.table.Held.{Held}
 use Rattle.dmi_grants.specs.Made.{HasSpent, IsMade, IsRoomyFor, dmi_gates, is_given_in}
-use Rattle.dmi_grants.specs.Ranges.{lifted_at}
+use Rattle.dmi_grants.specs.Ranges.{AreAddressesOf, lifted_at}
 use Rattle.dmi_grants.specs.Table.{AreKnown, HasPlaces, IsUsable, TableView}
 
 -- a route that ends within its memory
@@ -53,7 +54,8 @@ pub record MayAsk (p : Plan) (command : Command) (table : TableView) (note : Vie
   pub room : IsRoomyFor route.memory w
   pub ticket : left_of w route.memory ≡ 0 → IsCauseAt p route.memory (written_at route.memory note.known) command GatesSpent
 
--- The memory gave a grant, in one entry, and it is held last: its range translated up is from low to high, of which low leads to base.
+-- The memory gave a grant, in one entry, and it is held last: its range translated up is from low to high, of which low leads to base. These are
+-- all addresses of the initiator that lead into it.
 pub record IsTaken (frame : Frame Plan) (who : ℕ) (command : Command) (address : ℕ) (route : Route) (txn : TxnId) (time : ℕ) (old new : TableView) (note back : View Content Plan) (which : ℕ) : Type 0 where
   pub held : Held
   pub table : new ≡ record { held = old.held ++ held ∷ []; room = old.room }
@@ -61,14 +63,16 @@ pub record IsTaken (frame : Frame Plan) (who : ℕ) (command : Command) (address
   pub told : (held.txn ≡ txn) × (held.time ≡ time)
   pub made : IsMade frame route.memory (Grant txn time command) note back (Some held.position) (Granted held.gate held.first held.last held.kind)
   pub range : lifted_at frame.world who address (held.first, held.last) ≡ Some (held.low, held.high)
+  pub addresses : AreAddressesOf frame.world who route.memory held.first held.last held.low held.high held.base
   pub base : held.base + (address - held.low) ≡ route.offset
   pub within : (held.low ≤ address) × (address ≤ held.high)
   pub usable : IsUsable frame route.memory (written_at route.memory back.known) held
 
--- No grant was given, and this is why: the note knows no less, and the table is as it was.
+-- No grant was given, and this is why: the note knows no less, still below what it has seen, and the table is as it was.
 pub record IsDenied (frame : Frame Plan) (command : Command) (m : ℕ) (old new : TableView) (note back : View Content Plan) (denial : Denial) : Type 0 where
   pub table : new ≡ old
   pub keeps : Within note.known back.known
+  pub below : StandBelow note.known note.seen → StandBelow back.known back.seen
   pub cause : IsCauseAt frame.world m (written_at m back.known) command denial
 
 -- what was answered, and for what a ticket was spent

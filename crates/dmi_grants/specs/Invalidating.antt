@@ -1,6 +1,7 @@
 -- What an invalidation does (IEEE 1666-2011, clause 11.2.6).
 use Rattle.std.specs.Prelude.{ℕ, ◌≡◌, ◌+◌, ◌<◌, ◌≤◌, IsTrue, List, length, Some, None}
 use Rattle.view_lists.specs.Lists.{Has, Within}
+use Rattle.one_history.specs.declared.entry.Entry.{Entry}
 use Rattle.one_history.specs.declared.view.Frame.{Frame}
 use Rattle.one_history.specs.declared.view.View.{View}
 use Rattle.shared_object.specs.Written.{Written, written_at}
@@ -48,6 +49,7 @@ pub record HasClosed (frame : Frame Plan) (m : ℕ) (txn : TxnId) (time gate : �
   pub own : List Written
   pub each : (w : Written) → Has own w → (w.content.what ≡ Closed gate) × (w.content.txn ≡ txn) × (w.content.time ≡ time)
   pub past : (w x : Written) → Has own w → Has (written_at m note.known) x → x.position < w.position
+  pub above : (w : Written) (e : Entry Content) → Has own w → Has note.known e → e.position < w.position
   pub few : length own ≤ 1
   pub keeps : Within note.known back.known
   pub knows : Within own (written_at m back.known)
@@ -55,10 +57,11 @@ pub record HasClosed (frame : Frame Plan) (m : ℕ) (txn : TxnId) (time gate : �
   pub closed : IsTrue (is_closed_in (written_at m back.known) gate)
 
 -- An invalidation of memory m that stands at this position has added these closings, in rising order, and has spent a ticket for each. The
--- note has come from the one to the other, and knows them. Each was added past all that the note knew of the memory.
+-- note has come from the one to the other, and knows them. Each was added past all that the note knew, of the memory and of others.
 pub record HasEnded (frame : Frame Plan) (m : ℕ) (txn : TxnId) (time low high told : ℕ) (own : List Written) (note back : View Content Plan) (before after : Purse) : Type 0 where
   pub each : (w : Written) → Has own w → IsOwnClosing (written_at m back.known) txn time low high told w
   pub past : (w x : Written) → Has own w → Has (written_at m note.known) x → x.position < w.position
+  pub above : (w : Written) (e : Entry Content) → Has own w → Has note.known e → e.position < w.position
   pub rising : IsRising place_of own
   pub keeps : Within note.known back.known
   pub knows : Within own (written_at m back.known)

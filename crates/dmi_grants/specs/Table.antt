@@ -1,12 +1,14 @@
 -- The grants that an initiator holds (IEEE 1666-2011, clause 11.2).
 use Rattle.std.specs.Prelude.{ℕ, ◌≡◌, ◌+◌, ◌-◌, ◌<◌, ◌≤◌, Bool, ◌&&◌, ◌==◌, List, length, nat_le}
 use Rattle.std.specs.List.{list_any}
-use Rattle.view_lists.specs.Lists.{Has}
+use Rattle.view_lists.specs.Lists.{Has, Within}
 use Rattle.one_history.specs.declared.view.Frame.{Frame}
+use Rattle.one_history.specs.declared.view.View.{View}
 use Rattle.one_history.specs.Gates.{total_gates}
-use Rattle.shared_object.specs.Written.{Written}
+use Rattle.shared_object.specs.Written.{Written, written_at}
 use Rattle.tlm_types.specs.declared.words.Command.{Command}
 use Rattle.tlm_types.specs.declared.words.ObjectNo.TheVariants.{Memory}
+use Rattle.tlm_types.specs.declared.entry.Content.{Content}
 use Rattle.tlm_types.specs.declared.entry.Entry.{Entry}
 use Rattle.tlm_types.specs.declared.entry.What.TheVariants.{Granted}
 use Rattle.tlm_model.specs.Plan.{Plan}
@@ -48,3 +50,13 @@ pub record IsUsable (frame : Frame Plan) (m : ℕ) (known : List Written) (h : H
   pub gate : h.gate < total_gates frame
   pub granted : HasGrant known h.gate h.first h.last h.kind
   pub inside : (h.first ≤ h.base) × (h.base + (h.high - h.low) ≤ h.last)
+
+-- as a note learns more, a grant by which accesses may be made stays one
+abbrev pub StaysUsable : Type 0
+StaysUsable =
+    (frame : Frame Plan) (m : ℕ) (note back : View Content Plan) (h : Held) → Within note.known back.known
+    → IsUsable frame m (written_at m note.known) h → IsUsable frame m (written_at m back.known) h
+
+-- and the grants that are held stay known
+abbrev pub StayKnown : Type 0
+StayKnown = (m : ℕ) (note back : View Content Plan) (held : List Held) → Within note.known back.known → AreKnown m (written_at m note.known) held → AreKnown m (written_at m back.known) held

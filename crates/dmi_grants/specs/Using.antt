@@ -5,6 +5,7 @@ use Rattle.one_history.specs.declared.view.Frame.{Frame}
 use Rattle.one_history.specs.declared.view.View.{View}
 use Rattle.one_history.specs.Gates.{IsRevoked}
 use Rattle.one_history.specs.Held.{Held as Noted}
+use Rattle.one_history.specs.Lists.{StandBelow}
 use Rattle.shared_object.specs.Written.{written_at}
 use Rattle.token_book.specs.Purse.{Purse, left_of, bytes_of}
 use Rattle.tlm_types.specs.declared.entry.Content.{Content}
@@ -49,11 +50,12 @@ pub record HasGoneDirect (frame : Frame Plan) (h : Held) (p : PayloadView) (txn 
   pub ok : back.status ≡ Ok
   pub ticket : OneTicketLess h.memory (payload_cost p) before after
 
--- an invalidation that overlaps the grant is known after it, and the grant is held no more
+-- an invalidation that overlaps the grant is known after it, below what the note has seen, and the grant is held no more
 pub record IsFoundStale (h : Held) (which : ℕ) (old new : TableView) (note : View Content Plan) (before after : Purse) (known : View Content Plan) : Type 0 where
   pub table : new ≡ record { held = remove old.held which; room = old.room }
   pub keeps : Within note.known known.known
   pub revoked : IsRevoked known.known h.gate
+  pub below : StandBelow known.known known.seen
   pub wallet : after ≡ before
 
 abbrev pub HasUsed : Frame Plan → Held → ℕ → PayloadView → TxnId → ℕ → TableView → TableView → View Content Plan → Purse → Purse → UseOf → Type 0

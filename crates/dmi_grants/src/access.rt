@@ -1,13 +1,14 @@
 // The use of a grant.
-ghost use Rattle.std.specs.Prelude.{◌≡◌, ◌<◌, IsSomeAnd, IsTrue, length, slice_get};
+ghost use Rattle.std.specs.Prelude.{◌≡◌, ℕ, ◌<◌, IsSomeAnd, IsTrue, length, slice_get};
 ghost use Rattle.std.specs.Option.{ForSome};
 ghost use Rattle.view_lists.specs.Lists.{Has, Within};
 ghost use Rattle.one_history.specs.Gates.{IsRevoked};
+ghost use Rattle.one_history.specs.Lists.{StandBelow};
 ghost use Rattle.shared_object.specs.Steps.{IsInside, IsNote};
 ghost use Rattle.token_book.specs.Purse.{IsOf};
 ghost use Rattle.plat_net.specs.Calls.{HasNoPassage};
 ghost use Rattle.shared_object.specs.Written.{written_at};
-ghost use Rattle.dmi_grants.specs.Made.{is_given_in};
+ghost use Rattle.dmi_grants.specs.Made.{IsRoomyFor, is_given_in};
 ghost use Rattle.dmi_grants.specs.Using.{HasGoneThrough, HasUsed, MayUse, note_of};
 
 use crate::made::{Made, least_open, make_inside};
@@ -67,6 +68,7 @@ impl GrantTable {
         // What comes back.
         ensures note { IsNote N.table (note_of result) }
         ensures wallet { IsOf N.tokens wallet.new }
+        ensures room { (m : ℕ) → IsRoomyFor m wallet.old → IsRoomyFor m wallet.new }
     {
         let held = self.at(which);
         match net.history().enter(&mut note, held.gate) {
@@ -98,6 +100,7 @@ fn go_direct<N: Naming<Plan, TlmLaw>, R: Wait>(
     ensures used { HasGoneThrough N.frame held payload txn at note.knows wallet.old wallet.new result }
     ensures note { IsNote N.table (note_of result) }
     ensures wallet { IsOf N.tokens wallet.new }
+    ensures room { (m : ℕ) → IsRoomyFor m wallet.old → IsRoomyFor m wallet.new }
 {
     let _ = net.plan().platform();
     let bytes = payload_cost(&payload);
@@ -138,6 +141,7 @@ fn learn<N: Naming<Plan, TlmLaw>, R: Wait>(
     ensures note { IsNote N.table result }
     ensures keeps { Within note.knows.known result.knows.known }
     ensures revoked { IsRevoked result.knows.known gate }
+    ensures below { StandBelow result.knows.known result.knows.seen }
 {
     let (_, note) = least_open(net, rt, memory, 0, 0, 0, note);
     note

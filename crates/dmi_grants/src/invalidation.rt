@@ -1,6 +1,7 @@
 // Invalidation.
 ghost use Rattle.std.specs.Prelude.{◌≡◌, ◌<◌, ◌≤◌, true, false, length, IsTrue, List, Some, None};
 ghost use Rattle.one_history.specs.Gates.{IsRevoked, total_gates};
+ghost use Rattle.one_history.specs.Lists.{StandBelow};
 ghost use Rattle.shared_object.specs.Steps.{IsNote};
 ghost use Rattle.shared_object.specs.Written.{Written, written_at};
 ghost use Rattle.token_book.specs.Purse.{IsOf, left_of};
@@ -185,6 +186,7 @@ fn end<N: Naming<Plan, TlmLaw>, R: Wait>(
     requires gate { gate < total_gates N.frame }
     requires granted { IsTrue (is_given_in (written_at memory note.knows.known) gate) }
     requires revoked { IsRevoked note.knows.known gate }
+    requires below { StandBelow note.knows.known note.knows.seen }
     requires wallet { IsOf N.tokens wallet.old }
     requires room { IsRoomyFor memory wallet.old }
     requires ticket { 0 < left_of wallet.old memory }

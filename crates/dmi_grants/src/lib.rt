@@ -7,6 +7,7 @@
 //!   of a grant, or finds the grant stale and drops it.
 //! - `invalidate` tells an invalidation and ends the grants that it overlaps: it marks each gate, waits
 //!   until nobody is inside, and closes it.
+//! - `grants_stay_known` is the law that a grant stays usable as a note learns more.
 //!
 //! Promises: a grant is held with just the range that the memory gave, translated up and cut to the windows
 //! on the way. A direct access is one entry, after its grant and before any closing of its gate, with status
@@ -18,6 +19,7 @@
 mod access;
 mod ask;
 mod invalidation;
+mod laws;
 mod made;
 mod range;
 mod table;
@@ -27,4 +29,5 @@ mod tests;
 pub use access::UseOf;
 pub use ask::Asked;
 pub use invalidation::invalidate;
+pub use laws::grants_stay_known;
 pub use table::{GrantTable, Held};

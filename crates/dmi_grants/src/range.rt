@@ -2,7 +2,7 @@
 ghost use Rattle.std.specs.Prelude.{◌≡◌, ◌+◌, ◌-◌, ◌<◌, ◌≤◌, length, IsTrue, Some};
 ghost use Rattle.platform_model.specs.Bounded.{is_there};
 ghost use Rattle.plat_net.specs.Calls.{route_at};
-ghost use Rattle.dmi_grants.specs.Ranges.{lifted, lifted_at};
+ghost use Rattle.dmi_grants.specs.Ranges.{AreAddressesOf, lifted, lifted_at};
 
 use addr_router::laws::each_row_has_its_window;
 use route_plan::{Plan, Route};
@@ -68,6 +68,7 @@ pub(crate) fn addresses(
     requires route { route_at plan.now who address ≡ Some route }
     requires inside { (first ≤ route.offset) × (route.offset ≤ last) }
     ensures range { lifted_at plan.now who address (first, last) ≡ Some (result.low, result.high) }
+    ensures all { AreAddressesOf plan.now who route.memory first last result.low result.high result.base }
     ensures within { (result.low ≤ address) × (address ≤ result.high) }
     ensures base { result.base + (address - result.low) ≡ route.offset }
     ensures inside { (first ≤ result.base) × (result.base + (result.high - result.low) ≤ last) }

@@ -6,6 +6,7 @@ use Rattle.token_book.specs.Ticket.{IsTicket}
 use Rattle.region_object.specs.Call.{payload_cost}
 use Rattle.route_plan.specs.Valid.{IsValid}
 use Rattle.dmi_grants.specs.Using.{at_offset}
+use Rattle.dmi_grants.proofs.Tickets.{roomy_less}
 use Rattle.dmi_grants.proofs.Uses.{fits_direct, gone_direct, offset_inside}
 use Rattle.dmi_grants.proofs.access.go_direct.Goals as goal
 
@@ -44,3 +45,6 @@ returns-clause-used g c =
           }),
       refl,
     )
+
+pub returns-clause-room : goal.returns-clause-room
+returns-clause-room g c = λ m room. roomy_less c.tickets.result.now c.args.wallet.now c.pull-ticket.new.self m c.args.held.memory c.payload_cost-bytes.result c.pull-ticket.ensures.wallet c.requires.may.left room

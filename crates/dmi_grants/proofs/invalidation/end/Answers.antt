@@ -2,6 +2,7 @@ use Rattle.std.proofs.Common.{◌≡◌, ℕ, List, ◌∷◌, refl, sym, ap, �
 use Rattle.view_lists.specs.Lists.{Has}
 use Rattle.one_history.specs.declared.entry.Entry.{Entry}
 use Rattle.one_history.specs.declared.view.View.{View}
+use Rattle.one_history.specs.Lists.{StandBelow}
 use Rattle.shared_object.specs.Written.{written_at}
 use Rattle.tlm_types.specs.declared.entry.Content.{Content}
 use Rattle.tlm_model.specs.Plan.{Plan}
@@ -22,4 +23,6 @@ make_paid-note-requires-clause-may g c =
 pub returns-clause-closed : goal.returns-clause-closed
 returns-clause-closed g c =
     let same : c.drain.new.note.knows.known ≡ c.args.note.knows.known = ap (λ (v : View Content Plan). v.known) c.drain.ensures.drained ∙ ap (λ (v : View Content Plan). v.known) c.mark.ensures.void in
-    closed_by g.N.Naming.frame c.args.memory c.requires.memory c.args.txn c.args.at c.args.gate c.args.note.knows c.drain.new.note.knows c.make_paid-note.result.2.knows c.make_paid-note.result.0 c.args.wallet.now c.make_paid-note.new.wallet c.make_paid-note.result.1 same c.make_paid-note.ensures.made c.make_paid-note.ensures.spent
+    let seen : c.drain.new.note.knows.seen ≡ c.args.note.knows.seen = ap (λ (v : View Content Plan). v.seen) c.drain.ensures.drained ∙ ap (λ (v : View Content Plan). v.seen) c.mark.ensures.void in
+    closed_by g.N.Naming.frame c.args.memory c.requires.memory c.args.txn c.args.at c.args.gate c.args.note.knows c.drain.new.note.knows c.make_paid-note.result.2.knows c.make_paid-note.result.0 c.args.wallet.now c.make_paid-note.new.wallet c.make_paid-note.result.1 same
+    (subst (StandBelow c.args.note.knows.known) (sym seen) c.requires.below) c.make_paid-note.ensures.made c.make_paid-note.ensures.spent

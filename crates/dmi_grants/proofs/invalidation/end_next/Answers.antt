@@ -13,6 +13,9 @@ pub end-requires-clause-revoked : goal.end-requires-clause-revoked
 end-requires-clause-revoked g c =
     (may_end g.N.Naming.frame c.args.memory c.requires.memory c.args.first c.args.last c.args.position c.in-Some.gate c.args.note.knows c.least_open-open.result.1.knows c.least_open-open.result.0 c.in-Some.is c.least_open-open.ensures.made).revoked c.requires.told
 
+pub end-requires-clause-below : goal.end-requires-clause-below
+end-requires-clause-below g c = c.least_open-open.ensures.made.enters.below
+
 pub end-requires-clause-ticket : goal.end-requires-clause-ticket
 end-requires-clause-ticket g c =
     (may_end g.N.Naming.frame c.args.memory c.requires.memory c.args.first c.args.last c.args.position c.in-Some.gate c.args.note.knows c.least_open-open.result.1.knows c.least_open-open.result.0 c.in-Some.is c.least_open-open.ensures.made).pays _ c.requires.tickets

@@ -1,10 +1,11 @@
-use Rattle.std.proofs.Common.{◌≡◌, ℕ, ◌≤◌, Option, Some, None, sym, ◌∙◌, arith}
+use Rattle.std.proofs.Common.{◌≡◌, ℕ, ◌+◌, ◌-◌, ◌≤◌, Option, Some, None, sym, ◌∙◌, arith}
 use Rattle.tlm_model.specs.Plan.{Plan}
 use Rattle.route_plan.specs.declared.step.Route.{Route}
 use Rattle.route_plan.specs.Valid.{IsValid}
 use Rattle.plat_net.specs.Calls.{route_at}
 use Rattle.dmi_grants.specs.Ranges.{lifted_at}
 use Rattle.dmi_grants.proofs.Lifting.{IsLifted, lifted_is, lifts_at}
+use Rattle.dmi_grants.proofs.OnlyWay.{all_addresses}
 use Rattle.dmi_grants.proofs.range.addresses.Goals as goal
 
 pub unreachable-requires : goal.unreachable-requires
@@ -38,3 +39,10 @@ returns-clause-inside c =
     let a = l.low in
     let b = l.high in
     (omega (arith, f, t, a, b), omega (arith, f, t, a, b))
+
+pub returns-clause-all : goal.returns-clause-all
+returns-clause-all c =
+    let l = so c.args.plan.now c.args.who c.args.address c.args.route c.args.first c.args.last c.in-Some.low c.in-Some.high c.lift.result c.platform.ensures.valid c.requires.route c.requires.inside c.lift.ensures c.in-Some.is in
+    let f = l.from in
+    let base : (c.args.route.offset - (c.args.address - c.in-Some.low)) + (c.args.address - c.in-Some.low) ≡ c.args.route.offset = omega (arith, f) in
+    all_addresses c.args.plan.now c.args.who c.args.address c.args.first c.args.last c.in-Some.low c.in-Some.high (c.args.route.offset - (c.args.address - c.in-Some.low)) c.args.route c.platform.ensures.valid c.requires.route (sym c.lift.ensures ∙ c.in-Some.is) l.low base

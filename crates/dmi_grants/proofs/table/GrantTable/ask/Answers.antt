@@ -9,7 +9,7 @@ use Rattle.route_plan.specs.declared.step.Route.{Route}
 use Rattle.plat_net.specs.Calls.{route_at}
 use Rattle.dmi_grants.specs.Asking.{HasAsked, MayAsk}
 use Rattle.dmi_grants.specs.declared.ask.Asked.TheVariants.{Held as HeldAt, Denied}
-use Rattle.dmi_grants.specs.Ranges.{lifted_at}
+use Rattle.dmi_grants.specs.Ranges.{AreAddressesOf, lifted_at}
 use Rattle.dmi_grants.specs.Table.{TableView}
 use Rattle.dmi_grants.proofs.Asks.{ask_denied, ask_room, ask_taken}
 use Rattle.dmi_grants.proofs.table.GrantTable.ask.Goals as goal
@@ -42,10 +42,11 @@ returns-in-Some-position-clause-asked g c = λ x at_x.
     let r = c.make_paid-reply.result in
     let l = c.addresses-low.result in
     let range : lifted_at world c.args.who c.args.address (c.in-Granted.first, c.in-Granted.last) ≡ Some (l.low, l.high) = subst (λ (p : Plan). lifted_at p c.args.who c.args.address (c.in-Granted.first, c.in-Granted.last) ≡ Some (l.low, l.high)) (c.plan-in-Granted.ensures.plan ∙ c.plan-in-Granted.ensures.world) c.addresses-low.ensures.range in
+    let all = subst (λ (p : Plan). AreAddressesOf p c.args.who route.memory c.in-Granted.first c.in-Granted.last l.low l.high l.base) (c.plan-in-Granted.ensures.plan ∙ c.plan-in-Granted.ensures.world) c.addresses-low.ensures.all in
     subst (λ (y : Route). HasAsked g.N.Naming.frame c.args.who c.args.command c.args.address y c.args.txn c.args.at c.args.self.now c.hold-which.new.self c.args.note.knows r.2.knows c.args.wallet.now c.make_paid-reply.new.wallet (HeldAt c.hold-which.result)) (some_route route x (sym is ∙ at_x))
     (ask_taken g.N.Naming.frame c.args.command c.args.address route c.args.txn c.args.at c.args.self.now c.args.note.knows r.2.knows c.args.wallet.now may r.1 r.0 c.make_paid-reply.ensures.made
     c.args.who c.in-Granted.gate c.in-Granted.first c.in-Granted.last l.low l.high l.base c.in-Some-position.position c.hold-which.result c.in-Granted.kind c.hold-which.new.self c.make_paid-reply.new.wallet
-    c.in-Granted.is c.in-Some-position.is c.hold-which.ensures.held c.hold-which.ensures.which range c.addresses-low.ensures.within c.addresses-low.ensures.base c.addresses-low.ensures.inside c.make_paid-reply.ensures.spent)
+    c.in-Granted.is c.in-Some-position.is c.hold-which.ensures.held c.hold-which.ensures.which range all c.addresses-low.ensures.within c.addresses-low.ensures.base c.addresses-low.ensures.inside c.make_paid-reply.ensures.spent)
 
 pub returns-in-Denied-clause-asked : goal.returns-in-Denied-clause-asked
 returns-in-Denied-clause-asked g c = λ x at_x.
