@@ -4,7 +4,6 @@ use Rattle.std.specs.Prelude.{nat_le}
 use Rattle.std.proofs.lemmas.Bool.{and_parts, and_cases, cases_Bool, eq-eqb, le-leb, not-false}
 use Rattle.view_lists.specs.Lists.{Has, Within}
 use Rattle.view_lists.proofs.Members.{has_either, has_left, has_none, has_one, has_right, has_later}
-use Rattle.one_history.specs.declared.entry.Entry.{Entry}
 use Rattle.one_history.specs.declared.view.Frame.{Frame}
 use Rattle.one_history.specs.declared.view.View.{View}
 use Rattle.one_history.specs.Gates.{IsRevoked, total_gates}

@@ -1,8 +1,8 @@
 -- The addresses that lead into a range: only one way leads from an initiator to a memory.
-use Rattle.std.proofs.Common.{◌≡◌, ◌⊎◌, ℕ, zero, suc, ◌+◌, ◌-◌, ◌<◌, ◌≤◌, ◌&&◌, Bool, true, false, ◌||◌, IsTrue, List, [], ◌∷◌, length, map, get_or, sum_by, Option, Some, None, slice_get, Result, Ok, eqb, nat_lt, true≢false, refl, sym, ap, subst, ◌∙◌, inl, inr, ⊎_elim, zero-add, arith, cond}
+use Rattle.std.proofs.Common.{◌≡◌, ℕ, zero, suc, ◌+◌, ◌-◌, ◌<◌, ◌≤◌, Bool, true, false, List, [], ◌∷◌, length, map, get_or, sum_by, Option, Some, None, slice_get, Result, Ok, eqb, nat_lt, true≢false, refl, sym, ap, subst, ◌∙◌, ⊎_elim, zero-add, arith, cond}
 use Rattle.std.specs.Prelude.{IsSomeAnd, option_and_then, min, max, nat_le}
-use Rattle.std.specs.List.{AllByRecursion, AllPairs, IsDistinct, list_any}
-use Rattle.std.proofs.lemmas.Bool.{and_parts, cases_eq, cases_lt, cases_Bool, cond-true, cond-false, eq-eqb, eqb-true, leb-true, le-leb, lt-ltb, ltb-false, ltb-true, and_from, not-true, or_parts, or_cases}
+use Rattle.std.specs.List.{AllByRecursion, IsDistinct, list_any}
+use Rattle.std.proofs.lemmas.Bool.{and_parts, cases_eq, cases_lt, cases_Bool, cond-true, cond-false, eq-eqb, eqb-true, leb-true, le-leb, lt-ltb, ltb-false, and_from, or_parts, or_cases}
 use Rattle.std.proofs.lemmas.List.Folds.{fold-map}
 use Rattle.std.proofs.lemmas.List.Sums.{get_or-le-sum_by, sum_by-cons, sum_by-le-sum_by}
 use Rattle.std.proofs.lemmas.Map.Keys.{IsDistinct-cons}
@@ -25,7 +25,7 @@ use Rattle.tlm_model.specs.Plan.{Plan}
 use Rattle.tlm_model.specs.Route.{Found, Walk, later, walk, window_has, window_of}
 use Rattle.tlm_model.specs.Route as model
 use Rattle.route_plan.specs.declared.step.Route.{Route}
-use Rattle.route_plan.specs.Paths.{is_on_cycle, is_target, once, paths_to, reaches, targets_of}
+use Rattle.route_plan.specs.Paths.{is_on_cycle, once, paths_to, reaches, targets_of}
 use Rattle.route_plan.specs.Plans.{walk_at}
 use Rattle.route_plan.specs.Routes.{bound_walk, route_by, route_seen, row_walk}
 use Rattle.route_plan.specs.Shape.{IsShape, checked_acyclic, checked_depth, checked_memory_named, checked_router_named, checked_shape, checked_single, checked_windowed, has_two_paths}
