@@ -1,6 +1,5 @@
 -- The moves of an access on its way to the first hop: what they need to know, and that the port is one again after them.
 use Rattle.std.proofs.Common.{◌≡◌, ℕ, [], ◌∷◌, ◌++◌, Option, Some, None, refl, sym, ap, ◌∙◌, subst}
-use Rattle.std.specs.Prelude.{is_some, slice_get}
 use Rattle.atomic_table.specs.Seated.{TableId}
 use Rattle.view_lists.specs.Lists.{Within}
 use Rattle.one_history.specs.Held.{Held}
@@ -8,25 +7,18 @@ use Rattle.one_history.specs.Lists.{StandBelow}
 use Rattle.one_history.specs.declared.view.Frame.{Frame}
 use Rattle.shared_object.specs.Steps.{IsNote}
 use Rattle.tlm_types.specs.declared.entry.Content.{Content}
-use Rattle.tlm_types.specs.declared.words.ObjectNo.TheVariants.{Hop}
 use Rattle.tlm_types.specs.declared.words.Phase.TheVariants.{BeginReq}
 use Rattle.tlm_types.specs.declared.words.TlmSync.{TlmSync}
 use Rattle.tlm_types.specs.declared.words.TxnId.{TxnId}
-use Rattle.tlm_model.specs.Plan.{Plan, Initiator, initiators_of}
-use Rattle.tlm_model.specs.declared.platform.Style.TheVariants.{FourPhase}
+use Rattle.tlm_model.specs.Plan.{Plan, Initiator}
 use Rattle.token_book.specs.Account.{Slip}
 use Rattle.payload_pool.specs.declared.baton.Baton.{Baton}
-use Rattle.flow_model.specs.World.{Passage, hop_at, hop_count}
-use Rattle.flow_model.specs.Events.{Among, Event, FindsAt, IsAcquire, IsCall, IsTake}
+use Rattle.flow_model.specs.World.{hop_at}
+use Rattle.flow_model.specs.Events.{FindsAt, IsAcquire, IsCall, IsTake}
 use Rattle.flow_model.specs.Platform.{passage_of}
-use Rattle.flow_plan.proofs.Ways.{world_law}
 use Rattle.cargo_model.specs.declared.cargo.Cargo.{Cargo}
-use Rattle.cargo_model.specs.Known.{Known, object_number, objects_of}
-use Rattle.cargo_model.specs.Origins.{AreThere}
-use Rattle.cargo_model.specs.Tickets.{AreApart}
-use Rattle.cargo_model.specs.Travel.{GoesDown, IsAsked, Ready, There, numbers_for, route_for, with_wallet}
-use Rattle.cargo_model.proofs.Origins.{apart_law}
-use Rattle.cargo_model.proofs.There.{there_law}
+use Rattle.cargo_model.specs.Known.{Known}
+use Rattle.cargo_model.specs.Travel.{GoesDown, Ready, There, with_wallet}
 use Rattle.cargo_net.specs.Begins.{HasOwedLeg, HasRequested}
 use Rattle.cargo_net.specs.Tried.{IsTried}
 use Rattle.cargo_net.specs.declared.requests.Tried.{Tried}

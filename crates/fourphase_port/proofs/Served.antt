@@ -6,7 +6,6 @@ use Rattle.atomic_table.specs.Seated.{TableId}
 use Rattle.view_lists.specs.Lists.{Within}
 use Rattle.one_history.specs.Held.{Held}
 use Rattle.one_history.specs.Lists.{StandBelow}
-use Rattle.one_history.specs.declared.entry.Entry.{Entry}
 use Rattle.one_history.specs.declared.view.Frame.{Frame}
 use Rattle.shared_object.specs.Steps.{IsNote}
 use Rattle.tlm_types.specs.declared.entry.Content.{Content}
@@ -19,14 +18,13 @@ use Rattle.tlm_types.specs.declared.words.Way.TheVariants.{FourPhase}
 use Rattle.tlm_model.specs.declared.platform.Target.{Target}
 use Rattle.tlm_model.specs.declared.platform.Target.TheVariants as targets
 use Rattle.tlm_model.specs.Plan.{Plan}
-use Rattle.tlm_model.specs.Route.{hops_of, later}
+use Rattle.tlm_model.specs.Route.{later}
 use Rattle.token_book.specs.Account.{Slip}
 use Rattle.route_plan.specs.Shape.{IsShape}
-use Rattle.flow_model.specs.World.{HopEnds, Passage, hop_at, hop_count, is_refused, row_by, row_of}
+use Rattle.flow_model.specs.World.{HopEnds, Passage, hop_at, is_refused, row_by, row_of}
 use Rattle.flow_model.specs.Events.{Event, Finds, FindsAt, IsAccess, IsCall}
 use Rattle.flow_model.specs.Numbers.{UpIs}
 use Rattle.flow_model.specs.Platform.{hop_in, hop_to, passage_of, world_of}
-use Rattle.flow_law.proofs.More.{finds_more}
 use Rattle.flow_plan.proofs.Ways.{initiator_from}
 use Rattle.cargo_model.specs.declared.cargo.Cargo.{Cargo}
 use Rattle.cargo_model.specs.Counts.{request_ends, response_ends, responses}
@@ -43,11 +41,10 @@ use Rattle.plat_net.specs.Places.{LeadsTo}
 use Rattle.plat_net.proofs.Forwarding.{router_answers}
 use Rattle.plat_net.proofs.Targets.{ends_stop}
 use Rattle.fourphase_port.specs.Moved.{response_hand}
-use Rattle.fourphase_port.specs.Moves.{IsDue, Serves, txn_in}
+use Rattle.fourphase_port.specs.Moves.{IsDue, Serves}
 use Rattle.fourphase_port.specs.Reach.{first_hop, memory_place}
 use Rattle.fourphase_port.specs.State.{IsBegun, IsHandOf, IsInHand, IsPort, StateView, with_note}
-use Rattle.fourphase_port.specs.declared.hand.Hand.{Hand}
-use Rattle.fourphase_port.specs.declared.hand.Hand.TheVariants.{Begun, Owed, Ended}
+use Rattle.fourphase_port.specs.declared.hand.Hand.TheVariants.{Begun}
 use Rattle.fourphase_port.proofs.Backs.{its, keeps, response_goes_back, response_txn, still_held}
 use Rattle.fourphase_port.proofs.FirstHop.{first_of}
 use Rattle.fourphase_port.proofs.Goes.{goes_on, returned_by}

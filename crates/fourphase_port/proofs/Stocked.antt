@@ -1,5 +1,5 @@
 -- The tickets of an access have moved.
-use Rattle.std.proofs.Common.{◌≡◌, ◌⊎◌, ℕ, suc, ◌+◌, ◌*◌, ◌<◌, ◌≤◌, List, [], ◌∷◌, length, Option, Some, None, refl, sym, ap, ◌∙◌, subst, inl, inr, arith}
+use Rattle.std.proofs.Common.{◌≡◌, ◌⊎◌, ℕ, suc, ◌+◌, ◌*◌, ◌<◌, ◌≤◌, ◌∷◌, length, Option, Some, None, refl, sym, ap, ◌∙◌, subst, inl, inr, arith}
 use Rattle.std.specs.Ordering.{nat_cmp}
 use Rattle.std.specs.FinMap.{get-empty}
 use Rattle.atomic_table.specs.Seated.{TableId}
@@ -9,7 +9,7 @@ use Rattle.tlm_model.specs.Plan.{Plan}
 use Rattle.route_plan.specs.declared.step.Route.{Route}
 use Rattle.plat_net.specs.Calls.{route_at}
 use Rattle.fourphase_port.specs.Reach.{own_pool}
-use Rattle.fourphase_port.specs.Stocks.{HasMoved, HasPaid, IsApart, IsStocked, MayStock, hops_at, place_at}
+use Rattle.fourphase_port.specs.Stocks.{HasMoved, HasPaid, IsStocked, MayStock, hops_at, place_at}
 use Rattle.fourphase_port.specs.Wallets.{Gets, Gives}
 use Rattle.fourphase_port.proofs.Stocking.{among_moved, gave_bytes, gave_bytes_else, gave_bytes_here, gave_else, gave_here, got_bytes, got_bytes_else, got_bytes_here, got_else, got_here, places_count, places_up, room_more}
 

@@ -1,5 +1,5 @@
 -- A port that has taken an access back is a port.
-use Rattle.std.proofs.Common.{◌≡◌, ◌⊎◌, ℕ, ◌+◌, ◌*◌, ◌<◌, ◌≤◌, max, Bool, true, false, List, [], ◌∷◌, ◌++◌, length, Option, Some, None, IsSome, refl, sym, ap, ◌∙◌, subst, inl, inr, arith}
+use Rattle.std.proofs.Common.{◌≡◌, ◌⊎◌, ℕ, ◌+◌, ◌*◌, ◌<◌, ◌≤◌, Bool, true, false, List, [], ◌∷◌, ◌++◌, length, Option, Some, None, IsSome, refl, sym, ap, ◌∙◌, subst, inl, inr, arith}
 use Rattle.std.specs.Prelude.{IfSome, slice_get}
 use Rattle.std.proofs.lemmas.Grind.{common_steps}
 use Rattle.std.proofs.lemmas.List.Sums.{sum_by-cons}
@@ -12,7 +12,7 @@ use Rattle.shared_object.specs.Steps.{IsNote}
 use Rattle.tlm_types.specs.declared.entry.Content.{Content}
 use Rattle.tlm_model.specs.declared.operation.Operation.{Operation}
 use Rattle.tlm_model.specs.Plan.{Plan, Initiator, initiators_of}
-use Rattle.token_book.specs.Purse.{HasPlace, IsOf, Purse, bytes_of, empty_purse, left_of}
+use Rattle.token_book.specs.Purse.{HasPlace, IsOf, Purse, bytes_of, empty_purse}
 use Rattle.token_book.specs.Ticket.{IsTicket}
 use Rattle.token_book.specs.declared.ticket.Ticket.{Ticket}
 use Rattle.generic_payload.specs.Payload.{PayloadView}
@@ -39,8 +39,8 @@ use Rattle.port_end.proofs.Arrives.{knows_more as events_more, stand_below as ev
 use Rattle.plat_net.specs.PoolCalls.{CanStow}
 use Rattle.fourphase_port.specs.Moves.{PutsStray, TakesBack, port_back}
 use Rattle.fourphase_port.specs.Reach.{own_pool}
-use Rattle.fourphase_port.specs.Returned.{HasComeBack, IsTold, MayBeTold, TakesAll, with_port}
-use Rattle.fourphase_port.specs.State.{GoesBack, IsEnded, IsHandOf, IsHeld, IsInHand, IsPort, IsReady, StateView, bytes_under, bytes_while, left_at, with_note}
+use Rattle.fourphase_port.specs.Returned.{IsTold, MayBeTold, TakesAll}
+use Rattle.fourphase_port.specs.State.{GoesBack, IsEnded, IsHandOf, IsHeld, IsInHand, IsPort, StateView, bytes_under, bytes_while, left_at, with_note}
 use Rattle.fourphase_port.specs.declared.hand.Hand.{Hand}
 use Rattle.fourphase_port.specs.declared.hand.Hand.TheVariants.{Ended, Released}
 use Rattle.fourphase_port.proofs.Backs.{its}

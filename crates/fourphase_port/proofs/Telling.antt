@@ -1,8 +1,8 @@
 -- The steps by which a port is told that an access is back.
-use Rattle.std.proofs.Common.{◌≡◌, ℕ, true, false, List, sym, ap, ◌∙◌, subst, inl, inr}
+use Rattle.std.proofs.Common.{◌≡◌, ℕ, true, false, List, sym, ap, ◌∙◌, inl, inr}
 use Rattle.flow_model.specs.Events.{Among}
 use Rattle.fourphase_port.specs.Moves.{port_back}
-use Rattle.fourphase_port.specs.Returned.{HasComeBack, HasLeft, IsTold, with_away, with_latest, with_port, with_told}
+use Rattle.fourphase_port.specs.Returned.{HasLeft, IsTold, with_latest, with_port, with_told}
 use Rattle.fourphase_port.specs.State.{StateView}
 
 pub told_stray : (s t : StateView) (number end : ℕ) (got : List ℕ) → (t ≡ s) × (Among s.port.away number → ⊥) → IsTold number end got s t

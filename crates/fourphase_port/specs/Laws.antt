@@ -1,5 +1,5 @@
 -- What a port has for the access that is next.
-use Rattle.std.specs.Prelude.{ℕ, ◌≡◌, ◌+◌, false}
+use Rattle.std.specs.Prelude.{◌≡◌, ◌+◌, false}
 use Rattle.atomic_table.specs.Seated.{TableId}
 use Rattle.view_lists.specs.Lists.{Within}
 use Rattle.one_history.specs.Held.{Held}

@@ -25,6 +25,7 @@ mod script;
 mod serve;
 mod state;
 mod stock;
+mod take;
 mod wallets;
 
 pub use away::Away;

@@ -1,9 +1,8 @@
-use Rattle.std.proofs.Common.{◌≡◌, ◌<◌, ℕ, List, length, Some, sym, ap, ◌∙◌, arith}
+use Rattle.std.proofs.Common.{◌≡◌, ◌<◌, List, length, Some, sym, ap, ◌∙◌, arith}
 use Rattle.std.specs.Prelude.{Option, slice_get}
 use Rattle.tlm_types.specs.declared.words.RespMode.TheVariants.{Accept}
 use Rattle.tlm_model.specs.declared.platform.MemoryRow.{MemoryRow}
 use Rattle.tlm_model.specs.declared.platform.Platform.{Platform}
-use Rattle.tlm_model.specs.declared.platform.Target.TheVariants as targets
 use Rattle.tlm_model.specs.Plan.{Plan}
 use Rattle.flow_model.specs.Platform.{to_memory}
 use Rattle.route_plan.specs.Routes.{ends_of}

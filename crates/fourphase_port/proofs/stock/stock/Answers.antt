@@ -4,7 +4,7 @@ use Rattle.token_book.specs.Purse.{HasPlace, HasRoom, IsOf, bytes_of}
 use Rattle.region_object.specs.Call.{payload_cost}
 use Rattle.fourphase_port.specs.Reach.{own_pool}
 use Rattle.fourphase_port.specs.Stocks.{hops_at}
-use Rattle.fourphase_port.proofs.Stocked.{gets_as, gives_as, memory_bytes, memory_left, paid_none, paid_some, pool_enough, room_memory, room_pool, route_told, stocked_none, stocked_some}
+use Rattle.fourphase_port.proofs.Stocked.{gets_as, gives_as, memory_bytes, memory_left, paid_none, paid_some, room_memory, room_pool, route_told, stocked_none, stocked_some}
 use Rattle.fourphase_port.proofs.stock.stock.Goals as goal
 
 pub hand_over-requires-clause-room : goal.hand_over-requires-clause-room

@@ -1,14 +1,10 @@
 use Rattle.std.proofs.Common.{◌≡◌, ◌<◌, ℕ, [], ◌∷◌, ◌++◌, refl, sym, ap, subst, ◌∙◌}
 use Rattle.atomic_table.specs.Seated.{TableId}
-use Rattle.tlm_types.specs.declared.words.ObjectNo.TheVariants.{Hop}
 use Rattle.token_book.specs.Purse.{IsOf, left_of}
-use Rattle.flow_model.specs.Events.{Among}
-use Rattle.cargo_model.specs.Known.{objects_of}
 use Rattle.cargo_model.specs.Tickets.{Pulls}
 use Rattle.cargo_model.specs.Travel.{with_wallet}
 use Rattle.cargo_net.specs.Ends.{HasEndedResponse}
 use Rattle.cargo_net.proofs.PayloadWallets.{from_pull}
-use Rattle.route_plan.specs.Valid.{hop_count}
 use Rattle.plat_net.specs.HopCalls.{CanEndResponse}
 use Rattle.fourphase_port.specs.Moves.{Ends}
 use Rattle.fourphase_port.specs.Reach.{first_hop}

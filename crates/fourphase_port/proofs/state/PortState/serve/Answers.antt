@@ -1,4 +1,4 @@
-use Rattle.std.proofs.Common.{◌≡◌, ℕ, sym, ap, ◌∙◌}
+use Rattle.std.proofs.Common.{◌≡◌, ℕ, ap, ◌∙◌}
 use Rattle.tlm_model.specs.declared.platform.Target.TheVariants.{Memory, Router}
 use Rattle.tlm_model.specs.Route.{later}
 use Rattle.flow_model.specs.Platform.{hop_in}
@@ -7,7 +7,7 @@ use Rattle.plat_net.specs.Places.{LeadsTo}
 use Rattle.fourphase_port.specs.State.{StateView}
 use Rattle.fourphase_port.specs.declared.hand.Hand.{Hand}
 use Rattle.fourphase_port.proofs.Backs.{hop_stands}
-use Rattle.fourphase_port.proofs.Served.{begun, by_memory, can_serve, due, leads_here, served_as, serves_as}
+use Rattle.fourphase_port.proofs.Served.{begun, by_memory, can_serve, leads_here, served_as, serves_as}
 use Rattle.fourphase_port.proofs.state.PortState.serve.Goals as goal
 
 pub memory_behind-requires : goal.memory_behind-requires
