@@ -8,3 +8,6 @@ pub mod Sends
 pub mod Ended
 pub mod Stays
 pub mod Hops
+pub mod Staged
+pub mod Looks
+pub mod Joined

@@ -7,6 +7,11 @@
 //! - `fetch_down`, `way_behind`, `descend`, `pass_on`, `serve_below` and `end_above` are the moves of a
 //!   request; `refuse`, `fetch_up`, `turn_up`, `send_up`, `has_ended_above`, `end_below` and `release`
 //!   those of a response. Each makes one entry at most. `turn` is `descend` or `refuse`, whichever is due.
+//! - `Stage` is what a router holds of a transaction between pumps, and `Away` a response that was sent up.
+//!   `end_away`, `send` and `settle` are the steps of a pump for one: what has ended above is ended below, a
+//!   response is tried, END_REQ is made above where it is owed. `specs/Stages` says what each leaves.
+//! - `find_back` and `find_request` fetch from the first of several hops at which something waits. `join` gives
+//!   a response from below to the transaction that it belongs to.
 //! - `laws` says that what a router knows of what it holds stays known.
 //!
 //! Promises: a request goes to the hop behind its window and with the address there, after the router's
@@ -17,13 +22,19 @@
 
 mod choice;
 mod down;
+mod finds;
 mod items;
+mod joins;
 pub mod laws;
+mod stage;
 mod up;
 
 pub use choice::{Turned, turn};
 pub use down::{Passed, descend, end_above, fetch_down, pass_on, serve_below, way_behind};
+pub use finds::{Found, find_back, find_request};
 pub use items::{Back, Begun, Down, End, Held, Request, Response, Rest, Way};
+pub use joins::join;
+pub use stage::{Away, Stage, Step, end_away, send, settle};
 pub use up::{
     Fetched, Sent, end_below, fetch_up, has_ended_above, refuse, release, send_up, turn_up,
 };

@@ -1,0 +1,44 @@
+-- The looks of a router at its hops.
+use Rattle.std.proofs.Common.{◌≡◌, ℕ, zero, suc, ◌+◌, ◌<◌, List, [], ◌∷◌, ◌++◌, length, take, get_or, Option, Some, refl, sym, ap, subst, ◌∙◌, append_assoc, arith}
+use Rattle.std.specs.List.{AllByRecursion}
+use Rattle.std.specs.Prelude.{IfSome}
+use Rattle.view_lists.specs.Lists.{Within}
+use Rattle.one_history.specs.declared.entry.Entry.{Entry}
+use Rattle.tlm_types.specs.declared.entry.Content.{Content}
+use Rattle.tlm_model.specs.Plan.{Plan}
+use Rattle.plat_net.specs.Places.{hop_place}
+use Rattle.router_node.specs.Finds.{vain_looks}
+
+pub within_on : (xs ys zs : List (Entry Content)) → Within xs ys → Within ys zs → Within xs zs
+within_on xs ys zs a b = λ x has. b x (a x has)
+
+pub each_at : {A : Type 0} (P : A → Type 0) (xs : List A) (i : ℕ) (d : A) → i < length xs → AllByRecursion P xs → P (get_or xs i d)
+each_at P [] i d below all = absurd (omega (arith, below))
+each_at P (x ∷ xs) zero d below all = all.0
+each_at P (x ∷ xs) (suc i) d below all = each_at P xs i d (omega (arith, below)) all.1
+
+one_on : (i : ℕ) → suc i ≡ i + 1
+one_on i = omega arith
+
+-- one more look in vain
+vain_next : (p : Plan) (look : ℕ) (xs : List ℕ) (i : ℕ) → i < length xs → vain_looks p look (take (suc i) xs) ≡ vain_looks p look (take i xs) ++ (hop_place p (get_or xs i 0), look) ∷ []
+vain_next p look [] i below = absurd (omega (arith, below))
+vain_next p look (x ∷ xs) zero below = refl
+vain_next p look (x ∷ xs) (suc i) below = ap (λ (l : List (ℕ × ℕ)). (hop_place p x, look) ∷ l) (vain_next p look xs i (omega (arith, below)))
+
+pub vain_more : (p : Plan) (look : ℕ) (xs : List ℕ) (i : ℕ) → i < length xs → vain_looks p look (take (i + 1) xs) ≡ vain_looks p look (take i xs) ++ (hop_place p (get_or xs i 0), look) ∷ []
+vain_more p look xs i below = subst (λ (n : ℕ). vain_looks p look (take n xs) ≡ vain_looks p look (take i xs) ++ (hop_place p (get_or xs i 0), look) ∷ []) (one_on i) (vain_next p look xs i below)
+
+pub take_all : (p : Plan) (look : ℕ) (xs : List ℕ) (i : ℕ) → (i < length xs → ⊥) → vain_looks p look (take i xs) ≡ vain_looks p look xs
+take_all p look [] zero past = refl
+take_all p look [] (suc i) past = refl
+take_all p look (x ∷ xs) zero past = absurd (past (omega arith))
+take_all p look (x ∷ xs) (suc i) past = ap (λ (l : List (ℕ × ℕ)). (hop_place p x, look) ∷ l) (take_all p look xs i (λ l. past (omega (arith, l))))
+
+-- the looks so far, and one more
+pub looks_more : (p : Plan) (look : ℕ) (xs : List ℕ) (i : ℕ) (first before after : List (ℕ × ℕ)) → i < length xs → before ≡ first ++ vain_looks p look (take i xs) → after ≡ before ++ (hop_place p (get_or xs i 0), look) ∷ [] → after ≡ first ++ vain_looks p look (take (i + 1) xs)
+looks_more p look xs i first before after below b a =
+    a ∙ (ap (λ (l : List (ℕ × ℕ)). l ++ (hop_place p (get_or xs i 0), look) ∷ []) b ∙ (append_assoc first (vain_looks p look (take i xs)) ((hop_place p (get_or xs i 0), look) ∷ []) ∙ sym (ap (λ (l : List (ℕ × ℕ)). first ++ l) (vain_more p look xs i below))))
+
+pub of_some : {A : Type 0} (P : A → Type 0) (o : Option A) (x : A) → o ≡ Some x → IfSome o P → P x
+of_some {A = A} P o x is holds = subst (λ (q : Option A). IfSome q P) is holds

@@ -1,0 +1,44 @@
+-- The first of several hops at which something waits.
+use Rattle.std.specs.Prelude.{ℕ, ◌≡◌, ◌<◌, ◌≤◌, List, [], ◌∷◌, ◌++◌, length, Option, Some, None}
+use Rattle.atomic_table.specs.Seated.{TableId}
+use Rattle.one_history.specs.declared.entry.Entry.{Entry}
+use Rattle.one_history.specs.declared.view.Frame.{Frame}
+use Rattle.one_history.specs.declared.view.View.{View}
+use Rattle.tlm_types.specs.declared.entry.Content.{Content}
+use Rattle.tlm_model.specs.declared.platform.Target.TheVariants.{Router}
+use Rattle.tlm_model.specs.Plan.{Plan}
+use Rattle.route_plan.specs.Valid.{hop_count}
+use Rattle.plat_net.specs.Places.{LeadsTo, hop_place}
+use Rattle.router_node.specs.Items.{IsRequest}
+use Rattle.router_node.specs.Moves.{HasFetchedUp}
+use Rattle.router_node.specs.declared.finds.Found.{Found}
+use Rattle.router_node.specs.declared.items.Request.{Request}
+
+-- a hop to this router, and the hop of a window
+pub record IsHopAbove (p : Plan) (router hop : ℕ) : Type 0 where
+  pub there : hop < hop_count p.platform
+  pub leads : LeadsTo p.platform hop (Router router)
+
+pub record IsHopBelow (p : Plan) (hop : ℕ) : Type 0 where
+  pub there : hop < hop_count p.platform
+  pub window : length p.platform.initiators ≤ hop
+
+-- a response that was fetched from a hop below
+pub record IsFound (frame : Frame Plan) (tokens : TableId) (known : List (Entry Content)) (f : Found) : Type 0 where
+  pub below : IsHopBelow frame.world f.hop
+  pub fetched : HasFetchedUp frame tokens known f.hop f.fetched
+
+-- looks in vain, one at each hop in order
+abbrev pub vain_looks : Plan → ℕ → List ℕ → List (ℕ × ℕ)
+vain_looks p look [] = []
+vain_looks p look (h ∷ hs) = (hop_place p h, look) ∷ vain_looks p look hs
+
+-- A response was fetched from a hop below; or none waits at any.
+abbrev pub HasFoundBack : Frame Plan → TableId → List ℕ → View Content Plan → View Content Plan → Option Found → Type 0
+HasFoundBack frame tokens hops was is None = is.looks ≡ was.looks ++ vain_looks frame.world 2 hops
+HasFoundBack frame tokens hops was is (Some f) = IsFound frame tokens is.known f
+
+-- A request was fetched from a hop above; or none waits at any.
+abbrev pub HasFoundRequest : Frame Plan → TableId → ℕ → List ℕ → View Content Plan → View Content Plan → Option Request → Type 0
+HasFoundRequest frame tokens router hops was is None = is.looks ≡ was.looks ++ vain_looks frame.world 1 hops
+HasFoundRequest frame tokens router hops was is (Some r) = (r.hop < hop_count frame.world.platform) × IsRequest frame tokens is.known router r

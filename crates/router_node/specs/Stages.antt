@@ -1,0 +1,117 @@
+-- A transaction that a router holds, and what a step of a pump does with it.
+use Rattle.std.specs.Prelude.{ℕ, ◌≡◌, ◌<◌, ◌≤◌, ◌==◌, Bool, true, false, IsTrue, List, [], ◌∷◌, ◌++◌, Option, Some, None, IfSome, IsSomeAnd, if◌then◌else◌}
+use Rattle.atomic_table.specs.Seated.{TableId}
+use Rattle.one_history.specs.declared.entry.Entry.{Entry}
+use Rattle.one_history.specs.declared.view.Frame.{Frame}
+use Rattle.one_history.specs.declared.view.View.{View}
+use Rattle.tlm_types.specs.declared.entry.Content.{Content}
+use Rattle.tlm_types.specs.declared.words.Phase.TheVariants.{BeginResp}
+use Rattle.tlm_types.specs.declared.words.TxnId.{TxnId}
+use Rattle.tlm_model.specs.Plan.{Plan}
+use Rattle.flow_model.specs.World.{Passage, hop_at}
+use Rattle.flow_model.specs.Events.{Finds, FindsAt, IsPhase, IsReleased}
+use Rattle.flow_model.specs.Numbers.{IsEnder}
+use Rattle.cargo_model.specs.Known.{Known}
+use Rattle.route_plan.specs.Valid.{hop_count}
+use Rattle.plat_net.specs.HopCalls.{CanRespond}
+use Rattle.plat_net.specs.Places.{hop_place}
+use Rattle.router_node.specs.Items.{IsBegun, IsDown, IsHolding, IsRest}
+use Rattle.router_node.specs.Moves.{HasBegunOn}
+use Rattle.router_node.specs.declared.items.Begun.{Begun}
+use Rattle.router_node.specs.declared.items.Held.{Held}
+use Rattle.router_node.specs.declared.items.Response.{Response}
+use Rattle.router_node.specs.declared.items.Rest.{Rest}
+use Rattle.router_node.specs.declared.stage.Away.{Away}
+use Rattle.router_node.specs.declared.stage.Stage.{Stage}
+use Rattle.router_node.specs.declared.stage.Stage.TheVariants.{Down, Below, Up, Sent}
+use Rattle.router_node.specs.declared.stage.Step.{Step}
+use Rattle.router_node.specs.declared.stage.Step.TheVariants.{End, Send, Pass}
+
+module _ (frame : Frame Plan) (tokens : TableId) (known : List (Entry Content)) where
+  -- What is to be made below for x once it has ended on this hop above.
+  pub record IsRestUnder (above : ℕ) (x : TxnId) (r : Rest) : Type 0 where
+    pub pass : Passage
+    pub hop : ℕ
+    pub here : hop_at pass hop ≡ above
+    pub of : r.txn ≡ x
+    pub rest : IsRest frame tokens known r pass hop
+
+  -- A response may go up, and what is to be made below then is known. Nothing is where the router made the response itself.
+  pub record IsUp (r : Response) (rest : Option Rest) : Type 0 where
+    pub there : r.hop < hop_count frame.world.platform
+    pub can : CanRespond frame tokens r.hop r.leg r.cargo r.due known
+    pub below : IfSome rest (IsRestUnder r.hop r.cargo.baton.txn)
+
+  -- A response was sent up at this time. Where the answer ended it, its end is known.
+  pub record IsAway (a : Away) : Type 0 where
+    pub there : a.above < hop_count frame.world.platform
+    pub begun : HasBegunOn frame known a.above a.txn
+    pub sent : FindsAt (Known frame.world.platform known) (IsPhase a.txn a.above BeginResp) a.at
+    pub ended : IsTrue a.ended → Finds (Known frame.world.platform known) (IsEnder a.txn a.above)
+    pub below : IfSome a.rest (IsRestUnder a.above a.txn)
+
+  -- A request has gone down, and no END_REQ is owed above.
+  pub record IsSettled (h : Held) : Type 0 where
+    pub there : h.above < hop_count frame.world.platform
+    pub owed : h.owed ≡ None
+    pub holding : IsHolding frame tokens known h
+
+  -- What a router knows of a transaction that it holds.
+  abbrev pub IsStage : Stage → Type 0
+  IsStage (Down d) = (d.held.above < hop_count frame.world.platform) × IsDown frame tokens known d
+  IsStage (Below h) = IsSettled h
+  IsStage (Up r rest) = IsUp r rest
+  IsStage (Sent a) = IsAway a
+
+-- the look of a step that finds nothing to do: 3 for BEGIN_REQ that was Busy, 4 for BEGIN_RESP that was Busy, 5 for no end
+abbrev pub look_of : Step → ℕ
+look_of End = 5
+look_of Send = 4
+look_of Pass = 3
+
+-- the look that a transaction gives in vain, and the hop of it; one that is below gives none
+abbrev pub mark : Stage → ℕ × ℕ
+mark (Down d) = (3, d.held.below)
+mark (Below h) = (0, h.below)
+mark (Up r rest) = (4, r.hop)
+mark (Sent a) = (5, a.above)
+
+abbrev pub vain : Plan → Step → ℕ × ℕ → List (ℕ × ℕ)
+vain p w m = if m.0 == look_of w then (hop_place p m.1, look_of w) ∷ [] else []
+
+-- the reference of the hop below was released
+abbrev pub WasReleased : Frame Plan → List (Entry Content) → TxnId → Type 0
+WasReleased frame known x = (time : ℕ) × (number : ℕ) × FindsAt (Known frame.world.platform known) (IsReleased x number) time
+
+-- A response that was sent has ended above, and below where it came from there.
+pub record HasEnded (frame : Frame Plan) (known : List (Entry Content)) (a : Away) : Type 0 where
+  pub above : Finds (Known frame.world.platform known) (IsEnder a.txn a.above)
+  pub below : IfSome a.rest (λ r. WasReleased frame known r.txn)
+
+-- What a step makes of a transaction that it moves: one that has ended is forgotten, a response was sent, a request is below or back.
+abbrev pub Moves : Frame Plan → List (Entry Content) → Step → Stage → Option Stage → Type 0
+Moves frame known End (Sent a) None = HasEnded frame known a
+Moves frame known Send (Up r rest) (Some (Sent a)) = (a.txn ≡ r.cargo.baton.txn) × (a.above ≡ r.hop) × (r.due ≤ a.at) × (a.rest ≡ rest)
+Moves frame known Pass (Down d) (Some (Below h)) = (h.txn ≡ d.held.txn) × (h.above ≡ d.held.above) × (h.below ≡ d.held.below)
+Moves frame known Pass (Down d) (Some (Up r rest)) = (r.hop ≡ d.held.above) × (r.cargo.baton.txn ≡ d.held.txn)
+Moves frame known w s o = ⊥
+
+-- It was moved; or it is as it was, and the step has looked in vain where it is one for it.
+abbrev pub HasStepped : Frame Plan → Step → Stage → View Content Plan → View Content Plan → Bool → Option Stage → Type 0
+HasStepped frame w s old new true o = Moves frame new.known w s o
+HasStepped frame w s old new false o = IsSomeAnd o (λ t. mark t ≡ mark s) × (new.looks ≡ old.looks ++ vain frame.world w (mark s))
+
+module _ (frame : Frame Plan) (tokens : TableId) (known back : List (Entry Content)) where
+  -- END_REQ above was made where it was owed. What was known of the transaction is known of it.
+  pub record HasSettled (h : Held) (new : Held) : Type 0 where
+    pub txn : new.txn ≡ h.txn
+    pub above : new.above ≡ h.above
+    pub below : new.below ≡ h.below
+    pub owed : new.owed ≡ None
+    pub holding : IsHolding frame tokens back new
+    pub begun : (b : Begun) → IsBegun frame tokens known h b → IsBegun frame tokens back new b
+
+-- A response that was sent has ended above; or not, by a look.
+abbrev pub HasLookedForEnd : Frame Plan → Away → View Content Plan → View Content Plan → Bool → Type 0
+HasLookedForEnd frame a old new true = Finds (Known frame.world.platform new.known) (IsEnder a.txn a.above)
+HasLookedForEnd frame a old new false = new.looks ≡ old.looks ++ (hop_place frame.world a.above, 5) ∷ []

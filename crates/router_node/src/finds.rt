@@ -1,0 +1,74 @@
+// The first of several hops at which something waits.
+ghost use Rattle.std.specs.List.{AllByRecursion};
+ghost use Rattle.view_lists.specs.Lists.{Within};
+ghost use Rattle.one_history.specs.Lists.{StandBelow};
+ghost use Rattle.shared_object.specs.Steps.{IsNote};
+ghost use Rattle.router_node.specs.Finds.{HasFoundBack, HasFoundRequest, IsHopAbove, IsHopBelow};
+
+use crate::down::fetch_down;
+use crate::items::Request;
+use crate::up::{Fetched, fetch_up};
+use plat_net::{Net, PlatNote, TlmLaw};
+use route_plan::Plan;
+use shared_object::Naming;
+use std::sync::Wait;
+
+/// A response that was fetched, and the hop below from which it was.
+#[derive(Drop)]
+pub struct Found {
+    pub hop: u32,
+    pub fetched: Fetched,
+}
+
+/// Fetches a response from the first of these hops of windows at which one waits. It makes no entry.
+pub fn find_back<N: Naming<Plan, TlmLaw>, R: Wait>(
+    net: &Net<N>,
+    rt: &R,
+    hops: &[u32],
+    note: PlatNote,
+) -> (Option<Found>, PlatNote)
+    requires hops { AllByRecursion (λ h. IsHopBelow N.frame.world h) hops.now }
+    requires note { IsNote N.table note }
+    requires below { StandBelow note.knows.known note.knows.seen }
+    ensures note { IsNote N.table result.1 }
+    ensures knew { Within note.knows.known result.1.knows.known }
+    ensures below { StandBelow result.1.knows.known result.1.knows.seen }
+    ensures found { HasFoundBack N.frame N.tokens hops.now note.knows result.1.knows result.0 }
+{
+    let mut note = note;
+    for hop in hops {
+        let (fetched, back) = fetch_up(net, rt, *hop, note);
+        note = back;
+        if let Some(fetched) = fetched {
+            return (Some(Found { hop: *hop, fetched }), note);
+        }
+    }
+    (None, note)
+}
+
+/// Fetches a request from the first of these hops to the router at which one waits. It makes no entry.
+pub fn find_request<N: Naming<Plan, TlmLaw>, R: Wait>(
+    net: &Net<N>,
+    rt: &R,
+    router: u32,
+    hops: &[u32],
+    note: PlatNote,
+) -> (Option<Request>, PlatNote)
+    requires hops { AllByRecursion (λ h. IsHopAbove N.frame.world router h) hops.now }
+    requires note { IsNote N.table note }
+    requires below { StandBelow note.knows.known note.knows.seen }
+    ensures note { IsNote N.table result.1 }
+    ensures knew { Within note.knows.known result.1.knows.known }
+    ensures below { StandBelow result.1.knows.known result.1.knows.seen }
+    ensures found { HasFoundRequest N.frame N.tokens router hops.now note.knows result.1.knows result.0 }
+{
+    let mut note = note;
+    for hop in hops {
+        let (request, back) = fetch_down(net, rt, router, *hop, note);
+        note = back;
+        if let Some(request) = request {
+            return (Some(request), note);
+        }
+    }
+    (None, note)
+}

@@ -1,0 +1,195 @@
+// A transaction that a router holds, and the steps that move it.
+ghost use Rattle.std.specs.Prelude.{IfSome};
+ghost use Rattle.view_lists.specs.Lists.{Within};
+ghost use Rattle.one_history.specs.Lists.{StandBelow};
+ghost use Rattle.shared_object.specs.Steps.{IsNote};
+ghost use Rattle.router_node.specs.Items.{HasGone};
+ghost use Rattle.router_node.specs.Moves.{HasEndedAbove};
+ghost use Rattle.router_node.specs.Stages.{HasLookedForEnd, HasSettled, HasStepped, IsAway, IsStage, IsUp, WasReleased};
+ghost use Rattle.router_node.specs.declared.stage.Stage.TheVariants as Stages;
+ghost use Rattle.router_node.specs.declared.stage.Step.TheVariants as Steps;
+
+use crate::down::end_above;
+use crate::items::{Down, End, Held, Response, Rest};
+use crate::up;
+use crate::up::{end_below, has_ended_above, release, send_up};
+use plat_net::{Net, PlatNote, TlmLaw};
+use route_plan::Plan;
+use shared_object::Naming;
+use std::sync::Wait;
+use tlm_types::{Ps, TxnId};
+
+/// A response that was sent up at this time, in picoseconds, whether its answer has ended it, and what is to
+/// be made below then.
+#[derive(Drop)]
+pub struct Away {
+    pub txn: TxnId,
+    pub above: u32,
+    pub at: Ps,
+    pub ended: bool,
+    pub rest: Option<Rest>,
+}
+
+/// What a router holds of a transaction.
+#[derive(Drop)]
+pub enum Stage {
+    /// Its request is to go down.
+    Down(Down),
+    /// Its request has gone down.
+    Below(Held),
+    /// Its response is to go up, with what is to be made below after that.
+    Up(Response, Option<Rest>),
+    /// Its response was sent up.
+    Sent(Away),
+}
+
+/// A step of a pump.
+#[derive(Clone, Copy, Debug, PartialEq, Eq)]
+pub enum Step {
+    /// Ends below what has ended above.
+    End,
+    /// Sends responses up.
+    Send,
+    /// Passes requests on.
+    Pass,
+}
+
+// Makes what is left to be made below, for a transaction that has ended above.
+fn finish_below<N: Naming<Plan, TlmLaw>, R: Wait>(
+    net: &Net<N>,
+    rt: &R,
+    note: PlatNote,
+    rest: Rest,
+    at: Ps,
+) -> PlatNote
+    requires note { IsNote N.table note }
+    requires ended { HasEndedAbove N.frame N.tokens note.knows.known rest at }
+    ensures note { IsNote N.table result }
+    ensures knew { Within note.knows.known result.knows.known }
+    ensures below { StandBelow result.knows.known result.knows.seen }
+    ensures released { WasReleased N.frame result.knows.known rest.txn }
+{
+    match &rest.end {
+        End::At(_) => release(net, rt, note, rest),
+        End::Owed(_, _) => {
+            let (rest, note) = end_below(net, rt, note, rest, at);
+            release(net, rt, note, rest)
+        }
+    }
+}
+
+// Looks whether a response that was sent has ended above; by its answer it may have.
+fn look_for_end<N: Naming<Plan, TlmLaw>, R: Wait>(
+    net: &Net<N>,
+    rt: &R,
+    note: PlatNote,
+    away: &Away,
+) -> (bool, PlatNote)
+    requires note { IsNote N.table note }
+    requires below { StandBelow note.knows.known note.knows.seen }
+    requires away { IsAway N.frame N.tokens note.knows.known away.now }
+    ensures note { IsNote N.table result.1 }
+    ensures knew { Within note.knows.known result.1.knows.known }
+    ensures below { StandBelow result.1.knows.known result.1.knows.seen }
+    ensures ended { HasLookedForEnd N.frame away.now note.knows result.1.knows result.0 }
+{
+    if away.ended {
+        return (true, note);
+    }
+    has_ended_above(net, rt, away.above, note, away.txn)
+}
+
+/// Where a response that was sent has ended above, makes what is left to be made below: END_RESP where it is
+/// owed, and the Release (IEEE 1666-2011, clauses 14.5 and 15.2). The transaction is forgotten then.
+pub fn end_away<N: Naming<Plan, TlmLaw>, R: Wait>(
+    net: &Net<N>,
+    rt: &R,
+    note: PlatNote,
+    away: Away,
+) -> (Option<Stage>, bool, PlatNote)
+    requires note { IsNote N.table note }
+    requires below { StandBelow note.knows.known note.knows.seen }
+    requires away { IsAway N.frame N.tokens note.knows.known away }
+    ensures note { IsNote N.table result.2 }
+    ensures knew { Within note.knows.known result.2.knows.known }
+    ensures below { StandBelow result.2.knows.known result.2.knows.seen }
+    ensures stage { IfSome result.0 (IsStage N.frame N.tokens result.2.knows.known) }
+    ensures stepped { HasStepped N.frame Steps.End (Stages.Sent away) note.knows result.2.knows result.1 result.0 }
+{
+    let (ended, note) = look_for_end(net, rt, note, &away);
+    if !ended {
+        return (Some(Stage::Sent(away)), false, note);
+    }
+    let Away { at, rest, .. } = away;
+    let Some(rest) = rest else {
+        return (None, true, note);
+    };
+    let note = finish_below(net, rt, note, rest, at);
+    (None, true, note)
+}
+
+/// Tries to send a response up, by BEGIN_RESP (IEEE 1666-2011, clause 15.2).
+pub fn send<N: Naming<Plan, TlmLaw>, R: Wait>(
+    net: &Net<N>,
+    rt: &R,
+    note: PlatNote,
+    response: Response,
+    rest: Option<Rest>,
+) -> (Option<Stage>, bool, PlatNote)
+    requires note { IsNote N.table note }
+    requires up { IsUp N.frame N.tokens note.knows.known response rest }
+    ensures note { IsNote N.table result.2 }
+    ensures knew { Within note.knows.known result.2.knows.known }
+    ensures below { StandBelow result.2.knows.known result.2.knows.seen }
+    ensures stage { IfSome result.0 (IsStage N.frame N.tokens result.2.knows.known) }
+    ensures stepped { HasStepped N.frame Steps.Send (Stages.Up response rest) note.knows result.2.knows result.1 result.0 }
+{
+    let txn = response.cargo.baton.txn();
+    let above = response.hop;
+    match send_up(net, rt, note, response) {
+        up::Sent::Open { at, note } => {
+            let away = Away {
+                txn,
+                above,
+                at,
+                ended: false,
+                rest,
+            };
+            (Some(Stage::Sent(away)), true, note)
+        }
+        up::Sent::Ended { at, note } => {
+            let away = Away {
+                txn,
+                above,
+                at,
+                ended: true,
+                rest,
+            };
+            (Some(Stage::Sent(away)), true, note)
+        }
+        up::Sent::Refused { response, note } => (Some(Stage::Up(response, rest)), false, note),
+    }
+}
+
+/// Makes END_REQ above for a request that has gone down at this time, in picoseconds, where it is owed (IEEE
+/// 1666-2011, clause 15.2).
+pub fn settle<N: Naming<Plan, TlmLaw>, R: Wait>(
+    net: &Net<N>,
+    rt: &R,
+    note: PlatNote,
+    held: Held,
+    at: Ps,
+) -> (Held, PlatNote)
+    requires note { IsNote N.table note }
+    requires below { StandBelow note.knows.known note.knows.seen }
+    requires gone { HasGone N.frame N.tokens note.knows.known held at }
+    ensures note { IsNote N.table result.1 }
+    ensures knew { Within note.knows.known result.1.knows.known }
+    ensures below { StandBelow result.1.knows.known result.1.knows.seen }
+    ensures settled { HasSettled N.frame N.tokens note.knows.known result.1.knows.known held result.0 }
+{
+    if held.owed.is_none() {
+        return (held, note);
+    }
+    end_above(net, rt, note, held, at)
+}
