@@ -16,4 +16,6 @@ mod Stocked
 mod MayStocks
 mod NextIsAsked
 mod Taking
+mod Loads
+mod TakesNext
 mod TakeBack

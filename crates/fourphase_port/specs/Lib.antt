@@ -6,4 +6,5 @@ pub mod Moves
 pub mod Moved
 pub mod Returned
 pub mod Stocks
+pub mod Loaded
 pub mod Laws

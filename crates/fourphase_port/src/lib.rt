@@ -10,8 +10,8 @@
 //!
 //! Promises: `IsPort` says what the end of a run needs of a port (`port_model`'s `IsUnderWay`), and what is
 //! known of what it works on. Each move keeps it, and is one of the moves of `specs/Moves`. No move takes
-//! memory. A port has all tickets of the access that is next (`laws`). Takes, debug reads and the pump are to
-//! come.
+//! memory. A port has all tickets of the access that is next (`laws`), which `takes` takes. Debug reads and the
+//! pump are to come.
 #![tactic(auto)]
 
 mod away;
@@ -26,6 +26,7 @@ mod serve;
 mod state;
 mod stock;
 mod take;
+mod takes;
 mod wallets;
 
 pub use away::Away;

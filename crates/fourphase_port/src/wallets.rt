@@ -55,10 +55,12 @@ pub(crate) fn hand_over(
 }
 
 /// Puts a ticket that wasn't spent back.
+#[tactic(auto, using(crate::proofs::WalletLemmas::put_once))]
 pub(crate) fn put_back(tickets: &Tokens, wallet: &mut Wallet, ticket: Ticket)
     requires of { IsOf tickets.now wallet.old }
     requires object { (object : ℕ) × IsTicket tickets.now object ticket × HasRoom wallet.old object × (amount_of ticket.bytes ≡ 0) }
     ensures back { (object : ℕ) → IsTicket tickets.now object ticket → Gets tickets.now object 1 0 wallet.old wallet.new }
+    ensures within { (object : ℕ) → IsTicket tickets.now object ticket → (o : ℕ) → HasPlace wallet.new o → HasPlace wallet.old o ⊎ (o ≡ object) }
 {
     let Ticket { entry, bytes: _ } = ticket;
     wallet.put(tickets, entry);
