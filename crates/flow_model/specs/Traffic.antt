@@ -5,13 +5,13 @@ use Rattle.std.specs.List.{AllByRecursion}
 use Rattle.std.specs.List.Sorted.{IsPermutation}
 use Rattle.tlm_types.specs.declared.words.ObjectNo.TheVariants.{Hop, Pool}
 use Rattle.tlm_types.specs.declared.words.TxnId.{TxnId}
-use Rattle.tlm_types.specs.declared.words.Way.TheVariants.{Blocking, FourPhase, Direct, Debug}
+use Rattle.tlm_types.specs.declared.words.Way.TheVariants.{Debug}
 use Rattle.tlm_types.specs.declared.entry.Entry.{Entry}
 use Rattle.tlm_types.specs.declared.entry.What.{What}
-use Rattle.tlm_types.specs.declared.entry.What.TheVariants.{Access as Accessed, Granted, Invalidated, Closed, Call, Take, Acquire, Release}
+use Rattle.tlm_types.specs.declared.entry.What.TheVariants.{Access as Accessed, Invalidated, Closed}
 use Rattle.tlm_model.specs.declared.platform.InitiatorRow.{InitiatorRow}
 use Rattle.tlm_model.specs.declared.platform.Style.{Style}
-use Rattle.tlm_model.specs.declared.platform.Style.TheVariants.{Blocking as blocking_style, Direct as direct_style, FourPhase as fourphase_style}
+use Rattle.tlm_model.specs.declared.platform.Style.TheVariants.{FourPhase as fourphase_style}
 use Rattle.tlm_model.specs.Each.{AtEach}
 use Rattle.tlm_model.specs.History.{entries_at}
 use Rattle.tlm_model.specs.Plan.{Plan, Initiator}
@@ -62,18 +62,9 @@ pub record KeepsPools (p : Plan) (h : List Entry) : Type 0 where
 -- debug reads, invalidations and closings have the current time of their initiator
 abbrev pub IsIssuedBy : Style → ℕ → ℕ → What → Type 0
 IsIssuedBy fourphase_style time issued (Accessed Debug access status got) = time ≡ issued
-IsIssuedBy fourphase_style time issued (Accessed Blocking access status got) = Unit {0}
-IsIssuedBy fourphase_style time issued (Accessed FourPhase access status got) = Unit {0}
-IsIssuedBy fourphase_style time issued (Accessed (Direct g) access status got) = Unit {0}
 IsIssuedBy fourphase_style time issued (Invalidated first last) = time ≡ issued
 IsIssuedBy fourphase_style time issued (Closed gate) = time ≡ issued
-IsIssuedBy fourphase_style time issued (Granted gate first last kind) = Unit {0}
-IsIssuedBy fourphase_style time issued (Call phase answer) = Unit {0}
-IsIssuedBy fourphase_style time issued (Take slot) = Unit {0}
-IsIssuedBy fourphase_style time issued (Acquire slot) = Unit {0}
-IsIssuedBy fourphase_style time issued (Release slot freed) = Unit {0}
-IsIssuedBy blocking_style time issued what = Unit {0}
-IsIssuedBy direct_style time issued what = Unit {0}
+IsIssuedBy style time issued what = Unit {0}
 
 -- an access that a four-phase initiator waits for has ended on its first hop, which has the number of its initiator
 abbrev pub HasEnded : Plan → List Entry → Initiator → Request → Option Passage → Type 0

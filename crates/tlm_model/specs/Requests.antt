@@ -4,7 +4,7 @@ use Rattle.std.specs.List.{filter}
 use Rattle.tlm_types.specs.declared.words.TxnId.{TxnId}
 use Rattle.tlm_types.specs.declared.entry.Entry.{Entry}
 use Rattle.tlm_types.specs.declared.entry.What.{What}
-use Rattle.tlm_types.specs.declared.entry.What.TheVariants.{Access as Accessed, Granted, Invalidated, Closed, Call, Take, Acquire, Release}
+use Rattle.tlm_types.specs.declared.entry.What.TheVariants.{Access as Accessed}
 use Rattle.tlm_model.specs.declared.operation.Operation.{Operation}
 use Rattle.tlm_model.specs.declared.platform.Platform.{Platform}
 use Rattle.tlm_model.specs.Actions.{Action, Plain, Alone, Pair, Pause, action_of, asks_of}
@@ -58,13 +58,7 @@ is_txn i s t = (t.initiator == i) && (t.seq == s)
 
 abbrev pub got_in : What → Option (List ℕ)
 got_in (Accessed way access status got) = Some got
-got_in (Granted g f l k) = None
-got_in (Invalidated f l) = None
-got_in (Closed g) = None
-got_in (Call p a) = None
-got_in (Take s) = None
-got_in (Acquire s) = None
-got_in (Release s f) = None
+got_in w = None
 
 abbrev pub first_of_two : Option (List ℕ) → Option (List ℕ) → Option (List ℕ)
 first_of_two None y = y

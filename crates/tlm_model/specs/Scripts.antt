@@ -45,9 +45,8 @@ IsEntryOf route asked o w = Unit {0}
 
 abbrev pub IsDecoupledWay : Way → Type 0
 IsDecoupledWay Blocking = Unit {0}
-IsDecoupledWay FourPhase = ⊥
 IsDecoupledWay (Direct g) = Unit {0}
-IsDecoupledWay Debug = ⊥
+IsDecoupledWay way = ⊥
 
 abbrev pub IsWay : Style → Asked → Way → Type 0
 IsWay blocking_style (Transport a) way = way ≡ Blocking
@@ -78,13 +77,8 @@ HasWay style asked w = Unit {0}
 -- an access or an invalidation, by which a history answers a request
 abbrev pub is_answer : What → Bool
 is_answer (Accessed way access status got) = true
-is_answer (Granted g f l k) = false
 is_answer (Invalidated f l) = true
-is_answer (Closed g) = false
-is_answer (Call p a) = false
-is_answer (Take s) = false
-is_answer (Acquire s) = false
-is_answer (Release s f) = false
+is_answer w = false
 
 -- the history has the access or the invalidation of request s of initiator number i
 abbrev pub has_answer : ℕ → ℕ → List Entry → Bool

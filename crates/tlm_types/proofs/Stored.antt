@@ -1,8 +1,9 @@
 -- The items of a log read the same after bytes were appended, and an access reads as its parts.
-use Rattle.std.proofs.Common.{◌≡◌, ℕ, zero, suc, ◌+◌, ◌-◌, ◌≤◌, List, [], ◌∷◌, ◌++◌, length, drop, slice_range, slice_get, get_or, All, refl, sym, ◌∙◌, arith, append_assoc, length-append}
+use Rattle.std.proofs.Common.{◌≡◌, ℕ, zero, suc, ◌+◌, ◌-◌, ◌^◌, ◌<◌, ◌≤◌, List, [], ◌∷◌, ◌++◌, length, drop, slice_range, slice_get, get_or, All, refl, sym, ◌∙◌, arith, append_assoc, length-append}
 use Rattle.std.specs.Prelude.{option_and_then}
 use Rattle.std.proofs.lemmas.List.{map-append, take_at, drop_at, take-append-le, drop-append-le, length-drop, append-nil}
-use Rattle.std.proofs.lemmas.List.Elements.{All-push}
+use Rattle.std.proofs.lemmas.List.Elements.{All-cons, All-head, All-nil, All-push, All-tail}
+use Rattle.tlm_types.specs.declared.entry.Entry.{Entry}
 use Rattle.tlm_types.specs.declared.entry.Facts.{Facts}
 use Rattle.tlm_types.specs.declared.entry.Head.{Head}
 use Rattle.tlm_types.specs.declared.log.long.Event.{Event}
@@ -107,3 +108,13 @@ pub read_at-plain : (bytes : List ℕ) (items : List LongItem) (index : ℕ) →
 read_at-plain bytes [] index = refl
 read_at-plain bytes (item ∷ items) zero = plain_of-what_in bytes item.start item.event
 read_at-plain bytes (item ∷ items) (suc index) = read_at-plain bytes items index
+
+-- the times of entries are those of their items
+pub entries_timed : (bytes : List ℕ) (items : List LongItem) → All (λ (i : LongItem). i.time < 2 ^ 64) items → All (λ (e : Entry). e.time < 2 ^ 64) (entries_of bytes items)
+entries_timed bytes [] timed = All-nil (λ (e : Entry). e.time < 2 ^ 64)
+entries_timed bytes (item ∷ items) timed =
+    All-cons (λ (e : Entry). e.time < 2 ^ 64) (item_entry bytes item) (entries_of bytes items) (All-head (λ (i : LongItem). i.time < 2 ^ 64) item items timed) (entries_timed bytes items (All-tail (λ (i : LongItem). i.time < 2 ^ 64) item items timed))
+
+-- the items after one more
+pub timed-more : (items : List LongItem) (head : Head) (start : ℕ) (event : Event) → All (λ (i : LongItem). i.time < 2 ^ 64) items → head.time < 2 ^ 64 → All (λ (i : LongItem). i.time < 2 ^ 64) (items ++ item_for head start event ∷ [])
+timed-more items head start event timed fits = All-push (λ (i : LongItem). i.time < 2 ^ 64) items (item_for head start event) timed fits

@@ -97,6 +97,7 @@ IsKept n start (Access a) = (start ≤ a.enables_start) × (a.enables_start ≤ 
 
 -- a log of these items and bytes, with room for so many bytes more
 pub record IsStored (items : List LongItem) (bytes : List ℕ) (room_bytes capacity : ℕ) : Type 0 where
+  pub timed : All (λ (i : LongItem). i.time < 2 ^ 64) items
   pub kept : All (λ i. IsKept (length bytes) i.start i.event) items
   pub roomy : length bytes + room_bytes ≤ capacity
   pub small : length bytes + room_bytes < 2 ^ 32

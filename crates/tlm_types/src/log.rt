@@ -1,5 +1,5 @@
 // The log of an object: its entries in order, kept without a list of bytes for each.
-ghost use Rattle.std.specs.Prelude.{◌≡◌, ◌≢◌, ◌+◌, ◌^◌, ◌<◌, ◌≤◌, [], ◌++◌, length, max, false, Some, IsOk, IsSome, IsSomeAnd, IfSome, IfOk, IfErr, OnOk, OnErr, IsTrue, ◌↔◌, slice_get, option_map, vec_len, vec_capacity};
+ghost use Rattle.std.specs.Prelude.{◌≡◌, ◌≢◌, ◌+◌, ◌^◌, ◌<◌, ◌≤◌, [], ◌++◌, length, max, false, All, Some, IsOk, IsSome, IsSomeAnd, IfSome, IfOk, IfErr, OnOk, OnErr, IsTrue, ◌↔◌, slice_get, option_map, vec_len, vec_capacity};
 ghost use Rattle.tlm_types.specs.LogItem.{IsLast};
 ghost use Rattle.tlm_types.specs.Log.{access_by, enables_of, entry_at, facts_of, got_of, head_of, is_access, plain_of, read_at, read_sends, sent_of, with_entry};
 ghost use Rattle.tlm_types.specs.declared.words.Command.TheVariants.{Read};
@@ -69,9 +69,10 @@ impl Log {
         })
     }
 
-    /// How many entries there are.
+    /// How many entries there are. Each has one of the times that there are.
     pub fn len(&self) -> u64
-        ensures { result ≡ length self.now.entries }
+        ensures len { result ≡ length self.now.entries }
+        ensures timed { All (λ e. e.time < 2 ^ 64) self.now.entries }
     {
         self.items.len() as u64
     }

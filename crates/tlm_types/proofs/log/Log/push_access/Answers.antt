@@ -1,6 +1,7 @@
 use Rattle.std.proofs.Common.{arith, ℕ, ◌≡◌, ◌+◌, ◌-◌, ◌++◌, List, length, length-append, ap, refl, ◌∙◌}
-use Rattle.tlm_types.specs.LogItem.{IsLast}
-use Rattle.tlm_types.proofs.Stored.{entries_of-access, kept-access, kept_of-access_by}
+use Rattle.tlm_types.specs.LogItem.{IsLast, stored_at}
+use Rattle.tlm_types.specs.declared.log.long.Event.TheVariants.{Access}
+use Rattle.tlm_types.proofs.Stored.{entries_of-access, kept-access, kept_of-access_by, timed-more}
 use Rattle.tlm_types.proofs.log.Log.push_access.Goals as goal
 
 pub returns-clause-ok : goal.returns-clause-ok
@@ -31,6 +32,7 @@ invariant_of-self-2 c =
     let count : length c.append.new.bytes.items ≡ span.end = omega (arith, last.start, last.enables_start, last.got_start, last.end) in
     let items = kept-access (length s.bytes.items) (length c.append.new.bytes.items) (length sent) (length enables) (length got) s.items.items c.args.head c.args.facts span c.self.invariant.kept last count in
     record {
+      timed = rw c.in_ok-push_access.ensures.ok (timed-more s.items.items c.args.head span.start (Access (stored_at c.args.facts span)) c.self.invariant.timed (omega arith));
       kept = rw c.in_ok-push_access.ensures.ok items;
       roomy = omega (arith, last.start, last.enables_start, last.got_start, last.end);
       small = omega (arith, last.start, last.enables_start, last.got_start, last.end);

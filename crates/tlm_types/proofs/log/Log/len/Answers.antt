@@ -1,0 +1,11 @@
+use Rattle.std.proofs.Common.{ap, subst, ◌<◌, ◌^◌}
+use Rattle.std.specs.Prelude.{All}
+use Rattle.tlm_types.specs.declared.entry.Entry.{Entry}
+use Rattle.tlm_types.specs.Log.{LogView}
+use Rattle.tlm_types.proofs.Stored.{entries_timed}
+use Rattle.tlm_types.proofs.log.Log.len.Goals as goal
+
+pub returns-clause-timed : goal.returns-clause-timed
+returns-clause-timed c =
+    let s = c.self.inside in
+    subst (λ (l : LogView). All (λ (e : Entry). e.time < 2 ^ 64) l.entries) c.self.view_is (entries_timed s.bytes.items s.items.items c.self.invariant.timed)
