@@ -2,7 +2,6 @@
 use Rattle.std.proofs.Common.{◌≡◌, ℕ, zero, suc, ◌+◌, ◌≤◌, cond, not, List, [], ◌∷◌, ◌++◌, length, get_or, map, Bool, true, false, Some, refl, sym, ◌∙◌, ap, arith, subst}
 use Rattle.std.specs.Prelude.{slice_get, sum_by}
 use Rattle.std.specs.List.{filter, position_or_len, range_with_len}
-use Rattle.std.proofs.lemmas.Bool.{eq-eqb, eqb-true}
 use Rattle.tlm_types.specs.declared.words.ObjectNo.{ObjectNo}
 use Rattle.tlm_types.specs.declared.words.ObjectNo.TheVariants.{Memory, Hop, Pool}
 use Rattle.tlm_model.specs.declared.platform.Platform.{Platform}

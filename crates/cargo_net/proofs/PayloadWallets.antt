@@ -1,10 +1,8 @@
 -- The wallet of a payload, from which a ticket of its hop was pulled.
-use Rattle.std.proofs.Common.{◌≡◌, ℕ, ◌-◌, ◌<◌, ◌==◌, cond, Option, Some, None, ◌∙◌, ap, arith, refl, subst, inl}
-use Rattle.std.specs.Prelude.{IsSome}
-use Rattle.std.specs.FinMap as map
+use Rattle.std.proofs.Common.{◌≡◌, ℕ, ◌-◌, ◌<◌, ◌==◌, cond, ◌∙◌, ap, arith, subst, inl}
 use Rattle.atomic_table.specs.Seated.{TableId}
-use Rattle.token_book.specs.Pocket.{Pocket}
-use Rattle.token_book.specs.Purse.{HasPlace, HasRoom, IsOf, Purse, bytes_of, left_in, left_of, pulled}
+use Rattle.token_book.specs.Purse.{HasRoom, IsOf, Purse, bytes_of, left_of, pulled}
+use Rattle.token_book.proofs.Rooms.{left-place}
 use Rattle.cargo_model.specs.Tickets.{Pulls, Puts}
 use Rattle.cargo_net.specs.Wallets.{HoldsSame}
 use Rattle.cargo_model.proofs.Wallets.{pulled_here}
@@ -22,17 +20,9 @@ from_pull_for tokens table number at logged bytes old new q b t is of left bytes
     subst (λ (n : ℕ). Pulls tokens n logged old new) q
     (subst (λ (d : ℕ). Pulls tokens at d old new) b (record { of = subst (λ (i : TableId). IsOf i new) t of; places = ap (λ (w : Purse). w.places) is; left = left; bytes_left = bytes_left }))
 
-some_place : (pocket : Option Pocket) → 0 < left_in pocket → IsSome pocket
-some_place None some = absurd (omega arith)
-some_place (Some p) some = refl
-
--- an object of which a ticket is left has a place
-pub has_place : (w : Purse) (o : ℕ) → 0 < left_of w o → HasPlace w o
-has_place w o some = some_place (map.get w.held o) some
-
 -- where two tickets were there, one is left, which keeps the place for the other
 pub room_left : (tokens : TableId) (number : ℕ) (old new : Purse) → Pulls tokens number 0 old new → 1 < left_of old number → HasRoom new number
-room_left tokens number old new pull two = inl (has_place new number (let e = pulled_here tokens number 0 old new pull in omega arith))
+room_left tokens number old new pull two = inl (left-place new number (let e = pulled_here tokens number 0 old new pull in omega arith))
 
 -- what was pulled and put back is as it was
 pub holds_same : (tokens : TableId) (number : ℕ) (old w new : Purse) → Pulls tokens number 0 old w → Puts tokens number w new → 1 < left_of old number → HoldsSame new old

@@ -13,7 +13,7 @@ use generic_payload::Payload;
 use one_history::{History, Note};
 use region_object::{Region, RegionCall, RegionReply, payload_cost};
 use route_plan::Plan;
-use shared_object::{Naming, Shared, Stepped, Unstepped};
+use shared_object::{Naming, Shared, Stepped};
 use std::sync::Wait;
 use tlm_types::{Content, Ps, Way};
 use token_book::Tokens;
@@ -64,24 +64,14 @@ pub fn serve<R: Wait, N: Naming<Plan, TlmLaw>>(
         way: Way::FourPhase,
         payload: baton.payload,
     };
-    match memory.step(rt, history, tickets, note, Some(ticket), call) {
-        Ok(
-            Stepped {
-                reply,
-                position: _,
-                note,
-                ticket: _,
-            },
-        ) => {
-            baton.payload = accessed(reply);
-            (Cargo { baton, hold }, note)
-        }
-        Err(
-            Unstepped {
-                note: _,
-                ticket: _,
-                call: _,
-            },
-        ) => unreachable!(),
-    }
+    let stepped = memory.step(rt, history, tickets, note, Some(ticket), call);
+    let Stepped {
+        reply,
+        position: _,
+        note,
+        ticket: _,
+    } = stepped;
+
+    baton.payload = accessed(reply);
+    (Cargo { baton, hold }, note)
 }

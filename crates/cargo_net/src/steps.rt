@@ -20,7 +20,7 @@ use hop_object::{Hop, HopCall, HopReply};
 use one_history::{History, Note};
 use payload_pool::{Pool, PoolCall, PoolReply};
 use route_plan::Plan;
-use shared_object::{Naming, Shared, Stepped, Unstepped};
+use shared_object::{Naming, Shared, Stepped};
 use std::sync::Wait;
 use tlm_types::Content;
 use token_book::{Ticket, Tokens};
@@ -49,23 +49,14 @@ pub(crate) fn step_pool<R: Wait, N: Naming<Plan, TlmLaw>>(
     ensures look { result.1.knows.looks ≡ note.knows.looks ++ (pool.now.number, pool_look result.0) ∷ [] }
     ensures pooled { HasPooledWith N.frame N.tokens pool.now.number pool.now.own note.knows result.1.knows call ticket result.0 result.2 }
 {
-    match pool.step(rt, history, tickets, note, ticket, call) {
-        Ok(
-            Stepped {
-                reply,
-                position: _,
-                note,
-                ticket,
-            },
-        ) => (reply, note, ticket),
-        Err(
-            Unstepped {
-                note: _,
-                ticket: _,
-                call: _,
-            },
-        ) => unreachable!(),
-    }
+    let stepped = pool.step(rt, history, tickets, note, ticket, call);
+    let Stepped {
+        reply,
+        position: _,
+        note,
+        ticket,
+    } = stepped;
+    (reply, note, ticket)
 }
 
 // Makes a call of a hop, by what the note knows.
@@ -95,21 +86,12 @@ pub(crate) fn step_hop<R: Wait, N: Naming<Plan, TlmLaw>>(
     ensures look { result.1.knows.looks ≡ note.knows.looks ++ (hop.now.number, hop_look result.0) ∷ [] }
     ensures stepped { HasStepped N.frame N.tokens hop.now.number hop.now.own note.knows result.1.knows call ticket result.0 result.2 }
 {
-    match hop.step(rt, history, tickets, note, ticket, call) {
-        Ok(
-            Stepped {
-                reply,
-                position: _,
-                note,
-                ticket,
-            },
-        ) => (reply, note, ticket),
-        Err(
-            Unstepped {
-                note: _,
-                ticket: _,
-                call: _,
-            },
-        ) => unreachable!(),
-    }
+    let stepped = hop.step(rt, history, tickets, note, ticket, call);
+    let Stepped {
+        reply,
+        position: _,
+        note,
+        ticket,
+    } = stepped;
+    (reply, note, ticket)
 }

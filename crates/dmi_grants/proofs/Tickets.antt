@@ -1,13 +1,10 @@
 -- Tickets that are taken out of a wallet, and put back.
-use Rattle.std.proofs.Common.{◌≡◌, ℕ, ◌+◌, ◌<◌, ◌≤◌, length, Option, Some, None, refl, sym, ◌∙◌, subst, ⊎_elim, arith}
-use Rattle.std.specs.Prelude.{IsSome}
-use Rattle.std.specs.FinMap as map
+use Rattle.std.proofs.Common.{◌≡◌, ℕ, ◌+◌, ◌<◌, ◌≤◌, length, refl, sym, ◌∙◌, subst, ⊎_elim, arith}
 use Rattle.view_lists.specs.Lists.{Has}
 use Rattle.atomic_table.specs.Seated.{TableId}
 use Rattle.token_book.specs.Account.{Slip}
-use Rattle.token_book.specs.Pocket.{Pocket}
-use Rattle.token_book.specs.Purse.{Purse, HasPlace, HasRoom, left_in, left_of, pulled, put_in}
-use Rattle.token_book.proofs.Rooms.{place-pulled, place-put_in, room_within}
+use Rattle.token_book.specs.Purse.{Purse, HasPlace, HasRoom, left_of, pulled, put_in}
+use Rattle.token_book.proofs.Rooms.{held-pulled, place-pulled, place-put_in, room_within}
 use Rattle.dmi_grants.specs.Made.{HasSpent, IsRoomyFor}
 
 pub roomy_pulled : (table : TableId) (w v : Purse) (m bytes : ℕ) → v ≡ pulled table w m bytes → IsRoomyFor m w → IsRoomyFor m v
@@ -21,19 +18,12 @@ roomy_pulled table w v m bytes is room = record {
   has = room.has;
 }
 
-is_held : (o : Option Pocket) → 0 < left_in o → IsSome o
-is_held None left = absurd (omega (arith, left))
-is_held (Some p) left = refl
-
 -- a ticket that is taken out takes no place
 pub roomy_less : (table : TableId) (w v : Purse) (k m bytes : ℕ) → v ≡ pulled table w m bytes → 0 < left_of w m → IsRoomyFor k w → IsRoomyFor k v
 roomy_less table w v k m bytes is left room = record {
   objects = room.objects;
   few = subst (λ (u : Purse). length room.objects ≤ u.places) (sym is) room.few;
-  all = λ q has. ⊎_elim
-      (λ (same : q ≡ m). room.all q (subst (HasPlace w) (sym same) (is_held (map.get w.held m) left)))
-      (λ (held : HasPlace w q). room.all q held)
-      (place-pulled table w m bytes q (subst (λ (u : Purse). HasPlace u q) is has));
+  all = λ q has. room.all q (held-pulled table w v m bytes is left q has);
   has = room.has;
 }
 

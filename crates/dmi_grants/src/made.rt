@@ -11,7 +11,7 @@ ghost use Rattle.dmi_grants.specs.Made.{HasGot, HasSpent, IsMade, IsPlainTicket,
 use plat_net::{Net, PlatNote, TlmLaw};
 use region_object::{RegionCall, RegionReply};
 use route_plan::Plan;
-use shared_object::{Naming, Stepped, Unstepped};
+use shared_object::{Naming, Stepped};
 use std::sync::Wait;
 use token_book::{Ticket, Wallet};
 
@@ -43,27 +43,18 @@ pub(crate) fn make<N: Naming<Plan, TlmLaw>, R: Wait>(
 {
     let _ = net.plan();
     let place = net.memory(memory);
-    match place.step(rt, net.history(), net.tickets(), note, ticket, call) {
-        Ok(
-            Stepped {
-                reply,
-                position,
-                note,
-                ticket,
-            },
-        ) => Made {
-            reply,
-            position,
-            note,
-            ticket,
-        },
-        Err(
-            Unstepped {
-                note: _,
-                ticket: _,
-                call: _,
-            },
-        ) => unreachable!(),
+    let stepped = place.step(rt, net.history(), net.tickets(), note, ticket, call);
+    let Stepped {
+        reply,
+        position,
+        note,
+        ticket,
+    } = stepped;
+    Made {
+        reply,
+        position,
+        note,
+        ticket,
     }
 }
 
@@ -86,27 +77,18 @@ pub(crate) fn make_inside<N: Naming<Plan, TlmLaw>, R: Wait>(
 {
     let _ = net.plan();
     let place = net.memory(memory);
-    match place.step_leaving(rt, net.history(), net.tickets(), note, ticket, gate, call) {
-        Ok(
-            Stepped {
-                reply,
-                position,
-                note,
-                ticket,
-            },
-        ) => Made {
-            reply,
-            position,
-            note,
-            ticket,
-        },
-        Err(
-            Unstepped {
-                note: _,
-                ticket: _,
-                call: _,
-            },
-        ) => unreachable!(),
+    let stepped = place.step_leaving(rt, net.history(), net.tickets(), note, ticket, gate, call);
+    let Stepped {
+        reply,
+        position,
+        note,
+        ticket,
+    } = stepped;
+    Made {
+        reply,
+        position,
+        note,
+        ticket,
     }
 }
 

@@ -18,7 +18,7 @@ use base_phases::LaneState;
 use hop_object::{Begun, Hop, HopCall, HopReply, Leg, Responded};
 use object_bench::{desk_of, pair, ticket_of};
 use one_history::Law;
-use shared_object::{Naming, Shared, Stepped, Unstepped, World};
+use shared_object::{Naming, Shared, Stepped, World};
 use std::alloc::Global;
 use std::marker::Brand;
 use std::process::Abort;
@@ -99,23 +99,14 @@ fn ask<N: Naming<(), ByNumber>, R: Wait>(
     ensures answers { Answers place.now.number call result.reply result.note.knows.known }
     ensures legs { (h : HopView ℕ) → HasLegs N.frame N.tokens place.now.number h → LegsFit h result.reply }
 {
-    match place.step(rt, past, tokens, note, ticket, call) {
-        Ok(
-            Stepped {
-                reply,
-                position: _,
-                note,
-                ticket: _,
-            },
-        ) => Answered { reply, note },
-        Err(
-            Unstepped {
-                note: _,
-                ticket: _,
-                call: _,
-            },
-        ) => unreachable!(),
-    }
+    let stepped = place.step(rt, past, tokens, note, ticket, call);
+    let Stepped {
+        reply,
+        position: _,
+        note,
+        ticket: _,
+    } = stepped;
+    Answered { reply, note }
 }
 
 // BEGIN_REQ: its answer and its time.

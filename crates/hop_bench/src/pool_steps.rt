@@ -16,7 +16,7 @@ use crate::seats::{end, two_books};
 use object_bench::{desk_of, pair, ticket_of};
 use one_history::NoLaw;
 use payload_pool::{Baton, Hold, Pool, PoolCall, PoolReply};
-use shared_object::{Naming, Shared, Stepped, Unstepped};
+use shared_object::{Naming, Shared, Stepped};
 use std::alloc::Global;
 use std::marker::Brand;
 use std::process::Abort;
@@ -64,23 +64,14 @@ fn ask<N: Naming<(), NoLaw>, R: Wait>(
     ensures note { IsNote N.table result.note }
     ensures answer { Answers N.frame N.tokens place.now.number call result.reply }
 {
-    match place.step(rt, past, tokens, note, Some(ticket), call) {
-        Ok(
-            Stepped {
-                reply,
-                position: _,
-                note,
-                ticket: _,
-            },
-        ) => Answered { reply, note },
-        Err(
-            Unstepped {
-                note: _,
-                ticket: _,
-                call: _,
-            },
-        ) => unreachable!(),
-    }
+    let stepped = place.step(rt, past, tokens, note, Some(ticket), call);
+    let Stepped {
+        reply,
+        position: _,
+        note,
+        ticket: _,
+    } = stepped;
+    Answered { reply, note }
 }
 
 fn take<N: Naming<(), NoLaw>, R: Wait + Abort>(

@@ -6,7 +6,7 @@ use crate::hop::Hop;
 use crate::lane::Side;
 use one_history::Sign;
 use shared_object::Object;
-use tlm_types::{Log, Memory};
+use tlm_types::Log;
 use token_book::Tokens;
 
 impl<T> Hop<T> {
@@ -75,10 +75,6 @@ impl<T> Object for Hop<T> {
 
     ghost fits = { λ h call _. IsFit h call };
 
-    ghost ready = { λ _ _. Unit {0} };
-
-    ghost takes_memory = { λ _. false };
-
     ghost carried = { λ h. carried_by h.lanes };
 
     ghost brought = { brought_by };
@@ -106,10 +102,6 @@ impl<T> Object for Hop<T> {
 
     fn sign(&self, _call: &HopCall<T>) -> Sign {
         Sign::Plain
-    }
-
-    fn make_room(&mut self, _call: &HopCall<T>) -> Result<(), Memory> {
-        Ok(())
     }
 
     fn apply(&mut self, tokens: &Tokens, position: u64, call: HopCall<T>) -> HopReply<T> {

@@ -108,10 +108,6 @@ impl Object for Counter {
 
     ghost fits = { λ _ _ _. Unit {0} };
 
-    ghost ready = { λ _ _. Unit {0} };
-
-    ghost takes_memory = { λ _. false };
-
     ghost carried = { λ _. [] };
 
     ghost brought = { λ _ _. [] };
@@ -135,10 +131,6 @@ impl Object for Counter {
 
     fn sign(&self, _call: &Option<u32>) -> Sign {
         Sign::Plain
-    }
-
-    fn make_room(&mut self, _call: &Option<u32>) -> Result<(), Memory> {
-        Ok(())
     }
 
     fn apply(&mut self, _tokens: &Tokens, position: u64, call: Option<u32>) -> Option<u64> {

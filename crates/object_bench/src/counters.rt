@@ -43,14 +43,12 @@ fn visit<N: Naming<(), NoLaw>, R: Wait + Abort>(
     ensures late { (note.knows.seen ≤ result.0) × (result.0 < result.1.knows.seen) }
 {
     match place.step(rt, past, tokens, note, Some(ticket), Some(3)) {
-        Ok(
-            Stepped {
-                reply: _,
-                position: Some(position),
-                note,
-                ticket: _,
-            },
-        ) => (position, note),
+        Stepped {
+            reply: _,
+            position: Some(position),
+            note,
+            ticket: _,
+        } => (position, note),
         _ => panic!(rt; "nothing was added"),
     }
 }
@@ -71,14 +69,12 @@ fn over<N: Naming<(), NoLaw>, R: Wait + Abort>(
     ensures { IsNote N.table result.0 × IsTicket N.tokens place.now.number result.1 }
 {
     match place.step(rt, past, tokens, note, Some(ticket), Some(11)) {
-        Ok(
-            Stepped {
-                reply: None,
-                position: None,
-                note,
-                ticket,
-            },
-        ) => (note, ticket.expect(rt, "no ticket")),
+        Stepped {
+            reply: None,
+            position: None,
+            note,
+            ticket,
+        } => (note, ticket.expect(rt, "no ticket")),
         _ => panic!(rt; "too much was added"),
     }
 }
@@ -97,14 +93,12 @@ fn ask<N: Naming<(), NoLaw>, R: Wait + Abort>(
     ensures { IsNote N.table result.1 }
 {
     match place.step(rt, past, tokens, note, None, None) {
-        Ok(
-            Stepped {
-                reply: Some(total),
-                position: None,
-                note,
-                ticket: None,
-            },
-        ) => (total, note),
+        Stepped {
+            reply: Some(total),
+            position: None,
+            note,
+            ticket: None,
+        } => (total, note),
         _ => panic!(rt; "no total"),
     }
 }
@@ -124,14 +118,12 @@ fn visit_alone<N: Naming<(), NoLaw>, R: Wait + Abort>(
     requires ticket { IsTicket N.tokens place.old.number ticket }
 {
     match place.step_alone(rt, past, tokens, note, Some(ticket), Some(3)) {
-        Ok(
-            Stepped {
-                reply: _,
-                position: Some(position),
-                note: _,
-                ticket: _,
-            },
-        ) => position,
+        Stepped {
+            reply: _,
+            position: Some(position),
+            note: _,
+            ticket: _,
+        } => position,
         _ => panic!(rt; "nothing was added"),
     }
 }

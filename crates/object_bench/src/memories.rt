@@ -90,21 +90,14 @@ fn visit<N: Naming<(), NoLaw>, R: Wait + Abort>(
     ensures note { IsNote N.table result.1 }
     ensures late { (note.knows.seen ≤ result.0) × (result.0 < result.1.knows.seen) }
 {
-    match place.step(rt, past, tokens, note, Some(ticket), call) {
-        Ok(
-            Stepped {
-                reply,
-                position,
-                note,
-                ticket: _,
-            },
-        ) => (
-            position.expect(rt, "no position"),
-            note,
-            accessed(rt, reply),
-        ),
-        _ => panic!(rt; "nothing was added"),
-    }
+    let Stepped {
+        reply,
+        position,
+        note,
+        ticket: _,
+    } = place.step(rt, past, tokens, note, Some(ticket), call);
+    let payload = accessed(rt, reply);
+    (position.expect(rt, "no position"), note, payload)
 }
 
 // Goes inside the first gate, makes an access there and leaves, in one step.
@@ -130,14 +123,12 @@ fn through<N: Naming<(), NoLaw>, R: Wait + Abort>(
         panic!(rt; "the gate is marked");
     };
     match place.step_leaving(rt, past, tokens, note, ticket, 0, call) {
-        Ok(
-            Stepped {
-                reply: _,
-                position: Some(position),
-                note,
-                ticket: _,
-            },
-        ) => (position, note),
+        Stepped {
+            reply: _,
+            position: Some(position),
+            note,
+            ticket: _,
+        } => (position, note),
         _ => panic!(rt; "no access"),
     }
 }

@@ -130,25 +130,23 @@ fn call_of(rt: &impl Abort, payload: Payload, row: &Row) -> RegionCall
     }
 }
 
-// Makes room for the call, and makes it.
+// Makes the call, for which the memory's log has room.
 fn apply(rt: &impl Abort, region: &mut Region, position: u64, call: RegionCall) -> RegionReply
     requires fit { IsFit call }
     requires room { length region.old.log.entries < region.old.log.room }
     ensures entries { length region.new.log.entries ≡ length region.old.log.entries + 1 }
     ensures room { region.new.log.room ≡ region.old.log.room }
 {
-    if region.make_room(&call).is_err() {
-        panic!(rt; "memory");
-    }
+    assert!(rt; call.cost() <= region.log().room_bytes());
     region.apply(position, call)
 }
 
-// A memory with room for two entries.
+// A memory with room for two entries and 64 bytes.
 fn blank(rt: &impl Abort, alloc: Global) -> Region
     ensures entries { length result.log.entries ≡ 0 }
     ensures room { result.log.room ≡ 2 }
 {
-    Region::new(alloc, 3, RAM, 2, 0, 40).expect(rt, "memory")
+    Region::new(alloc, 3, RAM, 2, 64, 40).expect(rt, "memory")
 }
 
 // Such a memory, into which 1 to 8 were written.

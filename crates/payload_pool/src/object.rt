@@ -3,7 +3,7 @@ use crate::call::{PoolCall, PoolReply};
 use crate::pool::{Pool, PoolMade};
 use one_history::Sign;
 use shared_object::Object;
-use tlm_types::{Log, Memory};
+use tlm_types::Log;
 use token_book::Tokens;
 
 impl Object for Pool {
@@ -40,10 +40,6 @@ impl Object for Pool {
 
     ghost fits = { λ v call _. Fits v call };
 
-    ghost ready = { λ _ _. Unit {0} };
-
-    ghost takes_memory = { λ _. false };
-
     ghost carried = { λ _. [] };
 
     ghost brought = { λ _ _. [] };
@@ -79,10 +75,6 @@ impl Object for Pool {
             | PoolCall::Stow { .. }
             | PoolCall::Live => Sign::Plain,
         }
-    }
-
-    fn make_room(&mut self, _call: &PoolCall) -> Result<(), Memory> {
-        Ok(())
     }
 
     fn apply(&mut self, tokens: &Tokens, position: u64, call: PoolCall) -> PoolReply {

@@ -1,5 +1,5 @@
 -- What the plan gives for the calls of a net: where an object stands, that it is there, and that the objects of an access differ.
-use Rattle.std.proofs.Common.{◌≡◌, ℕ, zero, suc, ◌+◌, ◌<◌, ◌≤◌, List, [], ◌∷◌, length, get_or, Bool, true, Option, Some, None, refl, sym, ◌∙◌, ap, subst, inl, inr, arith}
+use Rattle.std.proofs.Common.{◌≡◌, ℕ, zero, suc, ◌+◌, ◌<◌, ◌≤◌, List, [], ◌∷◌, length, true, Option, Some, None, refl, sym, ◌∙◌, ap, subst, inl, inr, arith}
 use Rattle.std.specs.Prelude.{IfSome, slice_get, is_some}
 use Rattle.std.proofs.lemmas.Option.{slice_get_within}
 use Rattle.atomic_table.specs.Seated.{TableId}
@@ -15,15 +15,13 @@ use Rattle.tlm_model.specs.declared.platform.InitiatorRow.{InitiatorRow}
 use Rattle.tlm_model.specs.declared.platform.Style.{Style}
 use Rattle.tlm_model.specs.declared.platform.Style.TheVariants.{Blocking, Direct, FourPhase}
 use Rattle.tlm_model.specs.declared.platform.Target.TheVariants as targets
-use Rattle.tlm_model.specs.declared.platform.MemoryRow.{MemoryRow}
-use Rattle.tlm_model.specs.declared.platform.Platform.{Platform}
 use Rattle.tlm_model.specs.Plan.{Plan, Initiator, initiators_of}
-use Rattle.tlm_model.specs.Route.{Route, hops_of, route_of}
+use Rattle.tlm_model.specs.Route.{hops_of, route_of}
 use Rattle.flow_model.specs.Events.{Among, Event, Finds, IsTake}
-use Rattle.flow_model.specs.Platform.{addresses_of, passage_by, passage_of, passage_to, world_of}
-use Rattle.flow_model.specs.World.{IsPassage, Passage, hop_at, hop_count}
+use Rattle.flow_model.specs.Platform.{addresses_of, passage_by, passage_of, passage_to}
+use Rattle.flow_model.specs.World.{Passage, hop_at, hop_count}
 use Rattle.flow_plan.proofs.Ways.{initiator_from, world_law}
-use Rattle.route_plan.specs.Routes.{bound_walk, row_walk}
+use Rattle.route_plan.specs.Routes.{row_walk}
 use Rattle.route_plan.specs.Shape.{IsShape}
 use Rattle.route_plan.specs.Valid.{IsValid, hop_count as route_hops}
 use Rattle.route_plan.proofs.StepLemmas.{few_hops_at}
@@ -31,10 +29,10 @@ use Rattle.token_book.specs.Account.{Slip}
 use Rattle.shared_object.specs.Standing.{Numbers}
 use Rattle.payload_pool.specs.declared.baton.Baton.{Baton}
 use Rattle.cargo_model.specs.declared.cargo.Cargo.{Cargo}
-use Rattle.cargo_model.specs.Known.{Known, has_pool, is_used, object_number, objects_of, row_has_pool}
+use Rattle.cargo_model.specs.Known.{Known, has_pool, object_number, objects_of, row_has_pool}
 use Rattle.cargo_model.specs.Origins.{AreThere}
 use Rattle.cargo_model.specs.Tickets.{AreApart}
-use Rattle.cargo_model.specs.Travel.{IsAsked, IsTaken, numbers_for, route_for, stop_for}
+use Rattle.cargo_model.specs.Travel.{IsAsked, IsTaken, numbers_for, route_for}
 use Rattle.cargo_model.proofs.Origins.{apart_law, only_object, stands}
 use Rattle.cargo_model.proofs.There.{there_law}
 use Rattle.cargo_net.proofs.AskedLemmas.{memories_end}
@@ -51,7 +49,7 @@ use Rattle.cargo_net.specs.Starts.{MayStart}
 use Rattle.plat_net.specs.HopCalls.{CanBegin, CanEndRequest, CanEndResponse, CanRespond, IsOnHop}
 use Rattle.plat_net.specs.MemoryCalls.{CanServe, IsServedAt}
 use Rattle.plat_net.specs.Net.{HasPool, hop_numbers, memory_numbers, pool_numbers}
-use Rattle.plat_net.specs.Objects.{HasObject, frame_of}
+use Rattle.plat_net.specs.Objects.{frame_of}
 use Rattle.plat_net.specs.Places.{LeadsTo, hop_place, memory_place, own_pool}
 use Rattle.plat_net.specs.PoolCalls.{CanAcquire, CanDescend, CanRelease, CanStart, CanStow, CanTake, IsAccessOf, place_above}
 use Rattle.plat_net.proofs.NoCycle.{shapes_law}

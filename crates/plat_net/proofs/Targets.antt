@@ -4,7 +4,6 @@ use Rattle.std.specs.Prelude.{IsSomeAnd, slice_get, sum_by}
 use Rattle.std.specs.List.{enumerate_from, flat_map}
 use Rattle.std.proofs.lemmas.List.{map-append}
 use Rattle.std.proofs.lemmas.List.Sums.{sum_by-cons}
-use Rattle.tlm_types.specs.declared.words.RespMode.{RespMode}
 use Rattle.tlm_model.specs.declared.platform.InitiatorRow.{InitiatorRow}
 use Rattle.tlm_model.specs.declared.platform.MemoryRow.{MemoryRow}
 use Rattle.tlm_model.specs.declared.platform.Platform.{Platform}
@@ -12,10 +11,10 @@ use Rattle.tlm_model.specs.declared.platform.RouterRow.{RouterRow}
 use Rattle.tlm_model.specs.declared.platform.Target.{Target}
 use Rattle.tlm_model.specs.declared.platform.Target.TheVariants.{Router, Memory}
 use Rattle.tlm_model.specs.declared.platform.WindowRow.{WindowRow}
-use Rattle.tlm_model.specs.Plan.{Plan, Initiator}
+use Rattle.tlm_model.specs.Plan.{Initiator}
 use Rattle.tlm_model.specs.Route.{Found, hops_of, into_memory, into_router, into_window, window_has, later, route_of, walk, window_hop, window_of}
 use Rattle.flow_model.specs.Platform.{all_windows}
-use Rattle.flow_model.specs.World.{Passage, hop_at, hop_count}
+use Rattle.flow_model.specs.World.{Passage, hop_at}
 use Rattle.flow_plan.proofs.Ways.{initiator_from}
 use Rattle.route_plan.specs.declared.ends.HopEnds.{HopEnds}
 use Rattle.route_plan.specs.Routes.{binding_ends, ends_of, router_ends, window_ends}

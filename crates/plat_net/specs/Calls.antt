@@ -1,10 +1,10 @@
 -- A call at a memory of a net, and what a wallet gives for it.
-use Rattle.std.specs.Prelude.{ℕ, ◌≡◌, ◌+◌, ◌-◌, ◌<◌, ◌≤◌, ◌==◌, IsSomeAnd, List, length, map, Option, None, slice_get, if◌then◌else◌}
+use Rattle.std.specs.Prelude.{ℕ, ◌≡◌, ◌-◌, ◌<◌, ◌≤◌, ◌==◌, IsSomeAnd, List, map, Option, None, slice_get, if◌then◌else◌}
 use Rattle.view_lists.specs.Lists.{Has, Within}
 use Rattle.one_history.specs.Lists.{StandBelow}
 use Rattle.one_history.specs.declared.view.View.{View}
 use Rattle.shared_object.specs.Written.{Written, placed, written_at}
-use Rattle.token_book.specs.Purse.{Purse, left_of, bytes_of}
+use Rattle.token_book.specs.Purse.{HasPlace, Purse, left_of, bytes_of}
 use Rattle.tlm_types.specs.declared.entry.Content.{Content}
 use Rattle.tlm_types.specs.declared.words.TxnId.{TxnId}
 use Rattle.tlm_model.specs.declared.platform.MemoryRow.{MemoryRow}
@@ -58,3 +58,4 @@ pub record OneTicketLess (m bytes : ℕ) (old new : Purse) : Type 0 where
   pub places : new.places ≡ old.places
   pub left : (o : ℕ) → left_of new o ≡ (if o == m then left_of old m - 1 else left_of old o)
   pub bytes_left : (o : ℕ) → bytes_of new o ≡ (if o == m then bytes_of old m - bytes else bytes_of old o)
+  pub held : (o : ℕ) → HasPlace new o → HasPlace old o

@@ -16,7 +16,7 @@ use crate::net::Net;
 use generic_payload::Payload;
 use region_object::{RegionCall, RegionReply};
 use route_plan::Plan;
-use shared_object::{Naming, Stepped, Unstepped};
+use shared_object::{Naming, Stepped};
 use std::sync::Wait;
 use tlm_types::{Ps, Response, TxnId};
 use token_book::Wallet;
@@ -78,23 +78,14 @@ impl<N: Naming<Plan, TlmLaw>> Net<N> {
         let _ = self.plan();
         let ticket = wallet.pull(self.tickets(), memory, call.cost());
         let place = self.memory(memory);
-        match place.step(rt, self.history(), self.tickets(), note, Some(ticket), call) {
-            Ok(
-                Stepped {
-                    reply,
-                    position: _,
-                    note,
-                    ticket: _,
-                },
-            ) => (returned(reply), note),
-            Err(
-                Unstepped {
-                    note: _,
-                    ticket: _,
-                    call: _,
-                },
-            ) => unreachable!(),
-        }
+        let stepped = place.step(rt, self.history(), self.tickets(), note, Some(ticket), call);
+        let Stepped {
+            reply,
+            position: _,
+            note,
+            ticket: _,
+        } = stepped;
+        (returned(reply), note)
     }
 
     /// A debug read of an initiator (IEEE 1666-2011, clause 11.3), which takes no time. Where the address

@@ -10,7 +10,7 @@ use crate::reach::Reach;
 use generic_payload::Payload;
 use region_object::RegionCall;
 use route_plan::Plan;
-use shared_object::{Naming, Stepped, Unstepped};
+use shared_object::{Naming, Stepped};
 use std::marker::Model;
 use std::sync::Wait;
 use token_book::{Tokens, Wallet};
@@ -191,22 +191,13 @@ impl<N: Naming<Plan, TlmLaw>> Reach<N> for Net<N> {
     ) -> (Payload, PlatNote) {
         let ticket = wallet.pull(&self.tickets, memory, call.cost());
         let place = &mut self.memories[memory as usize];
-        match place.step_alone(rt, &self.history, &self.tickets, note, Some(ticket), call) {
-            Ok(
-                Stepped {
-                    reply,
-                    position: _,
-                    note,
-                    ticket: _,
-                },
-            ) => (returned(reply), note),
-            Err(
-                Unstepped {
-                    note: _,
-                    ticket: _,
-                    call: _,
-                },
-            ) => unreachable!(),
-        }
+        let stepped = place.step_alone(rt, &self.history, &self.tickets, note, Some(ticket), call);
+        let Stepped {
+            reply,
+            position: _,
+            note,
+            ticket: _,
+        } = stepped;
+        (returned(reply), note)
     }
 }

@@ -10,8 +10,7 @@
 //! are those that the definitions give for the log so far. The bytes and gates of a region are those of
 //! its log, the bytes as many as its size, and each status and each byte that the log tells are those of
 //! the memory as it was then. A grant is of the whole memory and of the kind that it allows, and takes the
-//! least gate that was never given. A call for which there is room can't fail for want of memory. Where
-//! `make_room` is refused memory, a region is as before.
+//! least gate that was never given. A call for which there is room takes no memory.
 #![tactic(auto)]
 
 mod call;

@@ -3,7 +3,7 @@ use crate::call::{RegionCall, RegionReply};
 use crate::region::Region;
 use one_history::Sign;
 use shared_object::Object;
-use tlm_types::{Log, Memory, MemoryTraits};
+use tlm_types::{Log, MemoryTraits};
 use token_book::Tokens;
 
 impl Object for Region {
@@ -43,10 +43,6 @@ impl Object for Region {
 
     ghost fits = { λ _ call known. Fits known call };
 
-    ghost ready = { λ _ _. Unit {0} };
-
-    ghost takes_memory = { λ _. false };
-
     ghost carried = { λ _. [] };
 
     ghost brought = { λ _ _. [] };
@@ -72,10 +68,6 @@ impl Object for Region {
     }
 
     // A call that is admitted comes with the room for its entry and its bytes.
-    fn make_room(&mut self, _call: &RegionCall) -> Result<(), Memory> {
-        Ok(())
-    }
-
     #[inline(always)]
     fn apply(&mut self, _tokens: &Tokens, position: u64, call: RegionCall) -> RegionReply {
         let reply = Region::apply(self, position, call);

@@ -131,19 +131,8 @@ impl Region {
         (self.log, Bytes::from_vec(self.store))
     }
 
-    /// Makes room in the log for the bytes of this call. Entries and bytes stay. Its only error is want
-    /// of memory, after which the memory is as before.
-    pub fn make_room(&mut self, call: &RegionCall) -> Result<(), Memory>
-        ensures ok { OnOk result (self.new ≡ record self.old {
-          log = record self.old.log { room_bytes = max self.old.log.room_bytes (cost_of call.now) };
-        }) }
-        ensures err { OnErr result (self.new ≡ self.old) }
-        ensures roomy { cost_of call.now ≤ self.old.log.room_bytes → IsOk result }
-    {
-        self.log.make_room(call.cost())
-    }
-
-    /// Makes room in the log for the bytes of a call with this payload, as `make_room` does.
+    /// Makes room in the log for the bytes of a call with this payload. Entries and bytes stay. Its only error
+    /// is want of memory, after which the memory is as before.
     pub fn make_room_for(&mut self, payload: &Payload) -> Result<(), Memory>
         ensures ok { OnOk result (self.new ≡ record self.old {
           log = record self.old.log { room_bytes = max self.old.log.room_bytes (payload_cost payload.now) };

@@ -12,7 +12,7 @@
 //! and spends one ticket; any other adds none. The reply is what the object gives in a state that its
 //! log so far gives. The note that comes back knows all that the object has written. Between two calls
 //! the seat's entries are the object's, and tickets are out for just the entries for which there is
-//! room. Want of memory is answered before anything is done.
+//! room. No call takes memory.
 #![tactic(auto)]
 
 mod locked;
@@ -20,7 +20,7 @@ mod naming;
 mod object;
 mod shared;
 
-pub use locked::{Stepped, Unstepped};
+pub use locked::Stepped;
 pub use naming::Naming;
 pub use object::{Object, World};
 pub use shared::Shared;

@@ -1,5 +1,5 @@
 // What lies under the lock.
-ghost use Rattle.std.specs.Prelude.{◌≡◌, ℕ, ◌+◌, ◌<◌, ◌≤◌, [], ◌∷◌, ◌++◌, length, slice_index_or, map, true, false, IfOk, IfErr, IfSome, MatchOption, Some, None};
+ghost use Rattle.std.specs.Prelude.{◌≡◌, ℕ, ◌+◌, ◌<◌, ◌≤◌, [], ◌∷◌, ◌++◌, length, slice_index_or, map, true, false, IfSome, MatchOption, Some, None};
 ghost use Rattle.std.specs.Option.{ForSome, unwrap_or};
 ghost use Rattle.one_history.specs.Moves.{entry, number_of, own_of, KnowsOwn, IsAtGate, drawn, copied, one_gone, left, fresh};
 ghost use Rattle.one_history.specs.Gates.{total_gates, stays_of};
@@ -186,13 +186,6 @@ pub struct Stepped<O: Object, G, W> {
     pub ticket: Option<Ticket>,
 }
 
-/// What a step hands back where there was no memory for it.
-pub struct Unstepped<O: Object, G, W> {
-    pub note: Note<Content, G, W>,
-    pub ticket: Option<Ticket>,
-    pub call: O::Call,
-}
-
 /// An object, its seat and its book of tickets. Contracts see the object and its number in the history.
 #[derive(Drop)]
 pub struct Locked<O: Object, G, W: Law<Content, G> + World<G, O>, N: Naming<G, W>> {
@@ -251,7 +244,7 @@ impl<O: Object, G, W: Law<Content, G> + World<G, O>, N: Naming<G, W>> Locked<O, 
         self.object.number()
     }
 
-    /// One call: it makes room, joins the note, draws where the call is admitted, leaves the gate that the
+    /// One call: it joins the note, draws where the call is admitted, leaves the gate that the
     /// note is inside, if there is one, applies, and copies a note.
     #[inline(always)]
     pub fn step(
@@ -262,7 +255,7 @@ impl<O: Object, G, W: Law<Content, G> + World<G, O>, N: Naming<G, W>> Locked<O, 
         ticket: Option<Ticket>,
         gate: Option<u32>,
         call: O::Call,
-    ) -> Result<Stepped<O, G, W>, Unstepped<O, G, W>>
+    ) -> Stepped<O, G, W>
         // What is handed in is of one history.
         requires history { (history.now.table ≡ N.table) × (history.now.frame ≡ N.frame) }
         requires tickets { tickets.now ≡ N.tokens }
@@ -287,26 +280,19 @@ impl<O: Object, G, W: Law<Content, G> + World<G, O>, N: Naming<G, W>> Locked<O, 
             (o : O) → Meets W.builds O.built O.entries O.follows at note.knows.known o →
             AreVouched (W.vouches N.frame.world N.tokens self.old.number) (O.brought o call) note.knows.known }
 
-        // Where the call was made.
+        // What it answers.
         ensures answer { let at = place N.frame N.tokens self.old.number (own_number (O.built self.old.object).object) in
-            IfOk result (λ s. (before : O) × (after : O)
+            let s = result in (before : O) × (after : O)
             × Meets W.builds O.built O.entries O.follows at note.knows.known before
             × Enters N.frame self.old.number (O.entries before) (O.entries after) (O.admitted before call)
             (O.content before call) note.knows s.note.knows s.position
             × O.applied before (unwrap_or s.position 0) call s.reply after
             × O.follows after
-            × AreVouched (W.vouches N.frame.world N.tokens self.old.number) (O.given before call s.reply) s.note.knows.known) }
-        ensures note { IfOk result (λ s. IsNote N.table s.note) }
-        ensures look { IfOk result (λ s. s.note.knows.looks ≡ note.knows.looks ++ (self.old.number, O.look s.reply) ∷ []) }
-        ensures ticket { IfOk result (λ s. s.ticket ≡ unspent s.position ticket) }
-
-        // Where it was not.
-        ensures unstepped { IfErr result (λ u. (u.note ≡ note) × (u.ticket ≡ ticket) × (u.call ≡ call)) }
-        ensures refused { IfErr result (λ _. O.takes_memory call ≡ true) }
+            × AreVouched (W.vouches N.frame.world N.tokens self.old.number) (O.given before call s.reply) s.note.knows.known }
+        ensures note { IsNote N.table result.note }
+        ensures look { result.note.knows.looks ≡ note.knows.looks ++ (self.old.number, O.look result.reply) ∷ [] }
+        ensures ticket { result.ticket ≡ unspent result.position ticket }
     {
-        if self.object.make_room(&call).is_err() {
-            return Err(Unstepped { note, ticket, call });
-        }
         history.take_in(&mut self.seat, note);
         let (position, ticket) = enter(
             history,
@@ -320,12 +306,12 @@ impl<O: Object, G, W: Law<Content, G> + World<G, O>, N: Naming<G, W>> Locked<O, 
         leave_if(history, &mut self.seat, gate);
         let reply = self.object.apply(tickets, position.unwrap_or(0), call);
         let note = copy_for::<O, G, W, Brand>(history, &mut self.seat, &reply);
-        Ok(Stepped {
+        Stepped {
             reply,
             position,
             note,
             ticket,
-        })
+        }
     }
 
     /// The object, its seat and its book.

@@ -1,11 +1,11 @@
 // What an object is.
-ghost use Rattle.std.specs.Prelude.{◌≡◌, ◌+◌, ◌<◌, ◌≤◌, ◌++◌, [], ◌∷◌, true, false, map, IfOk, IfErr};
+ghost use Rattle.std.specs.Prelude.{◌≡◌, ◌+◌, ◌<◌, ◌≤◌, ◌++◌, [], ◌∷◌, true, false, map};
 ghost use Rattle.std.specs.Option.{ForSome};
 ghost use Rattle.view_lists.specs.Lists.{Has, Within};
 ghost use Rattle.shared_object.specs.Written.{Built, own_number, sign_of, NamesOwnGate, Written, wrote, logged, MayWrite};
 
 use one_history::{NoLaw, Sign};
-use tlm_types::{Log, Memory};
+use tlm_types::Log;
 use token_book::Tokens;
 
 /// What stands under a lock and has a log: a memory, a hop or a pool. A call adds one entry to the
@@ -59,12 +59,6 @@ pub trait Object {
     /// Which calls fit it, by known entries of it.
     ghost fits: { Self → Self.Call → List Written → Type 0 };
 
-    /// Room was made for the call.
-    ghost ready: { Self → Self.Call → Type 0 };
-
-    /// Making room for the call may be refused.
-    ghost takes_memory: { Self.Call → Bool };
-
     /// The items that it carries, each with its transaction.
     ghost carried: { Self → List (TxnId × Self.Item) };
 
@@ -93,23 +87,11 @@ pub trait Object {
         ensures sign { result ≡ sign_of (content self.now call.now).what }
         ensures gates { fits self.now call.now (entries self.now) → NamesOwnGate (built self.now).gates result };
 
-    /// Makes room for the call, so that `apply` can't fail for want of memory. Its only error is that
-    /// want.
-    fn make_room(&mut self, call: &Self::Call) -> Result<(), Memory>
-        ensures built { built self.new ≡ built self.old }
-        ensures entries { entries self.new ≡ entries self.old }
-        ensures room { room self.new ≡ room self.old }
-        ensures bytes { bytes_left self.old ≤ bytes_left self.new }
-        ensures carried { carried self.new ≡ carried self.old }
-        ensures ready { IfOk result (λ _. ready self.new call.now) }
-        ensures refused { IfErr result (λ _. takes_memory call.now ≡ true) };
-
     /// Makes the call. One that is admitted adds its entry at this position; one that isn't gets the
-    /// position 0 and adds none.
+    /// position 0 and adds none. It takes no memory.
     fn apply(&mut self, tokens: &Tokens, position: u64, call: Self::Call) -> Self::Reply
         requires tokens { ForSome (built self.old).book (λ b. b.0 ≡ tokens.now) }
         requires fits { fits self.old call (entries self.old) }
-        requires ready { ready self.old call }
         requires admitted { admitted self.old call ≡ true →
             MayWrite (entries self.old) (room self.old) (bytes_left self.old) position (cost call) }
         requires refused { admitted self.old call ≡ false → position ≡ 0 }

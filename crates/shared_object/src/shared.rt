@@ -1,5 +1,5 @@
 // An object that threads share.
-ghost use Rattle.std.specs.Prelude.{◌≡◌, ℕ, ◌+◌, ◌<◌, ◌≤◌, [], ◌∷◌, ◌++◌, length, slice_index_or, map, true, IfOk, IfErr, Some};
+ghost use Rattle.std.specs.Prelude.{◌≡◌, ℕ, ◌+◌, ◌<◌, ◌≤◌, [], ◌∷◌, ◌++◌, length, slice_index_or, map, true, Some};
 ghost use Rattle.std.specs.Option.{unwrap_or};
 ghost use Rattle.one_history.specs.Moves.{IsAtGate, fresh};
 ghost use Rattle.one_history.specs.Gates.{total_gates};
@@ -7,7 +7,7 @@ ghost use Rattle.shared_object.specs.Written.{own_number, sign_of, wrote, placed
 ghost use Rattle.shared_object.specs.Standing.{place, IsBuiltFor, Meets, AreVouched, IsSeat, IsBook};
 ghost use Rattle.shared_object.specs.Steps.{IsNote, IsInside, HasTicket, unspent, Enters};
 
-use crate::locked::{Locked, Stepped, Unstepped};
+use crate::locked::{Locked, Stepped};
 use crate::naming::Naming;
 use crate::object::{Object, World};
 use one_history::{History, Law, Note, ObjectSeat};
@@ -72,8 +72,7 @@ impl<O: Object, G, W: Law<Content, G> + World<G, O>, N: Naming<G, W>> Shared<O, 
     /// comes back, knowing all that the object has written. Where the call is admitted, its entry is drawn
     /// in the history and added to the log, and the ticket is spent; else the ticket comes back, and
     /// nothing was added. An entry is no direct access, and a closing's gate is drained to the note. The
-    /// reply is what the object's `apply` gives in a state that its log so far gives. Its only error is
-    /// want of memory, and comes before anything is done; note, ticket and call come back in it.
+    /// reply is what the object's `apply` gives in a state that its log so far gives. It takes no memory.
     #[inline(always)]
     pub fn step<R: Wait>(
         &self,
@@ -83,7 +82,7 @@ impl<O: Object, G, W: Law<Content, G> + World<G, O>, N: Naming<G, W>> Shared<O, 
         note: Note<Content, G, W>,
         ticket: Option<Ticket>,
         call: O::Call,
-    ) -> Result<Stepped<O, G, W>, Unstepped<O, G, W>>
+    ) -> Stepped<O, G, W>
         // What is handed in is of one history.
         requires history { (history.now.table ≡ N.table) × (history.now.frame ≡ N.frame) }
         requires tickets { tickets.now ≡ N.tokens }
@@ -107,22 +106,18 @@ impl<O: Object, G, W: Law<Content, G> + World<G, O>, N: Naming<G, W>> Shared<O, 
             (o : O) → Meets W.builds O.built O.entries O.follows at note.knows.known o →
             AreVouched (W.vouches N.frame.world N.tokens self.now.number) (O.brought o call) note.knows.known }
 
-        // Where the call was made.
+        // What it answers.
         ensures answer { let at = place N.frame N.tokens self.now.number self.now.own in
-            IfOk result (λ s. (before : O) × (after : O)
+            let s = result in (before : O) × (after : O)
             × Meets W.builds O.built O.entries O.follows at note.knows.known before
             × Enters N.frame self.now.number (O.entries before) (O.entries after) (O.admitted before call)
             (O.content before call) note.knows s.note.knows s.position
             × O.applied before (unwrap_or s.position 0) call s.reply after
             × O.follows after
-            × AreVouched (W.vouches N.frame.world N.tokens self.now.number) (O.given before call s.reply) s.note.knows.known) }
-        ensures note { IfOk result (λ s. IsNote N.table s.note) }
-        ensures look { IfOk result (λ s. s.note.knows.looks ≡ note.knows.looks ++ (self.now.number, O.look s.reply) ∷ []) }
-        ensures ticket { IfOk result (λ s. s.ticket ≡ unspent s.position ticket) }
-
-        // Where it was not.
-        ensures unstepped { IfErr result (λ u. (u.note ≡ note) × (u.ticket ≡ ticket) × (u.call ≡ call)) }
-        ensures refused { IfErr result (λ _. O.takes_memory call ≡ true) }
+            × AreVouched (W.vouches N.frame.world N.tokens self.now.number) (O.given before call s.reply) s.note.knows.known }
+        ensures note { IsNote N.table result.note }
+        ensures look { result.note.knows.looks ≡ note.knows.looks ++ (self.now.number, O.look result.reply) ∷ [] }
+        ensures ticket { result.ticket ≡ unspent result.position ticket }
     {
         let mut guard = self.lock.lock(rt);
         if guard.number() != self.number || guard.own_number() != self.own {
@@ -144,7 +139,7 @@ impl<O: Object, G, W: Law<Content, G> + World<G, O>, N: Naming<G, W>> Shared<O, 
         ticket: Ticket,
         gate: u32,
         call: O::Call,
-    ) -> Result<Stepped<O, G, W>, Unstepped<O, G, W>>
+    ) -> Stepped<O, G, W>
         // What is handed in is of one history.
         requires history { (history.now.table ≡ N.table) × (history.now.frame ≡ N.frame) }
         requires tickets { tickets.now ≡ N.tokens }
@@ -169,22 +164,18 @@ impl<O: Object, G, W: Law<Content, G> + World<G, O>, N: Naming<G, W>> Shared<O, 
             (o : O) → Meets W.builds O.built O.entries O.follows at note.knows.known o →
             AreVouched (W.vouches N.frame.world N.tokens self.now.number) (O.brought o call) note.knows.known }
 
-        // Where the call was made.
+        // What it answers.
         ensures answer { let at = place N.frame N.tokens self.now.number self.now.own in
-            IfOk result (λ s. (before : O) × (after : O)
+            let s = result in (before : O) × (after : O)
             × Meets W.builds O.built O.entries O.follows at note.knows.known before
             × Enters N.frame self.now.number (O.entries before) (O.entries after) (O.admitted before call)
             (O.content before call) note.knows s.note.knows s.position
             × O.applied before (unwrap_or s.position 0) call s.reply after
             × O.follows after
-            × AreVouched (W.vouches N.frame.world N.tokens self.now.number) (O.given before call s.reply) s.note.knows.known) }
-        ensures note { IfOk result (λ s. IsNote N.table s.note) }
-        ensures look { IfOk result (λ s. s.note.knows.looks ≡ note.knows.looks ++ (self.now.number, O.look s.reply) ∷ []) }
-        ensures ticket { IfOk result (λ s. s.ticket ≡ unspent s.position (Some ticket)) }
-
-        // Where it was not.
-        ensures unstepped { IfErr result (λ u. (u.note ≡ note) × (u.ticket ≡ Some ticket) × (u.call ≡ call)) }
-        ensures refused { IfErr result (λ _. O.takes_memory call ≡ true) }
+            × AreVouched (W.vouches N.frame.world N.tokens self.now.number) (O.given before call s.reply) s.note.knows.known }
+        ensures note { IsNote N.table result.note }
+        ensures look { result.note.knows.looks ≡ note.knows.looks ++ (self.now.number, O.look result.reply) ∷ [] }
+        ensures ticket { result.ticket ≡ unspent result.position (Some ticket) }
     {
         let mut guard = self.lock.lock(rt);
         if guard.number() != self.number || guard.own_number() != self.own {
@@ -203,7 +194,7 @@ impl<O: Object, G, W: Law<Content, G> + World<G, O>, N: Naming<G, W>> Shared<O, 
         note: Note<Content, G, W>,
         ticket: Option<Ticket>,
         call: O::Call,
-    ) -> Result<Stepped<O, G, W>, Unstepped<O, G, W>>
+    ) -> Stepped<O, G, W>
         // What is handed in is of one history.
         requires history { (history.now.table ≡ N.table) × (history.now.frame ≡ N.frame) }
         requires tickets { tickets.now ≡ N.tokens }
@@ -228,22 +219,18 @@ impl<O: Object, G, W: Law<Content, G> + World<G, O>, N: Naming<G, W>> Shared<O, 
             AreVouched (W.vouches N.frame.world N.tokens self.old.number) (O.brought o call) note.knows.known }
         ensures numbers { self.new ≡ self.old }
 
-        // Where the call was made.
+        // What it answers.
         ensures answer { let at = place N.frame N.tokens self.old.number self.old.own in
-            IfOk result (λ s. (before : O) × (after : O)
+            let s = result in (before : O) × (after : O)
             × Meets W.builds O.built O.entries O.follows at note.knows.known before
             × Enters N.frame self.old.number (O.entries before) (O.entries after) (O.admitted before call)
             (O.content before call) note.knows s.note.knows s.position
             × O.applied before (unwrap_or s.position 0) call s.reply after
             × O.follows after
-            × AreVouched (W.vouches N.frame.world N.tokens self.old.number) (O.given before call s.reply) s.note.knows.known) }
-        ensures note { IfOk result (λ s. IsNote N.table s.note) }
-        ensures look { IfOk result (λ s. s.note.knows.looks ≡ note.knows.looks ++ (self.old.number, O.look s.reply) ∷ []) }
-        ensures ticket { IfOk result (λ s. s.ticket ≡ unspent s.position ticket) }
-
-        // Where it was not.
-        ensures unstepped { IfErr result (λ u. (u.note ≡ note) × (u.ticket ≡ ticket) × (u.call ≡ call)) }
-        ensures refused { IfErr result (λ _. O.takes_memory call ≡ true) }
+            × AreVouched (W.vouches N.frame.world N.tokens self.old.number) (O.given before call s.reply) s.note.knows.known }
+        ensures note { IsNote N.table result.note }
+        ensures look { result.note.knows.looks ≡ note.knows.looks ++ (self.old.number, O.look result.reply) ∷ [] }
+        ensures ticket { result.ticket ≡ unspent result.position ticket }
     {
         let locked = self.lock.get_mut();
         if locked.number() != self.number || locked.own_number() != self.own {

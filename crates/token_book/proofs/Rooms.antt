@@ -1,6 +1,6 @@
 -- A wallet has room for each object of a list that is no longer than its places.
 use Rattle.std.proofs.Common.{◌≡◌, ℕ, zero, suc, ◌+◌, ◌<◌, ◌≤◌, ◌⊎◌, Bool, true, false, T, ◌&&◌, ◌||◌, List, [], ◌∷◌, length, map, Option, Some, None, refl, sym, ap, ◌∙◌, subst, inl, inr, ⊎_elim, arith}
-use Rattle.std.specs.Prelude.{is_some}
+use Rattle.std.specs.Prelude.{IsSome, is_some}
 use Rattle.std.specs.List.{list_any}
 use Rattle.std.specs.Ordering.{nat_cmp, eq_by_cmp, is_lt}
 use Rattle.std.specs.Cmp.{nat_cmp_is}
@@ -16,7 +16,7 @@ use Rattle.view_lists.proofs.Distinct.{length-distinct}
 use Rattle.atomic_table.specs.Seated.{TableId}
 use Rattle.token_book.specs.Account.{Slip}
 use Rattle.token_book.specs.Pocket.{Pocket, with_pocket_in, with_token, without_ticket}
-use Rattle.token_book.specs.Purse.{Purse, empty_purse, HasPlace, HasRoom, with_pocket, pocket_of, pulled, put_in, with_more}
+use Rattle.token_book.specs.Purse.{Purse, empty_purse, HasPlace, HasRoom, left_in, left_of, with_pocket, pocket_of, pulled, put_in, with_more}
 use Rattle.token_book.proofs.Purses.{eq_by_cmp-nat, get-with_pocket}
 
 both_left : (a b : Bool) → T (a && b) → T a
@@ -87,6 +87,21 @@ place-with_pocket w o p q has =
 
 pub place-pulled : (table : TableId) (w : Purse) (o bytes q : ℕ) → HasPlace (pulled table w o bytes) q → (q ≡ o) ⊎ HasPlace w q
 place-pulled table w o bytes q has = place-with_pocket w o (without_ticket bytes (pocket_of table w o)) q has
+
+some_pocket : (o : Option Pocket) → 0 < left_in o → IsSome o
+some_pocket None left = absurd (omega (arith, left))
+some_pocket (Some p) left = refl
+
+-- an object of which a ticket is left has a place
+pub left-place : (w : Purse) (o : ℕ) → 0 < left_of w o → HasPlace w o
+left-place w o left = some_pocket (fin.get w.held o) left
+
+-- where there was a ticket, all that have a place after it was pulled had one
+pub held-pulled : (table : TableId) (w v : Purse) (o bytes : ℕ) → v ≡ pulled table w o bytes → 0 < left_of w o → (q : ℕ) → HasPlace v q → HasPlace w q
+held-pulled table w v o bytes is left q has = ⊎_elim
+    (λ (same : q ≡ o). subst (HasPlace w) (sym same) (left-place w o left))
+    (λ (held : HasPlace w q). held)
+    (place-pulled table w o bytes q (subst (λ (u : Purse). HasPlace u q) is has))
 
 pub place-put_in : (w : Purse) (t : Slip) (q : ℕ) → HasPlace (put_in w t) q → (q ≡ t.owner) ⊎ HasPlace w q
 place-put_in w t q has = place-with_pocket w t.owner (with_token t (pocket_of t.table w t.owner)) q has

@@ -138,6 +138,7 @@ impl Wallet {
         ensures of { IsOf tokens.now self.new }
         ensures left { (o : ℕ) → left_of self.new o ≡ (if o == object then left_of self.old object - 1 else left_of self.old o) }
         ensures bytes { (o : ℕ) → bytes_of self.new o ≡ (if o == object then bytes_of self.old object - bytes else bytes_of self.old o) }
+        ensures held { (o : ℕ) → HasPlace self.new o → HasPlace self.old o }
         ensures entry { result.entry ≡ entry_right tokens.now object }
         ensures rights { result.bytes ≡ bytes_rights tokens.now object bytes }
         ensures ticket { IsTicket tokens.now object result }
@@ -167,6 +168,7 @@ impl Wallet {
             None => self.keep(ObjectRights::of(token)),
         }
     }
+
     // Takes out all that it holds of one object. Where it holds nothing, it stays so.
     fn pop(&mut self) -> Option<ObjectRights>
         ensures some { IfSome result (λ place. (map.get self.old.held place.0 ≡ Some place.1) × (0 < place.1.left + place.1.bytes)) }

@@ -13,27 +13,27 @@ use Rattle.cargo_net.proofs.PayloadWallets.{from_pull_for}
 use Rattle.cargo_net.proofs.ServeLemmas.{backed, fit, served}
 use Rattle.cargo_net.proofs.serves.serve.Goals as goal
 
-pub step-requires-clause-fits : goal.step-requires-clause-fits
-step-requires-clause-fits g c = λ o built. fit g.N.Naming.frame g.N.Naming.tokens c.args.memory.now.number c.args.memory.now.own c.args.cargo c.args.at c.args.note.knows c.requires.may
+pub step-stepped-requires-clause-fits : goal.step-stepped-requires-clause-fits
+step-stepped-requires-clause-fits g c = λ o built. fit g.N.Naming.frame g.N.Naming.tokens c.args.memory.now.number c.args.memory.now.own c.args.cargo c.args.at c.args.note.knows c.requires.may
 
-pub step-requires-clause-backed : goal.step-requires-clause-backed
-step-requires-clause-backed g c = λ o q meets admitted late. (
+pub step-stepped-requires-clause-backed : goal.step-stepped-requires-clause-backed
+step-stepped-requires-clause-backed g c = λ o q meets admitted late. (
     subst (λ (t : TxnId). Backs g.N.Naming.frame.world (map (placed c.args.memory.now.number) (written_from 0 o.log.entries) ++ c.args.note.knows.known) (placed c.args.memory.now.number (wrote q (content_of o (Access t c.args.at FourPhase c.args.cargo.baton.payload))))) (sym c.txn-txn.ensures)
     (backed g.N.Naming.frame g.N.Naming.tokens c.args.memory.now.number c.args.memory.now.own c.args.cargo c.args.at c.args.note.knows c.requires.may o q)
     )
 
 pub returns-clause-served : goal.returns-clause-served
 returns-clause-served g c = λ may. (
-    let s = c.in-Ok.ensures.answer in
-    served g.N.Naming.frame g.N.Naming.tokens c.args.memory.now.number c.args.memory.now.own c.args.cargo c.args.at c.args.note.knows may c.in-Ok.field-0.note.knows c.accessed.result c.pull-ticket.new.self
+    let s = c.step-stepped.ensures.answer in
+    served g.N.Naming.frame g.N.Naming.tokens c.args.memory.now.number c.args.memory.now.own c.args.cargo c.args.at c.args.note.knows may c.step-stepped.result.note.knows c.accessed.result c.pull-ticket.new.self
     (record {
       before = s.0;
       after = s.1;
-      position = c.in-Ok.field-0.position;
+      position = c.step-stepped.result.position;
       met = s.2;
-      enters = subst (λ (t : TxnId). Enters g.N.Naming.frame c.args.memory.now.number (written_from 0 s.0.log.entries) (written_from 0 s.1.log.entries) true (content_of s.0 (Access t c.args.at FourPhase c.args.cargo.baton.payload)) c.args.note.knows c.in-Ok.field-0.note.knows c.in-Ok.field-0.position) c.txn-txn.ensures s.3;
-      applied = subst (λ (r : RegionReply). (s.1 ≡ after_call s.0 (unwrap_or c.in-Ok.field-0.position 0) (Access c.args.cargo.baton.txn c.args.at FourPhase c.args.cargo.baton.payload)) × (r ≡ reply_of s.0 (Access c.args.cargo.baton.txn c.args.at FourPhase c.args.cargo.baton.payload))) c.accessed.ensures
-          (subst (λ (t : TxnId). (s.1 ≡ after_call s.0 (unwrap_or c.in-Ok.field-0.position 0) (Access t c.args.at FourPhase c.args.cargo.baton.payload)) × (c.in-Ok.field-0.reply ≡ reply_of s.0 (Access t c.args.at FourPhase c.args.cargo.baton.payload))) c.txn-txn.ensures s.4);
+      enters = subst (λ (t : TxnId). Enters g.N.Naming.frame c.args.memory.now.number (written_from 0 s.0.log.entries) (written_from 0 s.1.log.entries) true (content_of s.0 (Access t c.args.at FourPhase c.args.cargo.baton.payload)) c.args.note.knows c.step-stepped.result.note.knows c.step-stepped.result.position) c.txn-txn.ensures s.3;
+      applied = subst (λ (r : RegionReply). (s.1 ≡ after_call s.0 (unwrap_or c.step-stepped.result.position 0) (Access c.args.cargo.baton.txn c.args.at FourPhase c.args.cargo.baton.payload)) × (r ≡ reply_of s.0 (Access c.args.cargo.baton.txn c.args.at FourPhase c.args.cargo.baton.payload))) c.accessed.ensures
+          (subst (λ (t : TxnId). (s.1 ≡ after_call s.0 (unwrap_or c.step-stepped.result.position 0) (Access t c.args.at FourPhase c.args.cargo.baton.payload)) × (c.step-stepped.result.reply ≡ reply_of s.0 (Access t c.args.at FourPhase c.args.cargo.baton.payload))) c.txn-txn.ensures s.4);
     })
     (from_pull_for g.N.Naming.tokens c.args.tickets.now c.args.memory.now.number c.number.result _ c.payload_cost-bytes.result c.args.cargo.baton.wallet c.pull-ticket.new.self c.number.ensures c.payload_cost-bytes.ensures c.requires.tickets c.pull-ticket.ensures.wallet c.pull-ticket.ensures.of c.pull-ticket.ensures.left c.pull-ticket.ensures.bytes)
     )

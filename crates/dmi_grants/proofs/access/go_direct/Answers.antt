@@ -42,6 +42,7 @@ returns-clause-used g c =
             places = ap (λ (w : Purse). w.places) c.pull-ticket.ensures.wallet;
             left = c.pull-ticket.ensures.left;
             bytes_left = λ o. subst (λ (n : ℕ). bytes_of c.pull-ticket.new.self o ≡ (if o == m then bytes_of c.args.wallet.now m - n else bytes_of c.args.wallet.now o)) c.payload_cost-bytes.ensures (c.pull-ticket.ensures.bytes o);
+            held = c.pull-ticket.ensures.held;
           }),
       refl,
     )

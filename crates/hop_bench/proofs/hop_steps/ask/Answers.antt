@@ -2,8 +2,8 @@ use Rattle.std.specs.Option.{unwrap_or}
 use Rattle.hop_bench.proofs.SeatedHops.{has_legs, told_legs}
 use Rattle.hop_bench.proofs.hop_steps.ask.Goals as goal
 
-pub step-requires-clause-fits : goal.step-requires-clause-fits
-step-requires-clause-fits g c = λ o built.
+pub step-stepped-requires-clause-fits : goal.step-stepped-requires-clause-fits
+step-stepped-requires-clause-fits g c = λ o built.
     c.requires.fit o (has_legs g.N.Naming.frame g.N.Naming.tokens c.args.place.now.number (λ _ _ _. Unit {0}) c.args.place.now.own o built)
 
 pub returns-clause-legs : goal.returns-clause-legs
@@ -11,15 +11,15 @@ returns-clause-legs g c = λ h here.
     let frame = g.N.Naming.frame in
     let tokens = g.N.Naming.tokens in
     let number = c.args.place.now.number in
-    let s = c.in-Ok.field-0 in
-    let a = c.in-Ok.ensures.answer in
+    let s = c.step-stepped.result in
+    let a = c.step-stepped.ensures.answer in
     let there = has_legs frame tokens number (λ _ _ _. Unit {0}) c.args.place.now.own a.0 a.2.built_for in
     told_legs frame tokens number a.0 a.1 (unwrap_or s.position 0) c.args.call s.reply there (c.requires.fit a.0 there) a.4 h here
 
 pub returns-clause-answers : goal.returns-clause-answers
 returns-clause-answers g c =
-    let s = c.in-Ok.field-0 in
-    let a = c.in-Ok.ensures.answer in record {
+    let s = c.step-stepped.result in
+    let a = c.step-stepped.ensures.answer in record {
       before = a.0;
       position = unwrap_or s.position 0;
       after = a.1;
@@ -29,5 +29,5 @@ returns-clause-answers g c =
       vouched = a.6;
     }
 
-pub step-requires-clause-vouched : goal.step-requires-clause-vouched
-step-requires-clause-vouched g c = c.requires.own
+pub step-stepped-requires-clause-vouched : goal.step-stepped-requires-clause-vouched
+step-stepped-requires-clause-vouched g c = c.requires.own

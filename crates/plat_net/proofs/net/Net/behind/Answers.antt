@@ -1,5 +1,5 @@
 use Rattle.std.proofs.Common.{◌≡◌, ℕ, ◌<◌, length, Some, refl, sym, ap, ◌∙◌, arith}
-use Rattle.std.specs.Prelude.{IsSome, Option, slice_get}
+use Rattle.std.specs.Prelude.{Option, slice_get}
 use Rattle.tlm_types.specs.declared.words.RespMode.TheVariants.{Accept}
 use Rattle.tlm_model.specs.declared.platform.MemoryRow.{MemoryRow}
 use Rattle.tlm_model.specs.declared.platform.Platform.{Platform}
@@ -7,7 +7,6 @@ use Rattle.tlm_model.specs.declared.platform.RouterRow.{RouterRow}
 use Rattle.tlm_model.specs.declared.platform.Target.TheVariants.{Router, Memory}
 use Rattle.tlm_model.specs.Plan.{Plan}
 use Rattle.flow_model.specs.Platform.{to_memory, to_router}
-use Rattle.route_plan.specs.declared.ends.HopEnds.{HopEnds}
 use Rattle.route_plan.specs.Routes.{ends_of}
 use Rattle.plat_net.specs.Places.{place_at_end, place_of_target}
 use Rattle.plat_net.proofs.Forwarding.{end_there, latency_at, latency_by, memory_below, router_below}

@@ -1,6 +1,5 @@
-use Rattle.std.proofs.Common.{◌≡◌, ℕ, sym, subst}
+use Rattle.std.proofs.Common.{sym, subst}
 use Rattle.cargo_net.specs.Fetched.{IsHopThere}
-use Rattle.plat_net.specs.Places.{hop_place}
 use Rattle.plat_net.proofs.Given.{hop_known, hop_numbered}
 use Rattle.plat_net.proofs.net.Net.fetch_request.Goals as goal
 

@@ -1,4 +1,4 @@
-use Rattle.std.proofs.Common.{◌≡◌, ℕ, Option, sym, subst, ap, ◌∙◌}
+use Rattle.std.proofs.Common.{◌≡◌, subst, ap, ◌∙◌}
 use Rattle.std.specs.Prelude.{IsSome, slice_get}
 use Rattle.tlm_model.specs.Plan.{Plan}
 use Rattle.flow_model.specs.Platform.{hop_in}

@@ -1,4 +1,4 @@
-use Rattle.std.proofs.Common.{◌≡◌, ℕ, List, ◌∷◌, [], ◌++◌, sym, subst, ap}
+use Rattle.std.proofs.Common.{◌≡◌, ℕ, ◌∷◌, [], ◌++◌, sym, subst, ap}
 use Rattle.shared_object.specs.Standing.{Numbers}
 use Rattle.region_object.specs.declared.call.RegionReply.TheVariants.{Accessed}
 use Rattle.cargo_net.specs.Memories.{HasServedCall}

@@ -10,8 +10,7 @@ use Rattle.generic_payload.specs.Payload.{PayloadView}
 use Rattle.one_history.specs.declared.entry.Sign.{Sign}
 use Rattle.one_history.specs.Moves.{IsAtGate}
 use Rattle.region_object.specs.declared.call.RegionReply.{RegionReply}
-use Rattle.region_object.specs.Region.{look_of, reply_of}
-use Rattle.region_object.proofs.Transports.{transport_admitted, transport_fits, transport_looks, transport_plain}
+use Rattle.region_object.proofs.Transports.{transport_admitted, transport_fits, transport_plain}
 use Rattle.region_object.specs.Written.{built_of, content_of, written_from}
 use Rattle.cargo_net.specs.Traffic.{Backs, IsMemoryBuilt}
 use Rattle.region_object.specs.Call.{HasPayload, returned}
@@ -19,8 +18,8 @@ use Rattle.plat_net.specs.Calls.{IsCalled}
 use Rattle.plat_net.proofs.CallLemmas.{backed_without_passage, transport_returns, called, memory_read}
 use Rattle.plat_net.proofs.net.NetReach.call.Goals as goal
 
-pub step_alone-requires-clause-ticket : goal.step_alone-requires-clause-ticket
-step_alone-requires-clause-ticket g c = λ o built lawful admitted.
+pub step_alone-stepped-requires-clause-ticket : goal.step_alone-stepped-requires-clause-ticket
+step_alone-stepped-requires-clause-ticket g c = λ o built lawful admitted.
     let m = c.args.memory in
     let place = c.index_mut-place.result.now in
     let num : place.number ≡ m = ap (λ (x : Numbers). x.number) (memory_read c.self.inside.plan g.N.Naming.frame.world c.self.inside.memories.items m place c.self.invariant.4 c.self.invariant.0 c.requires.memory c.index_mut-place.ensures.value) in (
@@ -29,8 +28,8 @@ step_alone-requires-clause-ticket g c = λ o built lawful admitted.
       omega (arith, c.pull-ticket.ensures.amount, c.cost.ensures),
     )
 
-pub step_alone-requires-clause-backed : goal.step_alone-requires-clause-backed
-step_alone-requires-clause-backed g c = λ o position meets admitted late.
+pub step_alone-stepped-requires-clause-backed : goal.step_alone-stepped-requires-clause-backed
+step_alone-stepped-requires-clause-backed g c = λ o position meets admitted late.
     let m = c.args.memory in
     let world = g.N.Naming.frame.world in
     let known = c.args.note.knows.known in
@@ -39,15 +38,15 @@ step_alone-requires-clause-backed g c = λ o position meets admitted late.
     subst (λ (k : ℕ). Backs world (map (placed k) (written_from 0 o.log.entries) ++ known) (placed k (wrote position (content_of o c.args.call)))) (sym num)
     (backed_without_passage world world (map (placed m) (written_from 0 o.log.entries) ++ known) m position (content_of o c.args.call) refl c.requires.memory c.requires.passage)
 
-pub step_alone-requires-clause-fits : goal.step_alone-requires-clause-fits
-step_alone-requires-clause-fits g c = λ o built. transport_fits (written_at c.index_mut-place.result.now.number c.args.note.knows.known) c.args.call c.requires.fit
+pub step_alone-stepped-requires-clause-fits : goal.step_alone-stepped-requires-clause-fits
+step_alone-stepped-requires-clause-fits g c = λ o built. transport_fits (written_at c.index_mut-place.result.now.number c.args.note.knows.known) c.args.call c.requires.fit
 
-pub step_alone-requires-clause-gates : goal.step_alone-requires-clause-gates
-step_alone-requires-clause-gates g c = λ o meets admitted. subst (λ (s : Sign). IsAtGate c.args.note.knows s) (sym (transport_plain o c.args.call c.requires.fit)) tt
+pub step_alone-stepped-requires-clause-gates : goal.step_alone-stepped-requires-clause-gates
+step_alone-stepped-requires-clause-gates g c = λ o meets admitted. subst (λ (s : Sign). IsAtGate c.args.note.knows s) (sym (transport_plain o c.args.call c.requires.fit)) tt
 
 pub returned-requires : goal.returned-requires
 returned-requires g c =
-    let s = c.in-Ok.ensures.answer in
+    let s = c.step_alone-stepped.ensures.answer in
     subst (λ (r : RegionReply). HasPayload r) (sym s.4.1) (transport_returns s.0 c.args.call c.requires.fit)
 
 pub returns-clause-entry : goal.returns-clause-entry
@@ -56,16 +55,16 @@ returns-clause-entry g c =
     let place = c.index_mut-place.result.now in
     let num : place.number ≡ m = ap (λ (x : Numbers). x.number) (memory_read c.self.inside.plan g.N.Naming.frame.world c.self.inside.memories.items m place c.self.invariant.4 c.self.invariant.0 c.requires.memory c.index_mut-place.ensures.value) in
     let world = g.N.Naming.frame.world in
-    let s = c.in-Ok.ensures.answer in
-    let back = c.in-Ok.field-0.note.knows in
+    let s = c.step_alone-stepped.ensures.answer in
+    let back = c.step_alone-stepped.result.note.knows in
     let note = c.args.note.knows in
     let built : IsMemoryBuilt world m (built_of s.0) = subst (λ (k : ℕ). IsMemoryBuilt world k (built_of s.0)) num s.2.built_for.world in
     let known : Within (written_at m note.known) (written_from 0 s.0.log.entries) = subst (λ (k : ℕ). Within (written_at k note.known) (written_from 0 s.0.log.entries)) num s.2.knows in
-    let enters : Enters g.N.Naming.frame m (written_from 0 s.0.log.entries) (written_from 0 s.1.log.entries) true (content_of s.0 c.args.call) note back c.in-Ok.field-0.position =
-    subst (λ (k : ℕ). Enters g.N.Naming.frame k (written_from 0 s.0.log.entries) (written_from 0 s.1.log.entries) true (content_of s.0 c.args.call) note back c.in-Ok.field-0.position) num (subst (λ (b : Bool). Enters g.N.Naming.frame place.number (written_from 0 s.0.log.entries) (written_from 0 s.1.log.entries) b (content_of s.0 c.args.call) note back c.in-Ok.field-0.position) (transport_admitted s.0 c.args.call c.requires.fit) s.3) in
-    let is : c.returned.result ≡ returned c.in-Ok.field-0.reply = (let a = c.returned.ensures in let b = c.in-Ok.reply-is in cc) in
+    let enters : Enters g.N.Naming.frame m (written_from 0 s.0.log.entries) (written_from 0 s.1.log.entries) true (content_of s.0 c.args.call) note back c.step_alone-stepped.result.position =
+    subst (λ (k : ℕ). Enters g.N.Naming.frame k (written_from 0 s.0.log.entries) (written_from 0 s.1.log.entries) true (content_of s.0 c.args.call) note back c.step_alone-stepped.result.position) num (subst (λ (b : Bool). Enters g.N.Naming.frame place.number (written_from 0 s.0.log.entries) (written_from 0 s.1.log.entries) b (content_of s.0 c.args.call) note back c.step_alone-stepped.result.position) (transport_admitted s.0 c.args.call c.requires.fit) s.3) in
+    let is : c.returned.result ≡ returned c.step_alone-stepped.result.reply = c.returned.ensures in
     subst (λ (x : PayloadView). IsCalled world m c.args.call note back x) (sym is)
-    (called g.N.Naming.frame world m c.args.call note back c.in-Ok.field-0.position c.in-Ok.field-0.reply s.0 s.1 built s.2.state.0 known enters s.4)
+    (called g.N.Naming.frame world m c.args.call note back c.step_alone-stepped.result.position c.step_alone-stepped.result.reply s.0 s.1 built s.2.state.0 known enters s.4)
 
 pub returns-clause-wallet : goal.returns-clause-wallet
 returns-clause-wallet g c = subst (λ (t : TableId). IsOf t c.pull-ticket.new.self) c.self.invariant.3 c.pull-ticket.ensures.of

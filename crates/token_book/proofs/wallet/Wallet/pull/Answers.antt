@@ -5,6 +5,7 @@ use Rattle.token_book.specs.Pocket.{without_ticket}
 use Rattle.token_book.specs.Purse.{Purse, purse, left_in, bytes_left_in, left_of, bytes_of, IsOf, AreApart, AreFull}
 use Rattle.token_book.proofs.FoundPlaces.{IsFound, found, held_found, get-set, settled, AreApart-settled, AreFull-settled, with_pocket-settled}
 use Rattle.token_book.proofs.Pulls.{left_of-pulled, bytes_of-pulled, IsOf-pulled}
+use Rattle.token_book.proofs.Rooms.{held-pulled}
 use Rattle.token_book.proofs.wallet.Wallet.pull.Goals as goal
 
 -- the place that was found
@@ -70,6 +71,9 @@ returns-clause-left c o = ap (λ (w : Purse). left_of w o) (returns-clause-walle
 
 pub returns-clause-bytes : goal.returns-clause-bytes
 returns-clause-bytes c o = ap (λ (w : Purse). bytes_of w o) (returns-clause-wallet c) ∙ bytes_of-pulled c.args.tokens.now c.args.self.now c.args.object c.args.bytes o
+
+pub returns-clause-held : goal.returns-clause-held
+returns-clause-held c = held-pulled c.args.tokens.now c.args.self.now _ c.args.object c.args.bytes (returns-clause-wallet c) c.requires.left
 
 pub returns-clause-entry : goal.returns-clause-entry
 returns-clause-entry c = c.pull-ticket.ensures.entry ∙ ap (entry_right c.args.tokens.now) (after c).object
