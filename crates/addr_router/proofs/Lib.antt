@@ -1,4 +1,5 @@
 mod FindLemmas
+mod InOrderLemmas
 pub mod FaultLemmas
 mod UpLemmas
 mod Rows

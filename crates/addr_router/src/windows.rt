@@ -1,27 +1,42 @@
 // The windows of a router.
-ghost use Rattle.std.specs.Prelude.{◌≡◌, ◌≢◌, ◌==◌, ◌↔◌, [], position, find, option_copied, IfOk, IsOk};
+ghost use Rattle.std.specs.Prelude.{◌≡◌, ◌≢◌, ◌==◌, ◌↔◌, [], length, position, find, option_copied, IfOk, IsOk};
 ghost use Rattle.std.specs.Result.{result_err};
+ghost use Rattle.addr_router.specs.InOrder.{IsInOrder, IsOrderOf, KeepsOrder};
 ghost use Rattle.addr_router.specs.Windows.{HasOneWindow, IsValid, decoded, first_fault, is_overlapping, is_within, overlap_fault, row_fault, translated_up, window_fault};
 
 use crate::window::{Window, WindowFault};
 use std::marker::Model;
 
-/// The windows of a router. Contracts see the list of their rows.
+// The rows of a router are kept a second time in order where they are no more than this, as a platform's are.
+const MOST_IN_ORDER: usize = 16;
+
+// What stands behind the rows that are kept in order.
+const NO_WINDOW: Window = Window {
+    first: 0,
+    last: 0,
+    port: 0,
+    base: 0,
+};
+
+/// The windows of a router. Contracts see the list of their rows. Up to 16 are kept in order of their first
+/// addresses, too, and an address is looked up there by halves.
 #[derive(Drop)]
 pub struct Windows {
     rows: Vec<Window>,
+    in_order: [Window; MOST_IN_ORDER],
 }
 
 impl Model for Windows {
     ghost use Rattle.std.specs.Prelude.{List};
     ghost use Rattle.addr_router.specs.declared.window.Window.{Window};
+    ghost use Rattle.addr_router.specs.InOrder.{KeepsOrder};
     ghost use Rattle.addr_router.specs.Windows.{IsValid};
 
     ghost Value = { List Window };
 
     ghost view = { λ w. w.rows.items };
 
-    ghost invariant = { λ w. IsValid w.rows.items };
+    ghost invariant = { λ w. IsValid w.rows.items × KeepsOrder w.rows.items w.in_order };
 }
 
 impl Windows {
@@ -40,7 +55,8 @@ impl Windows {
         if let Some(fault) = fault_of(&rows) {
             return Err(fault);
         }
-        Ok(Windows { rows })
+        let in_order = ordered(&rows);
+        Ok(Windows { rows, in_order })
     }
 
     /// The rows, in order.
@@ -56,8 +72,21 @@ impl Windows {
     pub fn decode(&self, address: u64) -> Option<(u32, u64)>
         ensures { result ≡ decoded self.now address }
     {
-        let window = window_at(&self.rows, address)?;
+        let window = self.window_at(address)?;
         Some((window.port, address - window.first + window.base))
+    }
+
+    // The window that has the address.
+    fn window_at(&self, address: u64) -> Option<&Window>
+        ensures found { option_copied result ≡ find (λ w. is_within w address) self.now }
+        ensures valid { IsValid self.now }
+    {
+        let rows = self.rows.as_slice();
+        let count = rows.len();
+        if count > MOST_IN_ORDER {
+            return first_at(rows, address);
+        }
+        by_halves(&self.in_order[..count], address)
     }
 
     /// The addresses for which the target at this port sees the range from `first` to `last`, both
@@ -119,10 +148,47 @@ fn first_met(earlier: &[Window], window: &Window) -> Option<usize>
     earlier.iter().position(|other| other.overlaps(window))
 }
 
-fn window_at(rows: &[Window], address: u64) -> Option<&Window>
+// The rows in order, where they are few enough.
+fn ordered(rows: &[Window]) -> [Window; MOST_IN_ORDER]
+    ensures { KeepsOrder rows.now result }
+{
+    let mut kept = [NO_WINDOW; MOST_IN_ORDER];
+    if rows.len() <= MOST_IN_ORDER {
+        put_in_order(rows, &mut kept[..rows.len()]);
+    }
+    kept
+}
+
+fn put_in_order(rows: &[Window], kept: &mut [Window])
+    requires { length kept.old ≡ length rows.now }
+    ensures order { IsOrderOf rows.now kept.new }
+    ensures len { length kept.new ≡ length rows.now }
+{
+    kept.copy_from_slice(rows);
+    kept.sort_unstable_by_key(|window| window.first);
+}
+
+fn first_at(rows: &[Window], address: u64) -> Option<&Window>
     ensures { option_copied result ≡ find (λ w. is_within w address) rows.now }
 {
     rows.iter().find(|window| window.contains(address))
+}
+
+// The window that has the address, of windows in order: it can only be the last one that doesn't begin past it.
+fn by_halves(windows: &[Window], address: u64) -> Option<&Window>
+    requires { IsInOrder windows.now }
+    ensures { option_copied result ≡ find (λ w. is_within w address) windows.now }
+{
+    let after = windows.partition_point(|window| window.first <= address);
+    if after == 0 {
+        return None;
+    }
+    let window = &windows[after - 1];
+    if window.contains(address) {
+        Some(window)
+    } else {
+        None
+    }
 }
 
 fn window_of(rows: &[Window], port: u32) -> Option<&Window>

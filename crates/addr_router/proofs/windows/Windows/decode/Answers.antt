@@ -8,13 +8,13 @@ use Rattle.addr_router.proofs.windows.Windows.decode.Goals as goal
 pub overflow_sub-result : goal.overflow_sub-result
 overflow_sub-result c =
     let w = c.in_ok-window.window.now in
-    let found = find_found (λ (v : Window). is_within v c.args.address) c.deref.result.now w (sym c.in_ok-window.ensures) in
+    let found = find_found (λ (v : Window). is_within v c.args.address) c.args.self.now w (sym c.in_ok-window.ensures.found) in
     (within_parts w c.args.address found.passes).0
 
 pub overflow_add-result : goal.overflow_add-result
 overflow_add-result c =
     let w = c.in_ok-window.window.now in
-    let found = find_found (λ (v : Window). is_within v c.args.address) c.deref.result.now w (sym c.in_ok-window.ensures) in
+    let found = find_found (λ (v : Window). is_within v c.args.address) c.args.self.now w (sym c.in_ok-window.ensures.found) in
     let within = within_parts w c.args.address found.passes in
-    let proper = All-found IsProper (λ (v : Window). is_within v c.args.address) c.self.inside.rows.items w c.self.invariant.each (rw c.deref.ensures.value at found) in
+    let proper = All-found IsProper (λ (v : Window). is_within v c.args.address) c.args.self.now w c.window_at.ensures.valid.each found in
     omega arith

@@ -16,7 +16,7 @@ returns-in-Some-clause-no_memory c =
 pub invariant_of-result : goal.invariant_of-result
 invariant_of-result c =
     let none = rw c.deref.ensures.value at c.in_default.ensures in
-    valid_from_none c.args.rows.items (sym none)
+    (valid_from_none c.args.rows.items (sym none), rw c.deref-2.ensures.value at c.ordered-in_order.ensures)
 
 pub returns-clause-valid : goal.returns-clause-valid
 returns-clause-valid c =
