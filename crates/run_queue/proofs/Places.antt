@@ -1,5 +1,5 @@
 -- What a step of one job does to the places and the order.
-use Rattle.std.proofs.Common.{◌≡◌, ◌≢◌, ℕ, zero, suc, ◌+◌, ◌<◌, ◌≤◌, Bool, true, false, cond, eqb, List, [], ◌∷◌, ◌++◌, length, get_or, set, map, Some, None, count_by, refl, sym, ap, subst, ◌∙◌, ⊎_elim, arith}
+use Rattle.std.proofs.Common.{◌≡◌, ◌≢◌, ℕ, zero, suc, ◌+◌, ◌<◌, ◌≤◌, Bool, true, false, cond, eqb, List, [], ◌∷◌, ◌++◌, length, get_or, set, map, Some, None, count_by, refl, sym, ap, subst, ◌∙◌, ⊎_elim, append-nil, arith}
 use Rattle.std.specs.List.{range_with_len}
 use Rattle.std.proofs.lemmas.Bool.{eq-eqb, ne_eqb, cases_lt, cases_eq, cases_Bool, false≢true}
 use Rattle.std.proofs.lemmas.List.{get_or_past, get_or-set_same, get_or-set_other, get_or_default, get_or_append_left, get_or_push, get_or-map, length-set, length-map, length-append, length_push, map-id}
@@ -165,6 +165,30 @@ module _ {J : Type 0} (number_of : J → ℕ) (is_done : J → Bool) where
             (omega (arith, times-append k (order ++ n ∷ []) parked, times-push k n order, times-push k n (order ++ parked), times-append k order parked))
             ∙ sound.line k;
         counted = omega (arith, sound.counted, length-append (order ++ n ∷ []) parked, length_push order n, length_push (order ++ parked) n, length-append order parked);
+      }
+
+  -- one more is parked, before those that rest
+  pub sound_parked : (places : List (JobState J)) (order parked resting : List ℕ) (n : ℕ) → IsSound number_of is_done places ((order ++ (parked ++ resting)) ++ n ∷ []) → IsSound number_of is_done places (order ++ ((parked ++ n ∷ []) ++ resting))
+  sound_parked places order parked resting n sound =
+      record {
+        placed = sound.placed;
+        line =
+            λ k.
+            (omega (arith, times-append k order ((parked ++ n ∷ []) ++ resting), times-append k (parked ++ n ∷ []) resting, times-push k n parked, times-push k n (order ++ (parked ++ resting)), times-append k order (parked ++ resting), times-append k parked resting))
+            ∙ sound.line k;
+        counted = omega (arith, sound.counted, length-append order ((parked ++ n ∷ []) ++ resting), length-append (parked ++ n ∷ []) resting, length_push parked n, length_push (order ++ (parked ++ resting)) n, length-append order (parked ++ resting), length-append parked resting);
+      }
+
+  -- those that rest come before those that are parked
+  pub sound_woken : (places : List (JobState J)) (order parked resting : List ℕ) → IsSound number_of is_done places (order ++ (parked ++ resting)) → IsSound number_of is_done places ((order ++ resting) ++ (parked ++ []))
+  sound_woken places order parked resting sound =
+      record {
+        placed = sound.placed;
+        line =
+            λ k.
+            (omega (arith, times-append k (order ++ resting) (parked ++ []), times-append k order resting, ap (times k) (append-nil parked), times-append k order (parked ++ resting), times-append k parked resting))
+            ∙ sound.line k;
+        counted = omega (arith, sound.counted, length-append (order ++ resting) (parked ++ []), length-append order resting, ap (length {A = ℕ}) (append-nil parked), length-append order (parked ++ resting), length-append parked resting);
       }
 
   module _ (places : List (JobState J)) (order : List ℕ) (sound : IsSound number_of is_done places order) where

@@ -1,17 +1,20 @@
 -- What is seen of the jobs.
-use Rattle.std.specs.Prelude.{◌≡◌, ◌==◌, ◌<◌, ◌≤◌, nat_lt, ℕ, Bool, true, false, List, [], ◌∷◌, ◌++◌, Option, Some, None, length, count_by, slice_index_or, slice_set, if◌then◌else◌}
+use Rattle.std.specs.Prelude.{◌≡◌, ◌+◌, ◌-◌, ◌^◌, ◌==◌, ◌<◌, ◌≤◌, min, nat_lt, ℕ, Bool, true, false, List, [], ◌∷◌, ◌++◌, Option, Some, None, length, count_by, slice_index_or, slice_set, if◌then◌else◌}
 use Rattle.run_queue.specs.declared.jobs.JobState.{JobState}
 use Rattle.run_queue.specs.declared.jobs.JobState.TheVariants.{Waiting, Out, Finished}
 use Rattle.run_queue.specs.declared.jobs.Taken.{Taken}
 use Rattle.run_queue.specs.declared.jobs.Taken.TheVariants.{Took, Nothing, AllDone}
 
--- where the job of each number is, the numbers in line in the order in which they are taken, those that are parked, the
--- greatest round that the queue was told has been reached, and how many jobs have to finish
+-- where the job of each number is, the numbers in line in the order in which they are taken, those that are parked until a later
+-- round, the greatest round that the queue was told has been reached, those that rest until another job has moved, how often it was
+-- told that one has, and how many jobs have to finish
 pub record Queue (J : Type 0) : Type 0 where
   pub places : List (JobState J)
   pub order : List ℕ
   pub parked : List ℕ
   pub reached : ℕ
+  pub resting : List ℕ
+  pub moves : ℕ
   pub unfinished : ℕ
 
 module _ {J : Type 0} where
@@ -49,9 +52,9 @@ module _ {J : Type 0} where
   abbrev pub IsLineOf : List (JobState J) → List ℕ → Type 0
   IsLineOf places order = (k : ℕ) → count_by (λ n. n == k) order ≡ (if waits (job_place places k) then 1 else 0)
 
-  -- each number that waits is in line or parked, once
+  -- each number that waits is in line, parked or at rest, once
   abbrev pub IsLine : Queue J → Type 0
-  IsLine q = IsLineOf q.places (q.order ++ q.parked)
+  IsLine q = IsLineOf q.places (q.order ++ (q.parked ++ q.resting))
 
   -- after the job of a number has come back to wait in line
   abbrev pub given_back : Queue J → ℕ → J → Queue J
@@ -69,6 +72,16 @@ module _ {J : Type 0} where
   abbrev pub brought_back : Queue J → ℕ → Queue J
   brought_back q round =
       if nat_lt q.reached round then record q { order = q.order ++ q.parked; parked = []; reached = round } else q
+
+  -- after the job of a number has come back to rest until more moves are told than these; where they are already, it waits in line
+  abbrev pub laid_down : Queue J → ℕ → J → ℕ → Queue J
+  laid_down q number job moves =
+      if nat_lt moves q.moves then given_back q number job
+      else record q { places = slice_set q.places number (Waiting job); resting = q.resting ++ number ∷ [] }
+
+  -- after the queue was told that a job has moved: all that rest wait in line, behind those that do
+  abbrev pub woken : Queue J → Queue J
+  woken q = record q { order = q.order ++ q.resting; resting = []; moves = min (q.moves + 1) (2 ^ 64 - 1) }
 
   -- after the job of a number has finished
   abbrev pub ended : Queue J → ℕ → J → Queue J

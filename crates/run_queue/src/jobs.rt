@@ -2,7 +2,7 @@
 ghost use Rattle.std.specs.Prelude.{◌≡◌, ◌+◌, ◌<◌, ◌≤◌, ◌↔◌, ◌++◌, [], length, map, count_by, IfOk, IfSome, IsTrue, vec_len, vec_capacity};
 ghost use Rattle.std.specs.List.{range_with_len};
 ghost use Rattle.std.specs.VecDeque.{deque_capacity};
-ghost use Rattle.run_queue.specs.Queue.{job_of, IsOut, finished_count, AreNumbered, IsLine, IfTook, UnlessTook, Takes, given_back, ended, brought_back, set_aside, Gathers};
+ghost use Rattle.run_queue.specs.Queue.{job_of, IsOut, finished_count, AreNumbered, IsLine, IfTook, UnlessTook, Takes, given_back, ended, brought_back, set_aside, laid_down, woken, Gathers};
 ghost use Rattle.run_queue.specs.Sound.{ArePlaced};
 
 use std::alloc::{AllocError, Global};
@@ -30,7 +30,7 @@ pub trait Job: Drop {
         ensures { result ≡ is_done self.now };
 }
 
-/// Where the job of a number is: it waits, in line or parked, is out with a worker, or has finished.
+/// Where the job of a number is: it waits, in line, parked or at rest, is out with a worker, or has finished.
 #[derive(Drop)]
 pub enum JobState<J> {
     Waiting(J),
@@ -65,6 +65,8 @@ pub struct Jobs<J: Job> {
     order: VecDeque<usize>,
     parked: VecDeque<usize>,
     reached: u64,
+    resting: VecDeque<usize>,
+    moves: u64,
     finished: usize,
     unfinished: u32,
     room: Vec<J>,
@@ -78,9 +80,9 @@ impl<J: Job> Model for Jobs<J> {
 
     ghost Value = { Queue J };
 
-    ghost view = { λ q. record { places = q.places.items; order = q.order.items; parked = q.parked.items; reached = q.reached; unfinished = q.unfinished } };
+    ghost view = { λ q. record { places = q.places.items; order = q.order.items; parked = q.parked.items; reached = q.reached; resting = q.resting.items; moves = q.moves; unfinished = q.unfinished } };
 
-    ghost invariant = { λ q. IsSound J.number_of J.is_done q.places.items (q.order.items ++ q.parked.items) × (q.finished ≡ finished_count q.places.items) × ((length q.places.items ≤ deque_capacity q.order) × (length q.places.items ≤ deque_capacity q.parked)) × (q.room.items ≡ []) × (length q.places.items ≤ vec_capacity q.room) };
+    ghost invariant = { λ q. IsSound J.number_of J.is_done q.places.items (q.order.items ++ (q.parked.items ++ q.resting.items)) × (q.finished ≡ finished_count q.places.items) × ((length q.places.items ≤ deque_capacity q.order) × (length q.places.items ≤ deque_capacity q.parked) × (length q.places.items ≤ deque_capacity q.resting)) × (q.room.items ≡ []) × (length q.places.items ≤ vec_capacity q.room) };
 }
 
 fn make_order(alloc: Global, count: usize) -> Result<VecDeque<usize>, Memory>
@@ -108,7 +110,7 @@ fn is_out<J>(places: &[JobState<J>], number: usize) -> bool
     matches!(places.get(number), Some(JobState::Out))
 }
 
-// Puts all numbers of one line behind those of another that has room for them.
+// Puts all numbers that wait aside behind those in line, which has room for them.
 fn join(order: &mut VecDeque<usize>, parked: &mut VecDeque<usize>)
     requires fits { length order.old.items + length parked.old.items ≤ deque_capacity order.old }
     ensures order { order.new.items ≡ order.old.items ++ parked.old.items }
@@ -138,8 +140,8 @@ fn gather<J: Job>(places: Vec<JobState<J>>, mut room: Vec<J>) -> Option<Vec<J>>
 }
 
 impl<J: Job> Jobs<J> {
-    /// Jobs that all wait in line, in order, of which so many have to finish; no round above 0 has been reached. Its only
-    /// error is want of memory.
+    /// Jobs that all wait in line, in order, of which so many have to finish; no round above 0 has been reached, and none
+    /// has moved. Its only error is want of memory.
     pub fn new(alloc: Global, jobs: Vec<J>, unfinished: u32) -> Result<Jobs<J>, Memory>
         requires { AreNumbered J.number_of jobs.items }
         ensures { IfOk result (λ q. q ≡ record {
@@ -147,6 +149,8 @@ impl<J: Job> Jobs<J> {
           order = range_with_len 0 (length jobs.items);
           parked = [];
           reached = 0;
+          resting = [];
+          moves = 0;
           unfinished = unfinished;
         }) }
     {
@@ -154,12 +158,15 @@ impl<J: Job> Jobs<J> {
         let room = Vec::with_capacity(alloc, count)?;
         let order = make_order(alloc, count)?;
         let parked = VecDeque::with_capacity(alloc, count)?;
+        let resting = VecDeque::with_capacity(alloc, count)?;
         let places = make_places(alloc, jobs)?;
         Ok(Jobs {
             places,
             order,
             parked,
             reached: 0,
+            resting,
+            moves: 0,
             finished: 0,
             unfinished,
             room,
@@ -177,7 +184,7 @@ impl<J: Job> Jobs<J> {
         ensures nothing { (result ≡ Taken.Nothing)
             ↔ ((self.old.order ≡ []) × (finished_count self.old.places < self.old.unfinished)) }
 
-        // Each number that waits is in line or parked, once, and no other is.
+        // Each number that waits is in line, parked or at rest, once, and no other is.
         ensures line { IsLine self.old }
     {
         if self.unfinished as usize <= self.finished {
@@ -233,6 +240,38 @@ impl<J: Job> Jobs<J> {
         }
     }
 
+    /// How often it was told that a job has moved. It stands still at the greatest number.
+    pub fn moves(&self) -> u64
+        ensures { result ≡ self.now.moves }
+    {
+        self.moves
+    }
+
+    /// The job, which found nothing to do, rests until another one has moved once more than so often. Where that is
+    /// known already, it waits behind all in line. A job whose number isn't out is dropped.
+    pub fn rest(&mut self, job: J, moves: u64)
+        ensures resting { IsOut self.old.places (J.number_of job)
+            → self.new ≡ laid_down self.old (J.number_of job) job moves }
+        ensures dropped { ¬ (IsOut self.old.places (J.number_of job)) → self.new ≡ self.old }
+    {
+        if moves < self.moves {
+            return self.give_back(job);
+        }
+        let number = job.number() as usize;
+        if is_out(&self.places, number) {
+            self.places[number] = JobState::Waiting(job);
+            self.resting.push_back_reserved(number);
+        }
+    }
+
+    /// A job has moved: all that rest wait behind those in line.
+    pub fn wake(&mut self)
+        ensures { self.new ≡ woken self.old }
+    {
+        self.moves = self.moves.saturating_add(1);
+        join(&mut self.order, &mut self.resting);
+    }
+
     /// The job, which is done, has finished. A job whose number isn't out is dropped.
     pub fn finish(&mut self, job: J)
         requires { IsTrue (J.is_done job) }
@@ -259,6 +298,8 @@ impl<J: Job> Jobs<J> {
             order: _,
             parked: _,
             reached: _,
+            resting: _,
+            moves: _,
             finished,
             unfinished: _,
             room,

@@ -9,7 +9,7 @@ pub invariant_of-self : goal.invariant_of-self
 invariant_of-self g c =
     let places = c.self.inside.places.items in
     let order = c.self.inside.order.items in
-    let parked = c.self.inside.parked.items in
+    let parked = c.self.inside.parked.items ++ c.self.inside.resting.items in
     let n = c.number-number.result in
     let job = c.args.job in
     let inv = c.self.invariant in
@@ -18,7 +18,7 @@ invariant_of-self g c =
     let length_new = length-set places n (Finished job) in (
       sound_ended g.J.Job.number_of g.J.Job.is_done places (order ++ parked) inv.0 n job out.0 out.1 number c.requires,
       ap (λ (m : ℕ). m + 1) inv.1 ∙ sym (finished_ended g.J.Job.number_of g.J.Job.is_done places (order ++ parked) inv.0 n job out.0 out.1 number),
-      (omega (arith, inv.2.0), omega (arith, inv.2.1)),
+      (omega (arith, inv.2.0), omega (arith, inv.2.1), omega (arith, inv.2.2)),
       inv.3,
       omega (arith, inv.4),
     )

@@ -13,7 +13,7 @@ push_back_reserved-requires g c =
     let inv = c.self.invariant in
     let out : IsOut places n = subst (λ (xs : List (JobState g.row.J.Denot)). IsOut xs n) c.deref.ensures.value (c.is_out.ensures.0 c.if-is_out.true) in
     let order = c.self.inside.order.items in
-    let parked = c.self.inside.parked.items in
+    let parked = c.self.inside.parked.items ++ c.self.inside.resting.items in
     let fits = given_fits g.J.Job.number_of g.J.Job.is_done places (order ++ parked) inv.0 n c.args.job out.0 out.1 (sym c.number-number.ensures) in
     omega (arith, inv.2.0, c.self.inside.order.ok.0, length-append order parked)
 
@@ -21,7 +21,7 @@ pub invariant_of-self : goal.invariant_of-self
 invariant_of-self g c =
     let places = c.self.inside.places.items in
     let order = c.self.inside.order.items in
-    let parked = c.self.inside.parked.items in
+    let parked = c.self.inside.parked.items ++ c.self.inside.resting.items in
     let n = c.number-number.result in
     let job = c.args.job in
     let inv = c.self.invariant in
@@ -32,7 +32,7 @@ invariant_of-self g c =
           (sound_behind g.J.Job.number_of g.J.Job.is_done (set places n (Waiting job)) order parked n
           (sound_given g.J.Job.number_of g.J.Job.is_done places (order ++ parked) inv.0 n job out.0 out.1 number)),
       inv.1 ∙ sym (finished_given g.J.Job.number_of g.J.Job.is_done places (order ++ parked) inv.0 n job out.0 out.1 number),
-      (omega (arith, inv.2.0, c.push_back_reserved.ensures.capacity), omega (arith, inv.2.1)),
+      (omega (arith, inv.2.0, c.push_back_reserved.ensures.capacity), omega (arith, inv.2.1), omega (arith, inv.2.2)),
       inv.3,
       omega (arith, inv.4),
     )

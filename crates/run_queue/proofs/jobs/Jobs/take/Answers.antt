@@ -9,7 +9,7 @@ use Rattle.run_queue.proofs.jobs.Jobs.take.Goals as goal
 pub index_mut-requires : goal.index_mut-requires
 index_mut-requires g c =
     let places = c.self.inside.places.items in
-    let parked = c.self.inside.parked.items in
+    let parked = c.self.inside.parked.items ++ c.self.inside.resting.items in
     let n = c.in-Some.number in
     let waiting = first_waits g.J.Job.number_of g.J.Job.is_done places (c.self.inside.order.items ++ parked) c.self.invariant.0 n _ (ap (λ (l : List ℕ). l ++ parked) c.in-Some.ensures.items) in
     let within = waits_within places n waiting in
@@ -18,7 +18,7 @@ index_mut-requires g c =
 pub unreachable-requires : goal.unreachable-requires
 unreachable-requires g c =
     let places = c.self.inside.places.items in
-    let parked = c.self.inside.parked.items in
+    let parked = c.self.inside.parked.items ++ c.self.inside.resting.items in
     let n = c.in-Some.number in
     let waiting = first_waits g.J.Job.number_of g.J.Job.is_done places (c.self.inside.order.items ++ parked) c.self.invariant.0 n _ (ap (λ (l : List ℕ). l ++ parked) c.in-Some.ensures.items) in
     let here = place_of_read places n c.index_mut.result.now (waits_within places n waiting) c.index_mut.ensures.value in
@@ -27,7 +27,7 @@ unreachable-requires g c =
 pub invariant_of-self-2 : goal.invariant_of-self-2
 invariant_of-self-2 g c =
     let places = c.self.inside.places.items in
-    let parked = c.self.inside.parked.items in
+    let parked = c.self.inside.parked.items ++ c.self.inside.resting.items in
     let waiting = c.self.inside.order.items ++ parked in
     let line = ap (λ (l : List ℕ). l ++ parked) c.in-Some.ensures.items in
     let n = c.in-Some.number in
@@ -37,7 +37,7 @@ invariant_of-self-2 g c =
       subst (λ (p : JobState g.row.J.Denot). IsSound g.J.Job.number_of g.J.Job.is_done (set places n p) (c.pop_front.new.self.items ++ parked)) out
           (sound_taken g.J.Job.number_of g.J.Job.is_done places waiting inv.0 n _ line),
       inv.1 ∙ sym (finished_taken g.J.Job.number_of g.J.Job.is_done places waiting inv.0 n _ line) ∙ ap (λ (p : JobState g.row.J.Denot). finished_count (set places n p)) out,
-      (omega (arith, inv.2.0, c.in-Some.ensures.capacity), omega (arith, inv.2.1)),
+      (omega (arith, inv.2.0, c.in-Some.ensures.capacity), omega (arith, inv.2.1), omega (arith, inv.2.2)),
       inv.3,
       omega (arith, inv.4),
     )
@@ -45,7 +45,7 @@ invariant_of-self-2 g c =
 pub returns-clause-took : goal.returns-clause-took
 returns-clause-took g c =
     let places = c.self.inside.places.items in
-    let parked = c.self.inside.parked.items in
+    let parked = c.self.inside.parked.items ++ c.self.inside.resting.items in
     let n = c.in-Some.number in
     let job = c.in-Waiting.job in
     let inv = c.self.invariant in
@@ -58,8 +58,10 @@ returns-clause-took g c =
     let was : Queue g.row.J.Denot = record {
       places = places;
       order = c.self.inside.order.items;
-      parked = parked;
+      parked = c.self.inside.parked.items;
       reached = c.self.inside.reached;
+      resting = c.self.inside.resting.items;
+      moves = c.self.inside.moves;
       unfinished = c.self.inside.unfinished;
     } in
     record {
