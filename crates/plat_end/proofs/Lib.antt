@@ -1,0 +1,3 @@
+pub mod TicketLemmas
+pub mod PartLemmas
+pub mod TakenLemmas
