@@ -49,14 +49,6 @@ pub record IsUnused (table : TableId) (frame : Frame Plan) (o : ℕ) (seat : Hel
   pub numbered : number_of seat.knows ≡ o
   pub own : own_of seat.knows ≡ []
 
--- the seats of the objects from number n on, in order
-abbrev pub AreUnusedFrom : TableId → Frame Plan → ℕ → List (Held Content Plan) → Type 0
-AreUnusedFrom table frame n seats = (k : ℕ) (s : Held Content Plan) → get_elem? seats k ≡ some s → IsUnused table frame (n + k) s
-
--- nothing is planned at these objects
-abbrev pub AreIdle : Frame Plan → List Numbers → Type 0
-AreIdle frame objects = (k : ℕ) (s : Numbers) → get_elem? objects k ≡ some s → slice_index_or frame.planned s.number 0 ≡ 0
-
 -- the seats of the first objects, in order
 abbrev pub AreUnused : TableId → Frame Plan → List (Held Content Plan) → Type 0
 AreUnused table frame seats = (o : ℕ) (s : Held Content Plan) → get_elem? seats o ≡ some s → IsUnused table frame o s

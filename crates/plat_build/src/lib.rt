@@ -4,8 +4,7 @@
 //!   hops and the pools of four-phase initiators, numbered in this order.
 //! - `build` makes a `Net` of it, which threads share: the plan, the history, the tokens, and each object
 //!   with its log. What it makes for the initiators, routers and memories waits in `Kept`.
-//! - `close_unused` ends the history of a net of which nothing was handed out, and `idle_seats` gives the
-//!   seats of the hops and pools at which nothing is planned.
+//! - `close_unused` ends the history of a net of which nothing was handed out.
 //!
 //! Promises: the history is made with what the plan counts, in the world that is the plan; each memory, hop
 //! and pool is built as its rows say, and has room for all that is planned. Each initiator gets a wallet with
@@ -16,7 +15,6 @@
 
 mod building;
 mod hops;
-mod idle;
 mod kept;
 mod memories;
 mod objects;
@@ -27,7 +25,6 @@ mod unused;
 mod wallets;
 
 pub use building::{Built, build};
-pub use idle::idle_seats;
 pub use kept::{Kept, Start};
 pub use opened::Opened;
 pub use unused::close_unused;

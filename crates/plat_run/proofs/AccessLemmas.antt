@@ -1,5 +1,5 @@
 -- A job after an access or a debug read.
-use Rattle.std.proofs.Common.{◌≡◌, ℕ, ◌+◌, length, List, Option, Some, true, ap, sym, subst, ◌∙◌}
+use Rattle.std.proofs.Common.{◌≡◌, ℕ, length, List, Option, Some, true, ap, sym, subst, ◌∙◌}
 use Rattle.atomic_table.specs.Seated.{TableId}
 use Rattle.one_history.specs.declared.view.View.{View}
 use Rattle.one_history.specs.Held.{Held}

@@ -1,13 +1,15 @@
 -- An initiator before its first turn has the tickets for all that its script asks for.
 use Rattle.std.proofs.Common.{◌≡◌, ℕ, zero, suc, ◌+◌, ◌*◌, ◌<◌, ◌≤◌, ◌&&◌, Bool, true, false, cond, List, [], ◌∷◌, ◌++◌, length, set, Option, Some, None, refl, ap, sym, subst, ◌∙◌, ⊎_elim, arith}
 use Rattle.std.specs.List.{AllByRecursion, flat_map, list_any}
-use Rattle.std.specs.Prelude.{slice_get, IsSomeAnd}
+use Rattle.std.specs.Prelude.{slice_get, IsSome, IsSomeAnd}
 use Rattle.std.proofs.lemmas.Bool.{cases_lt}
 use Rattle.std.proofs.lemmas.List.{get_or_append_left, get_or_push, length_push}
 use Rattle.atomic_table.specs.Seated.{TableId}
 use Rattle.view_lists.proofs.Members.{has_none}
 use Rattle.one_history.specs.declared.view.View.{View}
-use Rattle.token_book.specs.Purse.{Purse, bytes_of}
+use Rattle.std.specs.FinMap as map
+use Rattle.token_book.specs.Pocket.{Pocket}
+use Rattle.token_book.specs.Purse.{HasPlace, Purse, bytes_of, left_in, left_of}
 use Rattle.tlm_types.specs.declared.entry.Content.{Content}
 use Rattle.tlm_types.specs.declared.words.ObjectNo.TheVariants.{Memory}
 use Rattle.tlm_model.specs.declared.operation.Operation.{Operation}
@@ -38,6 +40,7 @@ use Rattle.run_outcome.proofs.PlanLemmas.{blocking_at, initiator_number}
 use Rattle.route_plan.proofs.ShareLemmas.{count_initiators}
 use Rattle.initiator_run.proofs.EndLemmas.{HasCome-begun}
 use Rattle.run_outcome.proofs.ListLemmas.{has_element}
+use Rattle.cargo_model.specs.Known.{objects_of}
 use Rattle.plat_build.specs.declared.kept.Start.{Start}
 use Rattle.plat_build.specs.Kept.{HasShares, IsStart, Waiting}
 use Rattle.plat_net.proofs.NumberLemmas.{memory_there}
@@ -74,6 +77,14 @@ bytes_shared : (p : Plan) (i : Initiator) (m : ℕ) → logged_in p i m i.script
 unfolding logged_share
 bytes_shared p i m = refl
 
+-- a wallet has no tickets of an object that has no place in it
+nothing_past : (w : Purse) (n k : ℕ) → ((o : ℕ) → HasPlace w o → o < n) → n ≤ k → left_of w k ≡ 0
+nothing_past w n k few past = by (map.get w.held k) refl
+  where
+    by : (pocket : Option Pocket) → map.get w.held k ≡ pocket → left_in pocket ≡ 0
+    by None is = refl
+    by (Some pocket) is = let less = few k (subst IsSome (sym is) refl) in absurd (omega arith)
+
 module _ (p : Plan) (valid : IsValid p) (served : IsServed p.platform) (n : ℕ) (i : Initiator) (at : slice_get (initiators_of p) n ≡ Some i) (w : Purse) where
   tickets_begun : (tokens : TableId) → HasShares tokens p n w → (m : ℕ) → m < length p.platform.memories → HasTickets p i (fresh_run n i.script p.platform.quantum (2 * length i.script)) w [] m
   tickets_begun tokens shares m below =
@@ -109,6 +120,7 @@ module _ (p : Plan) (valid : IsValid p) (served : IsServed p.platform) (n : ℕ)
           decoupled = tt;
         };
         tickets = tickets_begun tokens shares;
+        no_others = λ k past. nothing_past w (length (objects_of p.platform)) k shares.few past;
         finished = λ f. cc;
       }
 

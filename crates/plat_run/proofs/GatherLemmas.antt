@@ -1,30 +1,20 @@
--- One more job that has finished, and one more memory that is done with.
+-- One more job that has finished.
 use Rattle.std.proofs.Common.{◌≡◌, ℕ, zero, suc, ◌+◌, ◌<◌, ◌≤◌, Bool, true, false, cond, List, [], ◌∷◌, ◌++◌, length, get_or, map, Some, refl, ap, sym, subst, ◌∙◌, ⊎_elim, arith, length-append}
 use Rattle.std.proofs.lemmas.List.{get_or-map, length-map}
 use Rattle.run_queue.specs.Queue.{AreNumbered}
-use Rattle.std.specs.Prelude.{slice_get, slice_index_or, All, IsSomeAnd, count_by}
+use Rattle.std.specs.Prelude.{slice_get, slice_index_or, All, count_by}
 use Rattle.std.proofs.lemmas.List.Sums.{count_by-le-length, sum_by-cons}
 use mathlib.Core.Option.{some, some-injective, some-ne-none}
 use lib.ListN.{get_elem?}
 use Rattle.atomic_table.specs.Seated.{TableId}
 use Rattle.view_lists.proofs.Places.{at_end, at_short}
-use Rattle.one_history.specs.declared.view.Frame.{Frame}
 use Rattle.one_history.specs.Held.{Held}
+use Rattle.token_book.specs.Purse.{Purse}
 use Rattle.tlm_types.specs.declared.ends.EndOf.{EndOf}
 use Rattle.tlm_types.specs.declared.entry.Content.{Content}
-use Rattle.tlm_types.specs.declared.words.ObjectNo.TheVariants.{Memory}
-use Rattle.tlm_types.specs.Log.{LogView}
-use Rattle.tlm_model.specs.declared.platform.MemoryRow.{MemoryRow}
-use Rattle.tlm_model.specs.Log.{IsLog, log_bytes}
 use Rattle.tlm_model.specs.Plan.{Plan}
-use Rattle.shared_object.specs.Standing.{IsBuiltFor, IsSeat, Numbers, place}
-use Rattle.region_object.specs.Region.{LoggedMemory}
-use Rattle.region_object.specs.Written.{built_of, written_from}
-use Rattle.initiator_run.specs.Run.{Run, end_at}
 use Rattle.run_outcome.proofs.ListLemmas.{at_push, within}
-use Rattle.cargo_net.specs.Traffic.{IsMemoryBuilt}
-use Rattle.plat_net.specs.Net.{memory_numbers}
-use Rattle.plat_run.specs.Run.{AreDoneWith, AreFinished, HandsIn, IsDoneWith, IsFinished}
+use Rattle.plat_run.specs.End.{AreFinished, IsFinished}
 
 -- what stands at a place is read there
 read_there : {A : Type 0} (xs : List A) (k : ℕ) (x : A) → get_elem? xs k ≡ some x → slice_index_or xs k x ≡ x
@@ -36,88 +26,35 @@ read_there (y ∷ xs) (suc k) x at = read_there xs k x at
 pub each_there : {A : Type 0} (P : ℕ → A → Type 0) (xs : List A) (k : ℕ) (x : A) → ((i : ℕ) (d : A) → i < length xs → P i (slice_index_or xs i d)) → get_elem? xs k ≡ some x → P k x
 each_there P xs k x each at = subst (P k) (read_there xs k x at) (each k x (at_short xs k x at))
 
--- a job that is done, at the place of its number
-pub one_finished : (table : TableId) (p : Plan) (number k : ℕ) (done : Bool) (run : Run) (note : Held Content Plan) (end : EndOf) → HandsIn table p number done run note → number ≡ k → done ≡ true → end ≡ end_at run → IsFinished p k end note.knows
-one_finished table p number k done run note end hands here is_done end_is = record {
-  run = run;
-  wallet = hands.wallet;
-  job = hands.job;
-  number = hands.number ∙ here;
-  finished = hands.finished ∙ is_done;
-  end_is = end_is;
-}
-
--- a memory that is taken apart, at the place of its number
-pub one_done : (table tokens : TableId) (frame : Frame Plan) (m : ℕ) (numbers : Numbers) (memory : LoggedMemory) (log : LogView) (bytes : List ℕ) (seat : Held Content Plan)
-    → numbers ≡ memory_numbers m → IsBuiltFor IsMemoryBuilt (place frame tokens numbers.number numbers.own) (built_of memory) → IsSeat table frame numbers.number (written_from 0 memory.log.entries) seat
-    → log ≡ memory.log → bytes ≡ log_bytes memory.traits memory.log.entries → IsLog memory.traits memory.log.entries → All (λ e. e.object ≡ Memory memory.number) memory.log.entries → IsDoneWith table frame m log bytes seat
-one_done table tokens frame m numbers memory log bytes seat are built seat_is log_is bytes_are lawful own =
-    let number : numbers.number ≡ m = ap (λ (n : Numbers). n.number) are in
-    let here : memory.number ≡ m = same_number memory.number numbers.number built.world.object ∙ number in
-    record {
-      memory = memory;
-      log_is = log_is;
-      bytes_are = bytes_are;
-      row = subst (λ (k : ℕ). IsSomeAnd (slice_get frame.world.platform.memories k) (λ (row : MemoryRow). memory.traits ≡ row.traits)) number built.world.row;
-      lawful = lawful;
-      own = subst (λ (k : ℕ). All (λ e. e.object ≡ Memory k) memory.log.entries) here own;
-      seat_is = subst (λ (k : ℕ). IsSeat table frame k (written_from 0 memory.log.entries) seat) number seat_is;
-    }
-  where
-    same_number : (a b : ℕ) → Memory a ≡ Memory b → a ≡ b
-    same_number a b q = cc
-
-pub finished_more : (table : TableId) (p : Plan) (n : ℕ) (ends : List EndOf) (notes : List (Held Content Plan)) (end : EndOf) (note : Held Content Plan) → AreFinished table p n ends notes → note.table ≡ table → IsFinished p n end note.knows → AreFinished table p (n + 1) (ends ++ end ∷ []) (notes ++ note ∷ [])
-finished_more table p n ends notes end note are of is = record {
+pub finished_more : (table tokens : TableId) (p : Plan) (n : ℕ) (ends : List EndOf) (wallets : List Purse) (notes : List (Held Content Plan)) (end : EndOf) (wallet : Purse) (note : Held Content Plan) → AreFinished table tokens p n ends wallets notes → IsFinished table tokens p n end note wallet
+    → AreFinished table tokens p (n + 1) (ends ++ end ∷ []) (wallets ++ wallet ∷ []) (notes ++ note ∷ [])
+finished_more table tokens p n ends wallets notes end wallet note are is = record {
   ends_count = length-append ends (end ∷ []) ∙ ap (λ (k : ℕ). k + 1) are.ends_count;
+  wallets_count = length-append wallets (wallet ∷ []) ∙ ap (λ (k : ℕ). k + 1) are.wallets_count;
   notes_count = length-append notes (note ∷ []) ∙ ap (λ (k : ℕ). k + 1) are.notes_count;
-  of = λ k other at. ⊎_elim
-      (λ (before : get_elem? notes k ≡ some other). are.of k other before)
-      (λ (last : (k ≡ length notes) × (note ≡ other)). ap (λ (x : Held Content Plan). x.table) (sym last.1) ∙ of)
-      (at_end notes note other k at);
-  each = λ k last_end other at_end' at_note. ⊎_elim
-      (λ (before : slice_get ends k ≡ Some last_end). ⊎_elim
-      (λ (early : get_elem? notes k ≡ some other). are.each k last_end other before early)
-      (λ (late : (k ≡ length notes) × (note ≡ other)). let b = within ends k last_end before in let c = are.ends_count in let d = are.notes_count in let l = late.0 in absurd (omega arith))
-      (at_end notes note other k at_note))
-      (λ (last : (k ≡ length ends) × (end ≡ last_end)). ⊎_elim
-      (λ (early : get_elem? notes k ≡ some other). let b = at_short notes k other early in let c = are.ends_count in let d = are.notes_count in let l = last.0 in absurd (omega arith))
-      (λ (late : (k ≡ length notes) × (note ≡ other)).
-      subst (λ (j : ℕ). IsFinished p j last_end other.knows) (sym (late.0 ∙ are.notes_count))
-      (subst (λ (x : EndOf). IsFinished p n x other.knows) last.1 (subst (λ (x : Held Content Plan). IsFinished p n end x.knows) late.1 is)))
-      (at_end notes note other k at_note))
-      (at_push ends end k last_end at_end');
-}
-
-pub done_more : (table : TableId) (frame : Frame Plan) (n : ℕ) (logs : List LogView) (stores : List (List ℕ)) (seats : List (Held Content Plan)) (log : LogView) (bytes : List ℕ) (seat : Held Content Plan) → AreDoneWith table frame n logs stores seats → IsDoneWith table frame n log bytes seat
-    → AreDoneWith table frame (n + 1) (logs ++ log ∷ []) (stores ++ bytes ∷ []) (seats ++ seat ∷ [])
-done_more table frame n logs stores seats log bytes seat are is = record {
-  logs_count = length-append logs (log ∷ []) ∙ ap (λ (k : ℕ). k + 1) are.logs_count;
-  stores_count = length-append stores (bytes ∷ []) ∙ ap (λ (k : ℕ). k + 1) are.stores_count;
-  seats_count = length-append seats (seat ∷ []) ∙ ap (λ (k : ℕ). k + 1) are.seats_count;
-  each = λ k l b s at_log at_bytes at_seat.
-      let a = are.logs_count in
-      let c = are.stores_count in
-      let d = are.seats_count in
+  each = λ k l b s at_end_k at_wallet at_note.
+      let a = are.ends_count in
+      let c = are.wallets_count in
+      let d = are.notes_count in
       ⊎_elim
-      (λ (before : slice_get logs k ≡ Some l). let less = within logs k l before in ⊎_elim
-      (λ (stored : slice_get stores k ≡ Some b). ⊎_elim
-      (λ (seated : get_elem? seats k ≡ some s). are.each k l b s before stored seated)
-      (λ (late : (k ≡ length seats) × (seat ≡ s)). let q = late.0 in absurd (omega arith))
-      (at_end seats seat s k at_seat))
-      (λ (late : (k ≡ length stores) × (bytes ≡ b)). let q = late.0 in absurd (omega arith))
-      (at_push stores bytes k b at_bytes))
-      (λ (last : (k ≡ length logs) × (log ≡ l)). let q = last.0 in ⊎_elim
-      (λ (stored : slice_get stores k ≡ Some b). let less = within stores k b stored in absurd (omega arith))
-      (λ (late : (k ≡ length stores) × (bytes ≡ b)). ⊎_elim
-      (λ (seated : get_elem? seats k ≡ some s). let less = at_short seats k s seated in absurd (omega arith))
-      (λ (end : (k ≡ length seats) × (seat ≡ s)).
-      let here : k ≡ n = omega arith in
-      subst (λ (j : ℕ). IsDoneWith table frame j l b s) (sym here)
-      (subst (λ (x : LogView). IsDoneWith table frame n x b s) last.1 (subst (λ (x : List ℕ). IsDoneWith table frame n log x s) late.1 (subst (λ (x : Held Content Plan). IsDoneWith table frame n log bytes x) end.1 is))))
-      (at_end seats seat s k at_seat))
-      (at_push stores bytes k b at_bytes))
-      (at_push logs log k l at_log);
+      (λ (before : slice_get ends k ≡ Some l). let less = within ends k l before in ⊎_elim
+      (λ (early : slice_get wallets k ≡ Some b). ⊎_elim
+      (λ (known : get_elem? notes k ≡ some s). are.each k l b s before early known)
+      (λ (late : (k ≡ length notes) × (note ≡ s)). let q = late.0 in absurd (omega arith))
+      (at_end notes note s k at_note))
+      (λ (late : (k ≡ length wallets) × (wallet ≡ b)). let q = late.0 in absurd (omega arith))
+      (at_push wallets wallet k b at_wallet))
+      (λ (last : (k ≡ length ends) × (end ≡ l)). let q = last.0 in ⊎_elim
+      (λ (early : slice_get wallets k ≡ Some b). let less = within wallets k b early in absurd (omega arith))
+      (λ (late : (k ≡ length wallets) × (wallet ≡ b)). ⊎_elim
+      (λ (known : get_elem? notes k ≡ some s). let less = at_short notes k s known in absurd (omega arith))
+      (λ (here : (k ≡ length notes) × (note ≡ s)).
+      let place : k ≡ n = omega arith in
+      subst (λ (j : ℕ). IsFinished table tokens p j l s b) (sym place)
+      (subst (λ (x : EndOf). IsFinished table tokens p n x s b) last.1 (subst (λ (x : Purse). IsFinished table tokens p n end s x) late.1 (subst (λ (x : Held Content Plan). IsFinished table tokens p n end x wallet) here.1 is))))
+      (at_end notes note s k at_note))
+      (at_push wallets wallet k b at_wallet))
+      (at_push ends end k l at_end_k);
 }
 
 -- where as many pass as there are, all pass

@@ -1,5 +1,5 @@
 -- One more entry of an initiator that runs beside others.
-use Rattle.std.proofs.Common.{◌≡◌, ℕ, suc, ◌+◌, ◌-◌, ◌*◌, ◌<◌, ◌≤◌, ◌==◌, List, [], ◌∷◌, ◌++◌, length, map, Some, true, refl, ap, sym, subst, ◌∙◌, ⊎_elim, arith, length-append, append-nil}
+use Rattle.std.proofs.Common.{◌≡◌, ℕ, suc, ◌+◌, ◌-◌, ◌*◌, ◌<◌, ◌≤◌, ◌==◌, List, [], ◌∷◌, ◌++◌, length, get_or, map, Some, true, refl, ap, sym, subst, ◌∙◌, ⊎_elim, arith, length-append, append-nil}
 use Rattle.std.specs.Prelude.{slice_get}
 use Rattle.std.proofs.lemmas.Bool.{cases_eq, cond-true, cond-false, eq-eqb, ne_eqb}
 use Rattle.view_lists.specs.Lists.{Has, Within}
@@ -12,7 +12,8 @@ use Rattle.tlm_types.specs.declared.entry.Content.{Content}
 use Rattle.tlm_types.specs.declared.entry.Entry.{Entry}
 use Rattle.tlm_types.specs.declared.words.ObjectNo.{ObjectNo}
 use Rattle.tlm_types.specs.declared.words.TxnId.{TxnId}
-use Rattle.tlm_types.specs.declared.words.ObjectNo.TheVariants.{Memory}
+use Rattle.tlm_types.specs.declared.words.ObjectNo.TheVariants.{Hop, Memory}
+use Rattle.tlm_model.specs.declared.platform.Platform.{Platform}
 use Rattle.tlm_model.specs.declared.platform.Style.TheVariants.{Blocking}
 use Rattle.tlm_model.specs.History.{entries_at}
 use Rattle.tlm_model.specs.Plan.{Plan, initiators_of}
@@ -40,25 +41,30 @@ use Rattle.initiator_run.proofs.EntryLemmas.{entries_at-push, HasCome-turn, goes
 use Rattle.initiator_run.proofs.LeftLemmas.{bytes_after, cost_at, leads_elsewhere, leads_there, left_after}
 use Rattle.initiator_run.proofs.RunLemmas.{accessed_finished, accessed_initiator, accessed_step}
 use Rattle.initiator_run.proofs.SendLemmas.{bytes_come_back, entry_is_made, whole_comes_back}
+use Rattle.cargo_model.specs.Known.{objects_of}
 use Rattle.plat_net.specs.Calls.{IsCalled, OneTicketLess}
+use Rattle.plat_net.proofs.ObjectLemmas.{memory_at, more_objects}
 use Rattle.plat_run.specs.Entries.{entries_read, entry_read}
 use Rattle.plat_run.specs.Job.{HasMade, HasTickets, IsInitiator, owner_of, position_of}
-use Rattle.plat_run.proofs.PathLemmas.{route_of_next}
+use Rattle.plat_run.proofs.PathLemmas.{memory_below, route_of_next}
 
 -- the last entry of a log is among what the memory has written
 has_written : (n : ℕ) (es : List Entry) (e : Entry) → (k : ℕ) × Has (written_from n (es ++ e ∷ [])) (noted k e)
 has_written n [] e = (n, (0, refl))
 has_written n (x ∷ es) e = let h = has_written (n + 1) es e in (h.0, (suc h.1.0, h.1.1))
 
-pub read_back : (m k : ℕ) (e : Entry) → e.object ≡ Memory m → entry_read (placed m (noted k e)) ≡ e
-read_back m k e is = ap (λ (o : ObjectNo). record { position = e.position; object = o; txn = e.txn; time = e.time; what = e.what }) (sym is)
+-- what a memory has written is read as its entry
+read_back : (p : Platform) (m k : ℕ) (e : Entry) → m < length p.memories → e.object ≡ Memory m → entry_read p (placed m (noted k e)) ≡ e
+read_back p m k e below is =
+    let here : get_or (objects_of p) m (Hop 0) ≡ e.object = memory_at p m (Hop 0) below ∙ sym is in
+    ap (λ (o : ObjectNo). record { position = e.position; object = o; txn = e.txn; time = e.time; what = e.what }) here
 
 -- whoever knows what the memory has written knows its last entry
-knows_last : (m : ℕ) (es : List Entry) (e : Entry) (known : List (HistoryEntry Content)) → e.object ≡ Memory m → Within (map (placed m) (written_from 0 (es ++ e ∷ []))) known → Has (entries_read known) e
-knows_last m es e known is knows =
+knows_last : (p : Platform) (m : ℕ) (es : List Entry) (e : Entry) (known : List (HistoryEntry Content)) → m < length p.memories → e.object ≡ Memory m → Within (map (placed m) (written_from 0 (es ++ e ∷ []))) known → Has (entries_read p known) e
+knows_last p m es e known below is knows =
     let h = has_written 0 es e in
-    subst (Has (entries_read known)) (read_back m h.0 e is)
-    (has_mapped entry_read known (placed m (noted h.0 e)) (knows (placed m (noted h.0 e)) (has_mapped (placed m) (written_from 0 (es ++ e ∷ [])) (noted h.0 e) h.1)))
+    subst (Has (entries_read p known)) (read_back p m h.0 e below is)
+    (has_mapped (entry_read p) known (placed m (noted h.0 e)) (knows (placed m (noted h.0 e)) (has_mapped (placed m) (written_from 0 (es ++ e ∷ [])) (noted h.0 e) h.1)))
 
 -- the call of a transfer adds its entry to the log
 adds_entry : (m : LoggedMemory) (position : ℕ) (kind : TransferKind) (txn : TxnId) (t before : ℕ) (p : PayloadView) → (after_call m position (call_at kind txn t before p)).log.entries ≡ m.log.entries ++ region_entry m position (call_at kind txn t before p) ∷ []
@@ -81,6 +87,9 @@ module _ (p : Plan) (r : Run) (x : Transfer) (route : Route) (note back : View C
   leads_to : IsRouteOf p job.initiator x.address route
   leads_to = route_of_next p r note old x route job reached
 
+  below_all : route.memory < length p.platform.memories
+  below_all = memory_below p r note old x route job reached
+
   own_number : slice_get (initiators_of p) job.initiator.number ≡ Some job.initiator
   own_number = ap (slice_get (initiators_of p)) (initiator_number p r.engine.initiator job.initiator job.is) ∙ job.is
 
@@ -98,20 +107,20 @@ module _ (p : Plan) (r : Run) (x : Transfer) (route : Route) (note back : View C
   pub whole : is_fenced_kind x.kind ≡ true → length payload.bytes ≡ x.length
   whole waits = ap length (told waits) ∙ whole_comes_back r x sent.called.memory route reached.next waits
 
-  entry_known : Has (entries_read back.known) the_entry
+  entry_known : Has (entries_read p.platform back.known) the_entry
   entry_known =
       let m = sent.called.memory in
       let same : region_entry m sent.called.position (next_call r x route) ≡ the_entry = entry_is_made r x m route sent.called.position reached.next in
-      knows_last route.memory m.log.entries the_entry back.known object_is
+      knows_last p.platform route.memory m.log.entries the_entry back.known below_all object_is
       let added = adds_entry m sent.called.position x.kind (record { initiator = r.engine.initiator; seq = r.engine.seq }) (current_time r.keeper) route.before (record (payload_of r.engine payload_room) { address = route.offset }) in
       let knows : Within (map (placed route.memory) (written_from 0 (m.log.entries ++ region_entry m sent.called.position (next_call r x route) ∷ []))) back.known =
       subst (λ (es : List Entry). Within (map (placed route.memory) (written_from 0 es)) back.known) added sent.called.knows in
       (subst (λ (e : Entry). Within (map (placed route.memory) (written_from 0 (m.log.entries ++ e ∷ []))) back.known) same knows)
 
-  old_known : (e : Entry) → Has (entries_read note.known) e → Has (entries_read back.known) e
+  old_known : (e : Entry) → Has (entries_read p.platform note.known) e → Has (entries_read p.platform back.known) e
   old_known e has =
-      let h = has_map entry_read note.known e has in
-      subst (Has (entries_read back.known)) h.2 (has_mapped entry_read back.known h.0 (sent.called.keeps h.0 h.1))
+      let h = has_map (entry_read p.platform) note.known e has in
+      subst (Has (entries_read p.platform back.known)) h.2 (has_mapped (entry_read p.platform) back.known h.0 (sent.called.keeps h.0 h.1))
 
   old_early : (e : Entry) → Has job.mine e → e.position < sent.called.position
   old_early e has = let b = job.made.below e has in let late = sent.called.late in omega arith
@@ -124,7 +133,7 @@ module _ (p : Plan) (r : Run) (x : Transfer) (route : Route) (note back : View C
         rising = IsRising-push position_of job.mine the_entry job.made.rising old_early;
         known = λ e has. ⊎_elim
             (λ (before : Has job.mine e). old_known e (job.made.known e before))
-            (λ (last : Has (the_entry ∷ []) e). subst (Has (entries_read back.known)) (has_one the_entry e last) entry_known)
+            (λ (last : Has (the_entry ∷ []) e). subst (Has (entries_read p.platform back.known)) (has_one the_entry e last) entry_known)
             (has_either job.mine (the_entry ∷ []) e has);
         below = λ e has. ⊎_elim
             (λ (before : Has job.mine e). let b = old_early e before in let s = sent.called.seen in omega arith)
@@ -215,6 +224,9 @@ module _ (p : Plan) (r : Run) (x : Transfer) (route : Route) (note back : View C
     is = ap (slice_get (initiators_of p)) (accessed_initiator x route.latency payload.bytes r) ∙ job.is;
     made = made_more;
     tickets = λ m below. tickets_left m (job.tickets m below);
+    no_others = λ k past.
+        let here = below_all in
+        left_stays k (λ same. let more = more_objects p.platform in omega arith) ∙ job.no_others k past;
     finished = λ f.
         let was = sym (accessed_finished x route.latency payload.bytes r) ∙ f in
         absurd (transfer_is_not_done (op_of r.engine) x reached.next (job.finished was));

@@ -2,10 +2,9 @@ pub mod MoveLemmas
 pub mod PathLemmas
 pub mod JobLemmas
 pub mod AccessLemmas
-pub mod EndLemmas
 pub mod SealLemmas
 pub mod BeginLemmas
 pub mod OrderLemmas
+pub mod LogLemmas
 pub mod WholeLemmas
 pub mod GatherLemmas
-pub mod CoreLemmas

@@ -64,6 +64,7 @@ moved p old new v w job keeps finished = record {
         bytes = omega arith;
         all = t.all ∙ ap (λ (n : ℕ). share_at p n (Memory m)) (sym keeps.initiator);
       };
+  no_others = job.no_others;
   finished = finished;
 }
 

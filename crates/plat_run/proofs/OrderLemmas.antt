@@ -1,15 +1,31 @@
 -- Logs that are the parts of one history make it, in the order of their entries' positions.
-use Rattle.std.proofs.Common.{◌≡◌, ◌⊎◌, ℕ, zero, suc, ◌<◌, ◌≤◌, Bool, true, false, cond, nat_lt, List, [], ◌∷◌, ◌++◌, Some, refl, ap, sym, subst, inl, inr, ⊎_elim, arith}
+use Rattle.std.proofs.Common.{◌≡◌, ◌⊎◌, ℕ, zero, suc, ◌+◌, ◌<◌, ◌≤◌, Bool, true, false, cond, nat_lt, List, [], ◌∷◌, ◌++◌, Some, refl, ap, sym, subst, inl, inr, ⊎_elim, arith}
 use Rattle.std.specs.Prelude.{slice_get}
 use Rattle.std.proofs.lemmas.Bool.Decides.{nat_tests}
 use mathlib.Core.Option.{some}
 use Rattle.view_lists.specs.Lists.{Has, Within}
 use Rattle.view_lists.proofs.Members.{has_either, has_later, has_left, has_none, has_right}
+use Rattle.view_lists.proofs.Places.{at_once}
 use Rattle.tlm_types.specs.declared.entry.Entry.{Entry}
+use Rattle.tlm_model.specs.History.{IsNumberedFrom}
 use Rattle.joined_runs.specs.Counting.{IsRising}
 use Rattle.joined_runs.proofs.CountLemmas.{has_first, rising_same}
 use Rattle.run_outcome.specs.Merge.{by_position, entries_in, merged, put_in}
 use Rattle.plat_run.specs.Job.{position_of}
+
+-- numbered entries rise
+pub rising_from : (n : ℕ) (h : List Entry) → IsNumberedFrom n h → IsRising position_of h × ((e : Entry) → Has h e → n ≤ e.position)
+rising_from n [] numbered = (tt, λ e has. absurd (has_none e has))
+rising_from n (x ∷ h) numbered =
+    let rest = rising_from (n + 1) h numbered.1 in
+    let here = numbered.0 in (
+      (λ e has. let after = rest.1 e has in omega arith, rest.0),
+      λ e has. at_or_after e has rest.1,
+    )
+  where
+    at_or_after : (e : Entry) → Has (x ∷ h) e → ((y : Entry) → Has h y → n + 1 ≤ y.position) → n ≤ e.position
+    at_or_after e (zero, is) after = let same : x ≡ e = at_once (x ∷ h) 0 x e refl is in let q = ap position_of same in let here = numbered.0 in omega arith
+    at_or_after e (suc k, is) after = let late = after e (k, is) in omega arith
 
 -- no two entries have one position
 AreApart : List Entry → Type 0

@@ -82,7 +82,8 @@ module _ (p : Plan) (r : Run) (note : View Content Plan) (w : Purse) (x : Transf
       found_at p n r.engine.initiator payload.address x.address job.initiator route (route_at p n payload.address) who
       (ap (λ (y : PayloadView). y.address) filled ∙ (fills.transfer r.engine 4096 x reached.next).1.address) job.is route_of_next refl
 
-  memory_below : route.memory < length p.platform.memories
+  -- its memory is there
+  pub memory_below : route.memory < length p.platform.memories
   memory_below = is_within p.platform.memories route.memory (walk_memory p 9 job.initiator.row.bind x.address 0 (model_route route) route_of_next.leads)
 
   -- its ticket is in the wallet

@@ -1,367 +1,274 @@
--- What is gathered at the end makes the outcome.
-use Rattle.std.proofs.Common.{◌≡◌, ◌⊎◌, ℕ, zero, suc, ◌+◌, ◌-◌, ◌<◌, ◌≤◌, List, [], ◌∷◌, ◌++◌, length, map, Some, true, refl, ap, sym, subst, ◌∙◌, inl, inr, ⊎_elim, arith, length-append}
-use Rattle.std.specs.Prelude.{slice_get, slice_index_or, IsSomeAnd}
-use Rattle.std.proofs.lemmas.Bool.{cases_lt, eq-eqb, eqb-true}
+-- What all jobs and all objects have left makes the outcome.
+use Rattle.std.proofs.Common.{◌≡◌, ℕ, zero, suc, ◌<◌, List, [], ◌∷◌, length, Some, true, refl, ap, sym, subst, ◌∙◌, arith}
+use Rattle.std.specs.Prelude.{slice_get, slice_index_or, All}
 use Rattle.std.proofs.lemmas.List.{length-map}
-use mathlib.Core.Option.{some, some-ne-none, some-injective}
+use Rattle.std.proofs.lemmas.Option.{get_or_from_slice_get}
+use mathlib.Core.Option.{some}
 use lib.ListN.{get_elem?}
 use Rattle.atomic_table.specs.Seated.{TableId}
-use Rattle.view_lists.specs.Lists.{Has, Within}
-use Rattle.view_lists.proofs.Keys.{of_key-has}
-use Rattle.view_lists.proofs.Members.{has_map, has_none}
-use Rattle.view_lists.proofs.Places.{at_once, at_short, empty}
+use Rattle.view_lists.specs.Lists.{Has}
+use Rattle.view_lists.proofs.Places.{at_short}
 use Rattle.one_history.specs.declared.entry.Entry.{Entry as HistoryEntry}
 use Rattle.one_history.specs.declared.view.Frame.{Frame}
-use Rattle.one_history.specs.declared.view.View.{View}
-use Rattle.one_history.specs.Closing.{ArePlanned}
+use Rattle.one_history.specs.Closing.{AreBacked, ArePlanned}
 use Rattle.one_history.specs.Held.{Held}
-use Rattle.one_history.specs.Lists.{entries_at as history_at, object_of}
-use Rattle.one_history.specs.Moves.{number_of, own_of}
-use Rattle.one_history.specs.Seats.{AreSeats, IsMerge, Tell}
+use Rattle.one_history.specs.Moves.{number_of}
+use Rattle.one_history.specs.Seats.{AreNotes, AreSeats, IsMerge, Tell}
+use Rattle.token_book.specs.Purse.{IsOf, Purse}
 use Rattle.tlm_types.specs.declared.ends.EndOf.{EndOf}
 use Rattle.tlm_types.specs.declared.entry.Content.{Content}
 use Rattle.tlm_types.specs.declared.entry.Entry.{Entry}
-use Rattle.tlm_types.specs.declared.words.ObjectNo.TheVariants.{Memory}
+use Rattle.tlm_types.specs.declared.words.ObjectNo.{ObjectNo}
+use Rattle.tlm_types.specs.declared.words.ObjectNo.TheVariants.{Memory, Hop, Pool}
 use Rattle.tlm_types.specs.Log.{LogView}
-use Rattle.tlm_model.specs.declared.platform.MemoryRow.{MemoryRow}
-use Rattle.tlm_model.specs.History.{IsNumbered, IsNumberedFrom, entries_at, is_object, last_store}
-use Rattle.tlm_model.specs.Log.{IsLog}
+use Rattle.tlm_model.specs.History.{IsNumbered, entries_at, last_store}
 use Rattle.tlm_model.specs.Plan.{Plan, initiators_of}
-use Rattle.report_model.specs.Ends.{IsEndOf}
-use Rattle.report_model.proofs.Ending.{ends_by_latencies}
+use Rattle.flow_model.specs.Events.{entries}
+use Rattle.flow_plan.specs.Valid.{HasNoCycle}
+use Rattle.grant_model.specs.Kept.{EndsGrants, KeepsGrants}
 use Rattle.good_history.specs.Good.{IsGood}
-use Rattle.joined_runs.proofs.CountLemmas.{IsRising-filter, has_kept, kept_has}
-use Rattle.route_plan.specs.Planned.{planned_at}
-use Rattle.run_outcome.specs.declared.outcome.Outcome.{Outcome}
+use Rattle.joined_runs.proofs.StoreLemmas.{logs_make_last_store}
+use Rattle.joined_traffic.specs.Ended.{HaveLeft}
+use Rattle.joined_traffic.proofs.FinalLemmas.{ended_is_good, ended_is_sound, ungranted_has_grants}
+use Rattle.report_model.specs.Ends.{IsEndOf}
 use Rattle.route_plan.specs.Shape.{IsServed}
 use Rattle.route_plan.specs.Valid.{IsValid}
+use Rattle.route_plan.proofs.ShareLemmas.{count_initiators}
+use Rattle.cargo_model.specs.Known.{object_number, objects_of}
+use Rattle.cargo_net.specs.Traffic.{Backs}
+use Rattle.cargo_net.proofs.ObjectsOnce.{stands_once}
+use Rattle.plat_net.specs.Objects.{frame_of}
+use Rattle.plat_net.proofs.NoCycle.{shapes_law}
+use Rattle.plat_net.proofs.NumberLemmas.{memory_there}
+use Rattle.plat_net.proofs.ObjectLemmas.{count_planned, planned_at_object}
+use Rattle.net_end.specs.Closed.{AreLeft, IsClosed, IsLeft, IsPlanned, events_in}
+use Rattle.net_end.specs.Finished.{HasEndedWhole, IsDone}
+use Rattle.net_end.proofs.Finishing.{initiators_end}
+use Rattle.net_end.proofs.Leaving.{objects_leave}
+use Rattle.net_end.proofs.Reading.{is_there}
+use Rattle.plat_end.specs.Apart.{HasNoOthers, left_by, left_with}
+use Rattle.run_outcome.specs.declared.outcome.Outcome.{Outcome}
 use Rattle.run_outcome.specs.Merge.{merged}
 use Rattle.run_outcome.specs.Outcome.{IsWhole}
 use Rattle.run_outcome.specs.Places.{entries_of_logs}
-use Rattle.run_outcome.proofs.PlanLemmas.{blocking_apart, blocking_at, no_direct, no_fourphase, no_invalidation}
-use Rattle.initiator_run.proofs.EntryLemmas.{some_row, bytes_are}
-use Rattle.route_plan.proofs.ShareLemmas.{count_initiators}
 use Rattle.run_outcome.proofs.ListLemmas.{at_map, has_element, within}
-use Rattle.plat_net.specs.Objects.{frame_of}
-use Rattle.plat_build.specs.Unused.{AreUnusedFrom}
-use Rattle.plat_net.proofs.ObjectLemmas.{planned_at_memory}
-use Rattle.plat_run.specs.End.{HasEnded, HasLeft, HaveEnded}
+use Rattle.run_outcome.proofs.PlanLemmas.{no_direct, no_invalidation}
+use Rattle.plat_run.specs.End.{AreFinished, HaveAllLeft, IsFinished}
 use Rattle.plat_run.specs.Entries.{entries_read, entry_read}
-use Rattle.plat_run.specs.Job.{position_of}
-use Rattle.plat_run.specs.Run.{AreDoneWith, AreFinished}
-use Rattle.plat_run.proofs.EndLemmas.{ended_as, history_is_good, rising_from}
-use Rattle.plat_run.proofs.OrderLemmas.{merged_is}
-use Rattle.plat_run.proofs.SealLemmas.{has_ended, log_read, numbered_from, part_read}
+use Rattle.plat_run.specs.Run.{IsCoreRun}
+use Rattle.plat_run.proofs.LogLemmas.{as_read, merged_parts, object_read, part_left}
 
 -- what stands at a place of a list
 record IsThere {A : Type 0} (l : List A) (k : ℕ) : Type 0 where
   pub item : A
   pub at : get_elem? l k ≡ some item
 
-is_there : {A : Type 0} (l : List A) (k : ℕ) → k < length l → IsThere l k
-is_there [] k below = absurd (omega arith)
-is_there (x ∷ l) zero below = record { item = x; at = refl }
-is_there (x ∷ l) (suc k) below = let rest = is_there l k (omega arith) in record { item = rest.item; at = rest.at }
+item_there : {A : Type 0} (l : List A) (k : ℕ) → k < length l → IsThere l k
+item_there [] k below = absurd (omega arith)
+item_there (x ∷ l) zero below = record { item = x; at = refl }
+item_there (x ∷ l) (suc k) below = let rest = item_there l k (omega arith) in record { item = rest.item; at = rest.at }
 
-at_front : {A : Type 0} (l m : List A) (k : ℕ) (x : A) → get_elem? l k ≡ some x → get_elem? (l ++ m) k ≡ some x
-at_front [] m k x at = absurd (some-ne-none x (sym at))
-at_front (y ∷ l) m zero x at = at
-at_front (y ∷ l) m (suc k) x at = at_front l m k x at
+-- a plan's history is made with room for what is planned of each object
+pub plan_is : (frame : Frame Plan) → frame ≡ frame_of frame.world → IsPlanned frame
+plan_is frame is = record {
+  count = ap (λ (f : Frame Plan). length f.planned) is ∙ count_planned frame.world;
+  each = λ k o at. ap (λ (f : Frame Plan). slice_index_or f.planned k 0) is ∙ planned_at_object frame.world k o at;
+}
 
-at_back : {A : Type 0} (l m : List A) (k : ℕ) → length l ≤ k → k < length (l ++ m) → IsThere m (k - length l)
-at_back l m k past below = is_there m (k - length l) (omega (arith, length-append l m))
+-- the seat of an object that is done with
+record IsSeated (table : TableId) (frame : Frame Plan) (o : ObjectNo) (seat : Held Content Plan) : Type 0 where
+  pub of : seat.table ≡ table
+  pub framed : seat.knows.frame ≡ Some frame
+  pub numbered : number_of seat.knows ≡ object_number frame.world.platform o
 
-back_at : {A : Type 0} (l m : List A) (j k : ℕ) (x : A) → k ≡ length l + j → get_elem? m j ≡ some x → get_elem? (l ++ m) k ≡ some x
-back_at [] m j k x is at = let same : j ≡ k = omega arith in subst (λ (n : ℕ). get_elem? m n ≡ some x) same at
-back_at (y ∷ l) m j zero x is at = absurd (omega arith)
-back_at (y ∷ l) m j (suc k) x is at = back_at l m j k x (omega arith) at
+seated : (table : TableId) (frame : Frame Plan) (o : ObjectNo) (seat : Held Content Plan) → IsLeft table frame o seat → IsSeated table frame o seat
+seated table frame (Memory m) seat left = record { of = left.seat_is.of; framed = left.seat_is.framed; numbered = left.seat_is.numbered }
+seated table frame (Hop h) seat left = record { of = left.seat_is.of; framed = left.seat_is.framed; numbered = left.seat_is.numbered }
+seated table frame (Pool i) seat left = record { of = left.seat_is.of; framed = left.seat_is.framed; numbered = left.seat_is.numbered }
 
--- the seats of the memories and those of the objects after them are the seats of all objects, in order
-pub all_seats : (table : TableId) (frame : Frame Plan) (n : ℕ) (logs : List LogView) (stores : List (List ℕ)) (seats more : List (Held Content Plan)) → AreDoneWith table frame n logs stores seats → AreUnusedFrom table frame n more → AreSeats table frame (seats ++ more)
-all_seats table frame n logs stores seats more done fresh o s at = ⊎_elim
-    (λ (here : o < length seats).
-    let log = has_element logs o (let a = done.seats_count in let b = done.logs_count in omega arith) in
-    let bytes = has_element stores o (let a = done.seats_count in let b = done.stores_count in omega arith) in
-    let seat = is_there seats o here in
-    let same : seat.item ≡ s = at_once (seats ++ more) o seat.item s (at_front seats more o seat.item seat.at) at in
-    let is = (done.each o log.element bytes.element seat.item log.at bytes.at seat.at).seat_is in (
-      ap (λ (x : Held Content Plan). x.table) (sym same) ∙ is.of,
-      ap (λ (x : Held Content Plan). x.knows.frame) (sym same) ∙ is.framed,
-      ap (λ (x : Held Content Plan). number_of x.knows) (sym same) ∙ is.numbered,
-    ))
-    (λ (past : length seats ≤ o).
-    let there = at_back seats more o past (at_short (seats ++ more) o s at) in
-    let same : there.item ≡ s = at_once (seats ++ more) o there.item s (back_at seats more (o - length seats) o there.item (omega arith) there.at) at in
-    let is = fresh (o - length seats) there.item there.at in
-    let place : n + (o - length seats) ≡ o = (let a = done.seats_count in omega arith) in (
-      ap (λ (x : Held Content Plan). x.table) (sym same) ∙ is.of,
-      ap (λ (x : Held Content Plan). x.knows.frame) (sym same) ∙ is.framed,
-      ap (λ (x : Held Content Plan). number_of x.knows) (sym same) ∙ (is.numbered ∙ place),
-    ))
-    (cases_lt o (length seats))
+-- the seats of all objects, in order
+pub are_seats : (table : TableId) (frame : Frame Plan) (seats : List (Held Content Plan)) → AreLeft table frame seats → AreSeats table frame seats
+are_seats table frame seats left k seat at =
+    let o = has_element (objects_of frame.world.platform) k (let b = at_short seats k seat at in let c = left.count in omega arith) in
+    let is = seated table frame o.element seat (left.each k o.element seat o.at at) in
+    (is.of, is.framed, is.numbered ∙ sym (stands_once frame.world.platform k o.element o.at))
 
-past_end : (l : List ℕ) (k : ℕ) → length l ≤ k → slice_index_or l k 0 ≡ 0
-past_end [] k past = refl
-past_end (x ∷ l) zero past = absurd (omega arith)
-past_end (x ∷ l) (suc k) past = past_end l k (omega arith)
+-- and as many as there is room planned for
+pub count_seats : (table : TableId) (frame : Frame Plan) (seats : List (Held Content Plan)) → frame ≡ frame_of frame.world → AreLeft table frame seats → length seats ≡ length frame.planned
+count_seats table frame seats is left = left.count ∙ sym (plan_is frame is).count
 
-module _ (p : Plan) (table : TableId) (frame : Frame Plan) (ends : List EndOf) (notes : List (Held Content Plan)) (logs : List LogView) (stores : List (List ℕ)) (seats more : List (Held Content Plan)) (all : List (HistoryEntry Content))
-    (valid : IsValid p) (served : IsServed p.platform) (is_frame : frame ≡ frame_of p)
-    (finished : AreFinished table p (length p.platform.initiators) ends notes) (done : AreDoneWith table frame (length p.platform.memories) logs stores seats)
-    (fresh : AreUnusedFrom table frame (length p.platform.memories) more) (count : length more + length p.platform.memories ≡ length frame.planned)
-    (merge : IsMerge (seats ++ more) all) (planned : ArePlanned frame all) (tell : Tell notes 0 all) where
-  abbrev h : List Entry
-  h = entries_read all
-
-  numbered : IsNumberedFrom 0 h
-  numbered = numbered_from 0 all (λ q e at. let is = merge.0 q e at in omega arith)
-
-  -- nothing stands at an object that isn't a memory
-  none_past : (o : ℕ) → length p.platform.memories ≤ o → history_at o all ≡ []
-  none_past o past = ⊎_elim
-      (λ (here : o < length (seats ++ more)).
-      let there = at_back seats more o (let s = done.seats_count in omega arith) here in
-      let seat_is = fresh (o - length seats) there.item there.at in
-      let own : own_of there.item.knows ≡ [] = seat_is.own in
-      merge.1 o there.item (back_at seats more (o - length seats) o there.item (let s = done.seats_count in omega arith) there.at) ∙ own)
-      (λ (beyond : length (seats ++ more) ≤ o).
-      let few = planned o in
-      let none : slice_index_or frame.planned o 0 ≡ 0 = past_end frame.planned o (let s = done.seats_count in omega (arith, length-append seats more)) in
-      empty (history_at o all) (omega arith))
-      (cases_lt o (length (seats ++ more)))
-
-  placed_at : (e : Entry) → Has h e → (m : ℕ) × (m < length p.platform.memories) × (e.object ≡ Memory m)
-  placed_at e has =
-      let from = has_map entry_read all e has in
-      let o = from.0.object in
-      ⊎_elim
-      (λ (below : o < length p.platform.memories). (o, below, ap (λ (x : Entry). x.object) (sym from.2)))
-      (λ (past : length p.platform.memories ≤ o). absurd (has_none from.0 (subst (λ (l : List (HistoryEntry Content)). Has l from.0) (none_past o past) (of_key-has object_of all from.0 from.1))))
-      (cases_lt o (length p.platform.memories))
-
-  record IsLeft (m : ℕ) : Type 0 where
-    pub log : LogView
-    pub bytes : List ℕ
-    pub at : slice_get logs m ≡ Some log
-    pub stored : slice_get stores m ≡ Some bytes
-    pub row : MemoryRow
-    pub row_at : slice_get p.platform.memories m ≡ Some row
-    pub bytes_are : bytes ≡ last_store p.platform h m
-    pub left : HasLeft p h m log.entries
-
-  left_at : (m : ℕ) → m < length p.platform.memories → IsLeft m
-  left_at m below =
-      let log = has_element logs m (let c = done.logs_count in omega arith) in
-      let bytes = has_element stores m (let c = done.stores_count in omega arith) in
-      let seat = is_there seats m (let c = done.seats_count in omega arith) in
-      let is = done.each m log.element bytes.element seat.item log.at bytes.at seat.at in
-      let world : frame.world ≡ p = ap (λ (f : Frame Plan). f.world) is_frame in
-      let row = some_row (slice_get p.platform.memories m) (λ (r : MemoryRow). is.memory.traits ≡ r.traits) (subst (λ (x : Plan). IsSomeAnd (slice_get x.platform.memories m) (λ (r : MemoryRow). is.memory.traits ≡ r.traits)) world is.row) in
-      let here : history_at m all ≡ own_of seat.item.knows = merge.1 m seat.item (at_front seats more m seat.item seat.at) in
-      let part : entries_at (Memory m) h ≡ is.memory.log.entries = part_read m all ∙ (ap entries_read (here ∙ is.seat_is.own) ∙ log_read m 0 is.memory.log.entries is.own) in
-      let log_is : is.memory.log.entries ≡ log.element.entries = ap (λ (l : LogView). l.entries) (sym is.log_is) in
-      let few = planned m in
-      let room : slice_index_or frame.planned m 0 ≡ planned_at p (Memory m) = ap (λ (f : Frame Plan). slice_index_or f.planned m 0) is_frame ∙ planned_at_memory p m below in
-      let long : length (history_at m all) ≡ length is.memory.log.entries = ap length here ∙ (ap length is.seat_is.own ∙ length_written m is.memory.log.entries) in
-      record {
-        log = log.element;
-        bytes = bytes.element;
-        at = log.at;
-        stored = bytes.at;
-        row = row.row;
-        row_at = row.at;
-        bytes_are = is.bytes_are ∙ bytes_are p h is.memory.log.entries m row.row is.memory.traits row.at row.has (sym part);
-        left = record {
-          part = part ∙ log_is;
-          lawful = λ r at.
-              let same : row.row ≡ r = same_some row.row r (sym row.at ∙ at) in
-              let traits : is.memory.traits ≡ r.traits = row.has ∙ ap (λ (x : MemoryRow). x.traits) same in
-              subst (λ (l : List Entry). IsLog r.traits l) log_is (subst (λ (t : _). IsLog t is.memory.log.entries) traits is.lawful);
-          few = omega (arith, ap length log_is);
-        };
-      }
-    where
-      same_some : (x y : MemoryRow) → Some x ≡ Some y → x ≡ y
-      same_some x y q = cc
-
-      length_written : (m : ℕ) (log : List Entry) → length (map (Rattle.shared_object.specs.Written.placed m) (Rattle.region_object.specs.Written.written_from 0 log)) ≡ length log
-      length_written m log = from 0 log
-        where
-          from : (n : ℕ) (l : List Entry) → length (map (Rattle.shared_object.specs.Written.placed m) (Rattle.region_object.specs.Written.written_from n l)) ≡ length l
-          from n [] = refl
-          from n (e ∷ l) = ap suc (from (n + 1) l)
-
-  record IsDone (k : ℕ) : Type 0 where
-    pub mine : List Entry
+-- what an initiator leaves, by its place
+module _ (table tokens : TableId) (p : Plan) (count : ℕ) (ends : List EndOf) (wallets : List Purse) (notes : List (Held Content Plan)) (are : AreFinished table tokens p count ends wallets notes) where
+  pub record Leaves (k : ℕ) : Type 0 where
     pub end : EndOf
-    pub at : slice_get ends k ≡ Some end
-    pub is : HasEnded p h k mine end
+    pub wallet : Purse
+    pub note : Held Content Plan
+    pub end_at : slice_get ends k ≡ Some end
+    pub wallet_at : slice_get wallets k ≡ Some wallet
+    pub note_at : get_elem? notes k ≡ some note
+    pub is : IsFinished table tokens p k end note wallet
 
-  initiators : length (initiators_of p) ≡ length p.platform.initiators
-  initiators = count_initiators 0 p.platform.initiators p.scripts valid.scripts
-
-  done_at : (k : ℕ) → k < length (initiators_of p) → IsDone k
-  done_at k below =
-      let all_count = initiators in
-      let end = has_element ends k (let c = finished.ends_count in omega arith) in
-      let note = is_there notes k (let c = finished.notes_count in omega arith) in
-      let is = finished.each k end.element note.item end.at note.at in
+  pub leaves : (k : ℕ) → k < count → Leaves k
+  leaves k below =
+      let end = has_element ends k (let c = are.ends_count in omega arith) in
+      let wallet = has_element wallets k (let c = are.wallets_count in omega arith) in
+      let note = item_there notes k (let c = are.notes_count in omega arith) in
       record {
-        mine = is.job.mine;
         end = end.element;
-        at = end.at;
-        is = subst (HasEnded p h k is.job.mine) (sym is.end_is) (has_ended p all k is.run note.item.knows is.wallet is.job is.number is.finished (tell k note.item (omega arith) note.at));
+        wallet = wallet.element;
+        note = note.item;
+        end_at = end.at;
+        wallet_at = wallet.at;
+        note_at = note.at;
+        is = are.each k end.element wallet.element note.item end.at wallet.at note.at;
       }
+
+  all_wallets : (P : Purse → Type 0) → ((k : ℕ) (l : Leaves k) → P l.wallet) → All P wallets
+  all_wallets P each k d below =
+      let l = leaves k (let c = are.wallets_count in omega arith) in
+      subst P (sym (get_or_from_slice_get wallets k l.wallet d l.wallet_at)) (each k l)
+
+  -- the wallets hold tickets of this run alone, and of its objects alone
+  pub wallets_of : All (IsOf tokens) wallets
+  wallets_of = all_wallets (IsOf tokens) (λ k l. l.is.wallet_of)
+
+  pub wallets_no_others : All (HasNoOthers p.platform) wallets
+  wallets_no_others = all_wallets (HasNoOthers p.platform) (λ k l. l.is.no_others)
+
+  -- the notes are of this history
+  pub are_notes : AreNotes table notes
+  are_notes k note at =
+      let l = leaves k (let b = at_short notes k note at in let c = are.notes_count in omega arith) in
+      (are.each k l.end l.wallet note l.end_at l.wallet_at at).note_of.of
+
+  -- each initiator is done, in a history that has what the notes know
+  pub is_done : (all : List (HistoryEntry Content)) → Tell notes 0 all → (k : ℕ) (end : EndOf) → k < count → slice_get ends k ≡ Some end → IsDone p (events_in p.platform all) k (left_by p.platform wallets k) end
+  is_done all tell k end below at =
+      let l = leaves k below in
+      let done = (are.each k end l.wallet l.note at l.wallet_at l.note_at).done all (tell k l.note (omega arith) l.note_at) in
+      subst (λ (w : _). IsDone p (events_in p.platform all) k (λ o. left_with p.platform o w) end) (sym l.wallet_at) done
+
+module _ (table tokens : TableId) (frame : Frame Plan) (ends : List EndOf) (notes : List (Held Content Plan)) (logs : List LogView) (stores : List (List ℕ)) (seats : List (Held Content Plan)) (all : List (HistoryEntry Content))
+    (valid : IsValid frame.world) (served : IsServed frame.world.platform) (is_frame : frame ≡ frame_of frame.world) (left : HaveAllLeft table tokens frame ends notes logs stores seats)
+    (made : Frame Plan) (made_is : made ≡ frame) (merge : IsMerge seats all) (planned_made : ArePlanned made all) (tell : Tell notes 0 all) (backed_made : AreBacked Backs made.world all) where
+  abbrev p : Plan
+  p = frame.world
+
+  abbrev os : List ObjectNo
+  os = objects_of p.platform
+
+  abbrev h : List Entry
+  h = entries (events_in p.platform all)
+
+  abbrev rest : ℕ → ObjectNo → ℕ
+  rest = left_by p.platform left.wallets
 
   abbrev no_end : EndOf
   no_end = record { transactions = 0; syncs = 0; end = 0; refused = record { items = []; room = 0 } }
 
-  mine_if : (k : ℕ) → (k < length (initiators_of p)) ⊎ (length (initiators_of p) ≤ k) → List Entry
-  mine_if k (inl below) = (done_at k below).mine
-  mine_if k (inr past) = []
+  abbrev end_of : ℕ → EndOf
+  end_of k = slice_index_or ends k no_end
 
-  end_if : (k : ℕ) → (k < length (initiators_of p)) ⊎ (length (initiators_of p) ≤ k) → EndOf
-  end_if k (inl below) = (done_at k below).end
-  end_if k (inr past) = no_end
+  planned : ArePlanned frame all
+  planned = subst (λ (f : Frame Plan). ArePlanned f all) made_is planned_made
 
-  log_if : (m : ℕ) → (m < length p.platform.memories) ⊎ (length p.platform.memories ≤ m) → List Entry
-  log_if m (inl below) = (left_at m below).log.entries
-  log_if m (inr past) = []
+  backed : AreBacked Backs frame.world all
+  backed = subst (λ (f : Frame Plan). AreBacked Backs f.world all) made_is backed_made
 
-  mine_of : ℕ → List Entry
-  mine_of k = mine_if k (cases_lt k (length (initiators_of p)))
+  closed : IsClosed frame seats notes all
+  closed = record { merge = merge; planned = planned; told = tell; backed = backed }
 
-  end_of : ℕ → EndOf
-  end_of k = end_if k (cases_lt k (length (initiators_of p)))
+  acyclic : HasNoCycle p.platform
+  acyclic = shapes_law p.platform valid.shape
 
-  log_of : ℕ → List Entry
-  log_of m = log_if m (cases_lt m (length p.platform.memories))
+  have_left : HaveLeft p (events_in p.platform all) rest
+  have_left = objects_leave table frame seats notes all rest (plan_is frame is_frame) closed left.left left.handed_back
 
-  ended_if : (k : ℕ) (c : (k < length (initiators_of p)) ⊎ (length (initiators_of p) ≤ k)) → k < length (initiators_of p) → HasEnded p h k (mine_if k c) (end_if k c)
-  unfolding mine_if end_if
-  ended_if k (inl below) less = (done_at k below).is
-  ended_if k (inr past) less = absurd (omega arith)
+  initiators : length (initiators_of p) ≡ length p.platform.initiators
+  initiators = count_initiators 0 p.platform.initiators p.scripts valid.scripts
 
-  left_if : (m : ℕ) (c : (m < length p.platform.memories) ⊎ (length p.platform.memories ≤ m)) → m < length p.platform.memories → HasLeft p h m (log_if m c)
-  unfolding log_if
-  left_if m (inl below) less = (left_at m below).left
-  left_if m (inr past) less = absurd (omega arith)
+  done : (k : ℕ) → k < length (initiators_of p) → IsDone p (events_in p.platform all) k (rest k) (end_of k)
+  done k below =
+      let finished = left.finished in
+      let same = initiators in
+      let end = has_element ends k (let c = finished.ends_count in omega arith) in
+      let here : end_of k ≡ end.element = get_or_from_slice_get ends k end.element no_end end.at in
+      subst (IsDone p (events_in p.platform all) k (rest k)) (sym here) (is_done table tokens p (length p.platform.initiators) ends left.wallets notes finished all tell k end.element (omega arith) end.at)
 
-  have_ended : HaveEnded p h mine_of end_of log_of
-  unfolding mine_of end_of log_of
-  have_ended = record {
-    numbered = numbered;
-    placed = placed_at;
-    initiators = λ k below. ended_if k (cases_lt k (length (initiators_of p))) below;
-    memories = λ m below. left_if m (cases_lt m (length p.platform.memories)) below;
-  }
+  -- the whole run has ended
+  whole_run : HasEndedWhole p (events_in p.platform all) rest end_of
+  whole_run = initiators_end p (events_in p.platform all) rest end_of acyclic have_left done
+
+  grants : KeepsGrants p h × EndsGrants p h
+  grants = let w = whole_run in ungranted_has_grants p (events_in p.platform all) w.issued w.ends w.calls w.mine rest (no_direct p served) (no_invalidation p valid) acyclic w.ended w.was_issued
 
   pub good : IsGood p h
-  good = history_is_good p h mine_of end_of log_of have_ended (no_fourphase p served) (no_direct p served) (no_invalidation p valid)
+  good = let w = whole_run in ended_is_good p (events_in p.platform all) w.issued w.ends w.calls w.mine rest acyclic w.ended w.was_issued grants.0 grants.1
 
-  end_is : (k : ℕ) (c : (k < length (initiators_of p)) ⊎ (length (initiators_of p) ≤ k)) (end : EndOf) → slice_get ends k ≡ Some end → end_if k c ≡ end
-  unfolding end_if
-  end_is k (inl below) end at = let there = (done_at k below).at in cc
-  end_is k (inr past) end at = let less = within ends k end at in let c = finished.ends_count in let n = initiators in absurd (omega arith)
+  pub core : IsCoreRun p h
+  core n = let w = whole_run in ended_is_sound p (events_in p.platform all) w.issued w.ends w.calls w.mine rest acyclic w.ended w.was_issued grants.0 n
 
-  -- the logs, merged, are the history
+  below_all : (e : HistoryEntry Content) → Has all e → e.object < length os
+  below_all = is_there frame all (plan_is frame is_frame) planned
+
+  -- each log is the part of its object
+  part_at : (k : ℕ) (o : ObjectNo) (log : LogView) → slice_get os k ≡ Some o → slice_get logs k ≡ Some log → entries_at o h ≡ log.entries
+  part_at k o log here at =
+      let seat = item_there seats k (let b = within logs k log at in let c = left.logs_left.count in omega arith) in
+      let is = left.logs_left.each k o log seat.item here at seat.at in
+      part_left table frame all below_all k o seat.item is.left here (merge.1 k seat.item seat.at) ∙ sym is.log_is
+
   pub merged_all : merged (entries_of_logs logs) ≡ h
-  merged_all =
-      let rising = (rising_from 0 h numbered).0 in
-      merged_is h (entries_of_logs logs) rising
-      (λ k log at. let found = log_at k log at in subst (λ (l : List Entry). Rattle.joined_runs.specs.Counting.IsRising position_of l × Within l h) found
-      (IsRising-filter (λ (e : Entry). is_object (Memory k) e.object) position_of h rising, λ e has. (has_kept (λ (x : Entry). is_object (Memory k) x.object) h e has).0))
-      (λ e has.
-      let place = placed_at e has in
-      let left = left_at place.0 place.1 in (
-        place.0,
-        left.log.entries,
-        at_map (λ (l : LogView). l.entries) logs place.0 left.log left.at,
-        subst (λ (l : List Entry). Has l e) left.left.part (kept_has (λ (x : Entry). is_object (Memory place.0) x.object) h e has (ap (is_object (Memory place.0)) place.2 ∙ eq-eqb place.0 place.0 refl)),
-      ))
-      (λ j k a b x y first second has_x has_y same.
-      let x_in = has_kept (λ (e : Entry). is_object (Memory j) e.object) h x (subst (λ (l : List Entry). Has l x) (sym (log_at j a first)) has_x) in
-      let y_in = has_kept (λ (e : Entry). is_object (Memory k) e.object) h y (subst (λ (l : List Entry). Has l y) (sym (log_at k b second)) has_y) in
-      let x_at = placed_at x x_in.0 in
-      let y_at = placed_at y y_in.0 in
-      let x_is : x_at.0 ≡ j = eqb-true x_at.0 j (ap (is_object (Memory j)) (sym x_at.2) ∙ x_in.1) in
-      let y_is : y_at.0 ≡ k = eqb-true y_at.0 k (ap (is_object (Memory k)) (sym y_at.2) ∙ y_in.1) in
-      let one : y ≡ x = one_entry y x y_in.0 x_in.0 same in
-      let objects : y_at.0 ≡ x_at.0 = same_memory y_at.0 x_at.0 (sym y_at.2 ∙ (ap (λ (e : Entry). e.object) one ∙ x_at.2)) in
-      sym x_is ∙ (sym objects ∙ y_is))
+  merged_all = merged_parts h os (entries_of_logs logs) have_left.numbered
+      (length-map logs (λ (log : LogView). log.entries) ∙ (left.logs_left.count ∙ left.left.count))
+      (λ j k o first second. stands_once p.platform j o first ∙ sym (stands_once p.platform k o second))
+      (λ k o log here at.
+      let found = has_element logs k (let b = within (entries_of_logs logs) k log at in omega (arith, length-map logs (λ (l : LogView). l.entries))) in
+      part_at k o found.element here found.at ∙ same_list found.element.entries log (sym (at_map (λ (l : LogView). l.entries) logs k found.element found.at) ∙ at))
+      (object_read p.platform all below_all)
     where
-      log_at : (k : ℕ) (log : List Entry) → slice_get (entries_of_logs logs) k ≡ Some log → entries_at (Memory k) h ≡ log
-      log_at k log at =
-          let below : k < length p.platform.memories = (let b = within (entries_of_logs logs) k log at in let c = done.logs_count in omega (arith, length-map logs (λ (l : LogView). l.entries))) in
-          let left = left_at k below in
-          let here : slice_get (entries_of_logs logs) k ≡ Some left.log.entries = at_map (λ (l : LogView). l.entries) logs k left.log left.at in
-          let same : left.log.entries ≡ log = cc in
-          left.left.part ∙ same
+      same_list : (a b : List Entry) → Some a ≡ Some b → a ≡ b
+      same_list a b q = cc
 
-      same_memory : (m n : ℕ) → Memory m ≡ Memory n → m ≡ n
-      same_memory m n q = cc
-
-      one_entry : (x y : Entry) → Has h x → Has h y → x.position ≡ y.position → x ≡ y
-      one_entry x y has_x has_y same =
-          let at_x : has_x.0 ≡ x.position = place_of x has_x in
-          let at_y : has_y.0 ≡ y.position = place_of y has_y in
-          at_once h has_y.0 x y (subst (λ (k : ℕ). get_elem? h k ≡ some x) (at_x ∙ (same ∙ sym at_y)) has_x.1) has_y.1
-        where
-          place_of : (e : Entry) (has : Has h e) → has.0 ≡ e.position
-          place_of e has = let from : 0 + has.0 ≡ e.position = place_from 0 h numbered has.0 e has.1 in omega arith
-            where
-              place_from : (n : ℕ) (l : List Entry) → IsNumberedFrom n l → (k : ℕ) (e : Entry) → get_elem? l k ≡ some e → n + k ≡ e.position
-              place_from n [] is k e at = absurd (some-ne-none e (sym at))
-              place_from n (x ∷ l) is zero e at = let first = is.0 in let same = ap position_of (some-injective x e at) in omega arith
-              place_from n (x ∷ l) is (suc k) e at = let rest = place_from (n + 1) l is.1 k e at in omega arith
+  -- the bytes of a memory are those that the history leaves there
+  bytes_at : (m : ℕ) (bytes : List ℕ) → slice_get stores m ≡ Some bytes → bytes ≡ last_store p.platform h m
+  bytes_at m bytes at =
+      let below : m < length p.platform.memories = (let b = within stores m bytes at in let c = left.stores_are.count in omega arith) in
+      let here = memory_there p.platform m below in
+      let row = has_element p.platform.memories m below in
+      let log = has_element logs m (let b = within os m (Memory m) here in let c = left.logs_left.count in let d = left.left.count in omega arith) in
+      left.stores_are.each m row.element log.element bytes row.at log.at at
+      ∙ (ap (λ (l : List Entry). Rattle.tlm_model.specs.Log.log_bytes row.element.traits l) (sym (part_at m (Memory m) log.element here log.at))
+      ∙ sym (logs_make_last_store p.platform h m row.element row.at))
 
   -- the outcome is that of a whole run
   pub whole : (o : Outcome) → o.history.entries ≡ merged (entries_of_logs logs) → o.stores ≡ stores → o.ends ≡ ends → o.complete ≡ true → IsWhole p o
-  unfolding end_of
   whole o history stored ended complete =
       let same : h ≡ o.history.entries = sym (history ∙ merged_all) in
+      let finished = left.finished in
       record {
         complete = complete;
         good = subst (IsGood p) same good;
         reportable = record {
           scripts = valid.scripts;
-          memories = ap length stored ∙ done.stores_count;
-          stores = λ m bytes at.
-              let here : slice_get stores m ≡ Some bytes = subst (λ (l : List (List ℕ)). slice_get l m ≡ Some bytes) stored at in
-              let left = left_at m (let b = within stores m bytes here in let c = done.stores_count in omega arith) in
-              let there = left.stored in
-              let is : left.bytes ≡ bytes = cc in
-              sym is ∙ (left.bytes_are ∙ ap (λ (l : List Entry). last_store p.platform l m) same);
+          memories = ap length stored ∙ left.stores_are.count;
+          stores = λ m bytes at. bytes_at m bytes (subst (λ (l : List (List ℕ)). slice_get l m ≡ Some bytes) stored at) ∙ ap (λ (l : List Entry). last_store p.platform l m) same;
           initiators = ap length ended ∙ finished.ends_count;
           ends = λ n i end mine at.
               let here : slice_get ends n ≡ Some end = subst (λ (l : List EndOf). slice_get l n ≡ Some end) ended at in
-              let by = ended_as p h mine_of end_of log_of have_ended n i mine in
-              let is = (ends_by_latencies p i h (end_of n) (blocking_apart i.row.style (blocking_at p served n i mine))).1 by in
-              subst (λ (l : List Entry). IsEndOf p i l end) same (subst (IsEndOf p i h) (end_is n (cases_lt n (length (initiators_of p))) end here) is);
+              let is : IsEndOf p i h (end_of n) = whole_run.ends_are n i mine in
+              subst (λ (l : List Entry). IsEndOf p i l end) same (subst (IsEndOf p i h) (get_or_from_slice_get ends n end no_end here) is);
         };
       }
 
--- the same by what is known where the history is closed, with its seats in one list and with what it was made with
-module _ (p : Plan) (table : TableId) (frame made : Frame Plan) (ends : List EndOf) (notes : List (Held Content Plan)) (logs : List LogView) (stores : List (List ℕ)) (seats more joined : List (Held Content Plan)) (all : List (HistoryEntry Content))
-    (valid : IsValid p) (served : IsServed p.platform) (is_frame : frame ≡ frame_of p)
-    (finished : AreFinished table p (length p.platform.initiators) ends notes) (done : AreDoneWith table frame (length p.platform.memories) logs stores seats)
-    (fresh : AreUnusedFrom table frame (length p.platform.memories) more) (count : length more + length p.platform.memories ≡ length frame.planned)
-    (joined_is : joined ≡ seats ++ more) (made_is : made ≡ frame)
-    (merge : IsMerge joined all) (planned : ArePlanned made all) (tell : Tell notes 0 all) where
-  merge_is : IsMerge (seats ++ more) all
-  merge_is = subst (λ (l : List (Held Content Plan)). IsMerge l all) joined_is merge
+  pub core_is : (l : List Entry) → l ≡ merged (entries_of_logs logs) → IsCoreRun p l
+  core_is l is = subst (IsCoreRun p) (sym (is ∙ merged_all)) core
 
-  planned_is : ArePlanned frame all
-  planned_is = subst (λ (f : Frame Plan). ArePlanned f all) made_is planned
+  pub numbered : IsNumbered (merged (entries_of_logs logs))
+  numbered = subst IsNumbered (sym merged_all) have_left.numbered
 
-  pub merged_closed : merged (entries_of_logs logs) ≡ entries_read all
-  merged_closed = merged_all p table frame ends notes logs stores seats more all valid served is_frame finished done fresh count merge_is planned_is tell
+  pub counted : (n : ℕ) → n ≡ length all → n ≡ length (merged (entries_of_logs logs))
+  counted n is = is ∙ (sym (length-map all (entry_read p.platform)) ∙ ap length (sym (merged_all ∙ as_read p.platform all)))
 
-  pub numbered_closed : IsNumbered (merged (entries_of_logs logs))
-  numbered_closed = subst IsNumbered (sym merged_closed) (numbered p table frame ends notes logs stores seats more all valid served is_frame finished done fresh count merge_is planned_is tell)
-
-  pub count_closed : (n : ℕ) → n ≡ length all → n ≡ length (merged (entries_of_logs logs))
-  count_closed n is = is ∙ (sym (length-map all entry_read) ∙ ap length (sym merged_closed))
-
-  pub whole_closed : (o : Outcome) → o.history.entries ≡ merged (entries_of_logs logs) → o.stores ≡ stores → o.ends ≡ ends → o.complete ≡ true → IsWhole p o
-  whole_closed = whole p table frame ends notes logs stores seats more all valid served is_frame finished done fresh count merge_is planned_is tell
+  pub read_all : (l : List Entry) → l ≡ merged (entries_of_logs logs) → entries_read p.platform all ≡ l
+  read_all l is = sym (is ∙ (merged_all ∙ as_read p.platform all))

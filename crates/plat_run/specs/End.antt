@@ -1,44 +1,44 @@
--- What an initiator that has finished leaves, and what a memory leaves.
-use Rattle.std.specs.Prelude.{ℕ, ◌≡◌, ◌<◌, ◌≤◌, List, length, Some, slice_get}
-use Rattle.view_lists.specs.Lists.{Has, Within}
+-- What jobs leave that have finished, and what is left once all have.
+use Rattle.std.specs.Prelude.{ℕ, ◌≡◌, List, length, Some, slice_get}
+use mathlib.Core.Option.{some}
+use lib.ListN.{get_elem?}
+use Rattle.atomic_table.specs.Seated.{TableId}
+use Rattle.view_lists.specs.Lists.{Within}
+use Rattle.one_history.specs.declared.entry.Entry.{Entry as HistoryEntry}
+use Rattle.one_history.specs.declared.view.Frame.{Frame}
+use Rattle.one_history.specs.Held.{Held}
+use Rattle.token_book.specs.Purse.{Purse, IsOf, left_of}
+use Rattle.shared_object.specs.Steps.{IsNote}
 use Rattle.tlm_types.specs.declared.ends.EndOf.{EndOf}
-use Rattle.tlm_types.specs.declared.entry.Entry.{Entry}
-use Rattle.tlm_types.specs.declared.words.ObjectNo.TheVariants.{Memory}
-use Rattle.tlm_model.specs.declared.platform.MemoryRow.{MemoryRow}
-use Rattle.tlm_model.specs.History.{IsNumbered, entries_at}
-use Rattle.tlm_model.specs.Log.{IsLog}
-use Rattle.tlm_model.specs.Plan.{Plan, Initiator, initiators_of}
-use Rattle.report_model.specs.Laws.{IsEndByLatencies}
-use Rattle.good_history.specs.Laws.{AllDecoupled}
-use Rattle.joined_runs.specs.Counting.{IsRising}
-use Rattle.joined_runs.specs.Joined.{EndsOwn, KeepsOwn}
-use Rattle.route_plan.specs.Counted.{share_at}
-use Rattle.route_plan.specs.Planned.{planned_at}
-use Rattle.plat_run.specs.Job.{owner_of, position_of}
+use Rattle.tlm_types.specs.declared.entry.Content.{Content}
+use Rattle.tlm_types.specs.Log.{LogView}
+use Rattle.tlm_model.specs.Plan.{Plan}
+use Rattle.cargo_model.specs.Known.{object_number}
+use Rattle.net_end.specs.Closed.{AreHandedBack, AreLeft, events_in}
+use Rattle.net_end.specs.Finished.{IsDone}
+use Rattle.plat_end.specs.Apart.{AreStores, HasNoOthers, HaveLeftLogs, left_by}
 
--- Initiator k has finished. These are its own entries, of which the history has at least these, and they are as many at each
--- memory as the plan counts.
-pub record HasEnded (p : Plan) (h : List Entry) (k : ℕ) (mine : List Entry) (end : EndOf) : Type 0 where
-  pub initiator : Initiator
-  pub at : slice_get (initiators_of p) k ≡ Some initiator
-  pub rising : IsRising position_of mine
-  pub within : Within mine h
-  pub own : (e : Entry) → Has mine e → owner_of e ≡ k
-  pub keeps : KeepsOwn p mine
-  pub decoupled : AllDecoupled mine
-  pub ended : EndsOwn p.platform initiator mine
-  pub end_is : IsEndByLatencies p.platform initiator mine end
-  pub all : (m : ℕ) → m < length p.platform.memories → length (entries_at (Memory m) mine) ≡ share_at p k (Memory m)
+-- Initiator k has finished, with this end, and leaves its note and its wallet. In each history that has what the note knows, all of its script is
+-- done, by its style, with the tickets that the wallet has left.
+pub record IsFinished (table tokens : TableId) (p : Plan) (k : ℕ) (end : EndOf) (note : Held Content Plan) (wallet : Purse) : Type 0 where
+  pub note_of : IsNote table note
+  pub wallet_of : IsOf tokens wallet
+  pub no_others : HasNoOthers p.platform wallet
+  pub done : (all : List (HistoryEntry Content)) → Within note.knows.known all → IsDone p (events_in p.platform all) k (λ o. left_of wallet (object_number p.platform o)) end
 
--- A memory leaves its lawful log, which is its part of the history, and has no more entries than planned.
-pub record HasLeft (p : Plan) (h : List Entry) (m : ℕ) (log : List Entry) : Type 0 where
-  pub part : entries_at (Memory m) h ≡ log
-  pub lawful : (row : MemoryRow) → slice_get p.platform.memories m ≡ Some row → IsLog row.traits log
-  pub few : length log ≤ planned_at p (Memory m)
+-- so many initiators have: these are their ends, their wallets and their notes, in order
+pub record AreFinished (table tokens : TableId) (p : Plan) (count : ℕ) (ends : List EndOf) (wallets : List Purse) (notes : List (Held Content Plan)) : Type 0 where
+  pub ends_count : length ends ≡ count
+  pub wallets_count : length wallets ≡ count
+  pub notes_count : length notes ≡ count
+  pub each : (k : ℕ) (end : EndOf) (wallet : Purse) (note : Held Content Plan) → slice_get ends k ≡ Some end → slice_get wallets k ≡ Some wallet → get_elem? notes k ≡ some note → IsFinished table tokens p k end note wallet
 
--- All initiators have finished, and all memories are done with. No entry stands anywhere else.
-pub record HaveEnded (p : Plan) (h : List Entry) (mine : ℕ → List Entry) (ends : ℕ → EndOf) (logs : ℕ → List Entry) : Type 0 where
-  pub numbered : IsNumbered h
-  pub placed : (e : Entry) → Has h e → (m : ℕ) × (m < length p.platform.memories) × (e.object ≡ Memory m)
-  pub initiators : (k : ℕ) → k < length (initiators_of p) → HasEnded p h k (mine k) (ends k)
-  pub memories : (m : ℕ) → m < length p.platform.memories → HasLeft p h m (logs m)
+-- All initiators have finished, and all objects of the net are taken apart: these are their logs, the bytes of the memories and their seats. Before,
+-- the initiators had these wallets.
+pub record HaveAllLeft (table tokens : TableId) (frame : Frame Plan) (ends : List EndOf) (notes : List (Held Content Plan)) (logs : List LogView) (stores : List (List ℕ)) (seats : List (Held Content Plan)) : Type 0 where
+  pub wallets : List Purse
+  pub finished : AreFinished table tokens frame.world (length frame.world.platform.initiators) ends wallets notes
+  pub left : AreLeft table frame seats
+  pub logs_left : HaveLeftLogs table frame logs seats
+  pub stores_are : AreStores frame.world.platform logs stores
+  pub handed_back : AreHandedBack frame seats (left_by frame.world.platform wallets)

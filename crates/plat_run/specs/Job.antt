@@ -23,6 +23,7 @@ use Rattle.route_plan.specs.Shape.{IsServed}
 use Rattle.route_plan.specs.Valid.{IsValid}
 use Rattle.initiator_run.specs.Left.{asks_left, bytes_left}
 use Rattle.initiator_run.specs.Run.{Run}
+use Rattle.plat_end.specs.Apart.{HasNoOthers}
 use Rattle.plat_run.specs.Entries.{entries_read}
 
 -- where an entry stands
@@ -37,7 +38,7 @@ owner_of e = e.txn.initiator
 -- it is.
 pub record HasMade (p : Plan) (i : Initiator) (r : Run) (v : View Content Plan) (mine : List Entry) : Type 0 where
   pub rising : IsRising position_of mine
-  pub known : Within mine (entries_read v.known)
+  pub known : Within mine (entries_read p.platform v.known)
   pub below : (e : Entry) → Has mine e → e.position < v.seen
   pub own : (e : Entry) → Has mine e → owner_of e ≡ r.engine.initiator
   pub come : HasCome p.platform i mine r
@@ -60,6 +61,7 @@ pub record IsInitiator (p : Plan) (r : Run) (v : View Content Plan) (w : Purse) 
   pub is : slice_get (initiators_of p) r.engine.initiator ≡ Some initiator
   pub made : HasMade p initiator r v mine
   pub tickets : (m : ℕ) → m < length p.platform.memories → HasTickets p initiator r w mine m
+  pub no_others : HasNoOthers p.platform w
   pub finished : r.finished ≡ true → op_of r.engine ≡ next.Done
 
 -- It is of this history and of these tokens.

@@ -2,12 +2,11 @@
 ghost use Rattle.std.specs.Prelude.{◌≡◌, ◌≢◌, ◌↔◌, true};
 ghost use Rattle.initiator_run.specs.Steps.{StepsOnce};
 ghost use Rattle.plat_run.specs.Actors.{is_done, number_of};
-ghost use Rattle.plat_run.specs.Run.{HandsIn};
+ghost use Rattle.plat_run.specs.End.{IsFinished};
 ghost use Rattle.plat_run.specs.Turn.{is_held_back, run_of};
 
 use crate::initiator::BlockingInitiator;
 use crate::turn::Turn;
-use initiator_run::InitiatorRun;
 use outside::Pace;
 use plat_net::{PlatNote, Reach, TlmLaw};
 use route_plan::Plan;
@@ -16,6 +15,8 @@ use shared_object::Naming;
 use std::alloc::Global;
 use std::sync::Wait;
 use time_board::Board;
+use tlm_types::EndOf;
+use token_book::Wallet;
 
 /// A job of a run.
 // It is in a box, so that workers hand on the box alone and a turn works in place.
@@ -62,15 +63,13 @@ impl<N: Naming<Plan, TlmLaw>> Actor<N> {
         }
     }
 
-    /// The run of an initiator, and its note.
-    pub fn into_parts(self) -> (InitiatorRun, PlatNote)
-        ensures { HandsIn N.table N.frame.world (number_of self) (is_done self) result.0 result.1 }
+    /// What a job leaves that has finished: how its initiator ended, its wallet, and its note.
+    pub fn finish(self) -> (EndOf, Wallet, PlatNote)
+        requires { is_done self ≡ true }
+        ensures { IsFinished N.table N.tokens N.frame.world (number_of self) result.0 result.2 result.1 }
     {
         match self {
-            Actor::Blocking(job) => {
-                let (run, note, _) = Box::into_inner(job).into_parts();
-                (run, note)
-            }
+            Actor::Blocking(job) => Box::into_inner(job).finish(),
         }
     }
 }

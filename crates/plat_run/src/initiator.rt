@@ -1,9 +1,9 @@
 // A blocking initiator as a job.
 ghost use Rattle.std.specs.Prelude.{◌≡◌, ◌≢◌, ◌↔◌, true, length};
-ghost use Rattle.shared_object.specs.Steps.{IsNote};
 ghost use Rattle.initiator_run.specs.Moves.{HasReached};
 ghost use Rattle.initiator_run.specs.Steps.{StepsOnce};
-ghost use Rattle.plat_run.specs.Job.{IsInitiator, IsJob};
+ghost use Rattle.plat_run.specs.End.{IsFinished};
+ghost use Rattle.plat_run.specs.Job.{IsJob};
 ghost use Rattle.plat_run.specs.Turn.{is_held_back};
 
 use crate::send::send;
@@ -18,6 +18,7 @@ use shared_object::Naming;
 use std::marker::{Model, PhantomData};
 use std::sync::Wait;
 use time_board::{Advance, Board};
+use tlm_types::EndOf;
 use token_book::Wallet;
 
 /// A blocking initiator under way, with its payload, its note and its wallet. Contracts see its run.
@@ -76,11 +77,10 @@ impl<N: Naming<Plan, TlmLaw>> BlockingInitiator<N> {
         }
     }
 
-    /// Its run, its note and its wallet.
-    pub fn into_parts(self) -> (InitiatorRun, PlatNote, Wallet)
-        ensures run { result.0 ≡ self }
-        ensures note { IsNote N.table result.1 }
-        ensures is { IsInitiator N.frame.world self result.1.knows result.2 }
+    /// What it leaves where it has finished: how it ended, its wallet, and its note.
+    pub fn finish(self) -> (EndOf, Wallet, PlatNote)
+        requires { self.finished ≡ true }
+        ensures { IsFinished N.table N.tokens N.frame.world self.engine.initiator result.0 result.2 result.1 }
     {
         let BlockingInitiator {
             run,
@@ -89,7 +89,7 @@ impl<N: Naming<Plan, TlmLaw>> BlockingInitiator<N> {
             wallet,
             of: _,
         } = self;
-        (run, note.unwrap(), wallet)
+        (run.into_end(), wallet, note.unwrap())
     }
 
     /// At most one access or debug read, or one other operation, and the sync that is due after it. If the

@@ -1,24 +1,25 @@
 // The run of a net.
-ghost use Rattle.std.specs.Prelude.{◌≡◌, ◌+◌, true, length, All, IfOk};
+ghost use Rattle.std.specs.Prelude.{◌≡◌, true, length, All, IfOk};
 ghost use Rattle.run_queue.specs.Queue.{AreNumbered};
 ghost use Rattle.plat_build.specs.Kept.{all_waiting};
 ghost use Rattle.plat_net.specs.Objects.{frame_of};
-ghost use Rattle.plat_build.specs.Unused.{AreUnusedFrom};
 ghost use Rattle.route_plan.specs.Shape.{IsServed};
 ghost use Rattle.route_plan.specs.Valid.{IsValid};
 ghost use Rattle.run_outcome.specs.Outcome.{IsWhole};
 ghost use Rattle.plat_run.specs.Actors.{is_done, number_of};
+ghost use Rattle.plat_run.specs.End.{HaveAllLeft};
 ghost use Rattle.plat_run.specs.Entries.{entries_read};
-ghost use Rattle.plat_run.specs.Run.{AreDoneWith, AreFinished, IsCoreRun};
+ghost use Rattle.plat_run.specs.Run.{IsCoreRun};
 
 use crate::actor::Actor;
 use crate::begin::begin_jobs;
-use crate::ending::{DoneWith, HandedIn, hand_in, take_apart};
+use crate::ending::{HandedIn, hand_in};
 use crate::workers::{work_all, work_alone};
 use one_history::{Closed, Sealed};
 use outside::Pace;
-use plat_build::{Built, Opened, build, idle_seats};
-use plat_net::{Net, NetParts, PlatHistory, PlatNote, PlatSeat, TlmLaw};
+use plat_build::{Built, Opened, build};
+use plat_end::{Apart, take_apart};
+use plat_net::{Net, NetParts, PlatHistory, PlatNote, TlmLaw};
 use route_plan::Plan;
 use run_outcome::{MergedLog, Outcome};
 use run_queue::RunQueue;
@@ -50,7 +51,7 @@ pub fn run<N: Naming<Plan, TlmLaw> + Send + Sync, P: Pace + Sync, R: Threads + W
     requires served { IsServed built.net.platform }
     ensures whole { IfOk result (λ r. IsWhole built.net r.0) }
     ensures core { IfOk result (λ r. IsCoreRun built.net r.0.history.entries) }
-    ensures sealed { IfOk result (λ r. entries_read r.1.entries ≡ r.0.history.entries) }
+    ensures sealed { IfOk result (λ r. entries_read built.net.platform r.1.entries ≡ r.0.history.entries) }
     ensures world { IfOk result (λ r. (r.1.table ≡ N.table) × (r.1.world ≡ built.net)) }
 {
     let Built { mut net, mut kept } = built;
@@ -58,17 +59,21 @@ pub fn run<N: Naming<Plan, TlmLaw> + Send + Sync, P: Pace + Sync, R: Threads + W
     let count = net.plan().platform().initiators.as_slice().len() as u32;
     let board = Board::new(alloc, count)?;
     let jobs = finish_jobs(rt, alloc, &mut net, &board, pace, jobs, count, workers)?;
-    let HandedIn { ends, notes } = hand_in(alloc, jobs)?;
+    let handed = hand_in(alloc, jobs)?;
+    let HandedIn {
+        ends,
+        mut wallets,
+        notes,
+    } = handed;
     let NetParts {
         history,
-        tickets: _,
+        tickets,
         memories,
         hops,
         pools,
     } = net.into_parts();
-    let seats = idle_seats(rt, alloc, memories.len(), hops, pools)?;
-    let done = take_apart(rt, alloc, memories)?;
-    finish::<N>(history, ends, notes, done, seats)
+    let apart = take_apart(rt, alloc, &tickets, memories, hops, pools, &mut wallets)?;
+    finish::<N>(history, ends, notes, apart)
 }
 
 // Gives turns to these jobs, which are so many, by so many workers, until all have finished. Its only error
@@ -112,7 +117,7 @@ pub fn run_plan<P: Pace + Sync, R: Threads + Wait + Sync>(
     requires { IsServed plan.now.platform }
     ensures whole { IfOk result (λ r. IsWhole plan.now r.0) }
     ensures core { IfOk result (λ r. IsCoreRun plan.now r.0.history.entries) }
-    ensures sealed { IfOk result (λ r. entries_read r.1.entries ≡ r.0.history.entries) }
+    ensures sealed { IfOk result (λ r. entries_read plan.now.platform r.1.entries ≡ r.0.history.entries) }
     ensures world { IfOk result (λ r. r.1.world ≡ plan.now) }
 {
     let opened = Opened::new(alloc, plan)?;
@@ -134,41 +139,36 @@ fn run_opened<N: Naming<Plan, TlmLaw> + Send + Sync, P: Pace + Sync, R: Threads 
     requires served { IsServed plan.now.platform }
     ensures whole { IfOk result (λ r. IsWhole plan.now r.0) }
     ensures core { IfOk result (λ r. IsCoreRun plan.now r.0.history.entries) }
-    ensures sealed { IfOk result (λ r. entries_read r.1.entries ≡ r.0.history.entries) }
+    ensures sealed { IfOk result (λ r. entries_read plan.now.platform r.1.entries ≡ r.0.history.entries) }
     ensures world { IfOk result (λ r. r.1.world ≡ plan.now) }
 {
     let built = build::<N>(alloc, opened, plan)?;
     run::<N, P, R>(rt, alloc, built, workers, pace)
 }
 
-// Seals the history, and makes the outcome of what the jobs and the memories have left. Its only error is
+// Seals the history, and makes the outcome of what the jobs and the objects have left. Its only error is
 // want of memory.
 fn finish<N: Naming<Plan, TlmLaw>>(
     history: PlatHistory,
     ends: Vec<EndOf>,
     notes: Vec<PlatNote>,
-    done: DoneWith,
-    mut more: Vec<PlatSeat>,
+    apart: Apart,
 ) -> Result<(Outcome, PlatSealed), Memory>
     requires history { (history.table ≡ N.table) × (history.frame ≡ N.frame) }
     requires frame { N.frame ≡ frame_of N.frame.world }
     requires valid { IsValid N.frame.world }
     requires served { IsServed N.frame.world.platform }
-    requires finished { AreFinished N.table N.frame.world (length N.frame.world.platform.initiators) ends.items notes.items }
-    requires done { AreDoneWith N.table N.frame (length N.frame.world.platform.memories) done.logs.items done.stores.items done.seats.items }
-    requires idle { AreUnusedFrom N.table N.frame (length N.frame.world.platform.memories) more.items }
-    requires count { length more.items + length N.frame.world.platform.memories ≡ length N.frame.planned }
+    requires left { HaveAllLeft N.table N.tokens N.frame ends.items notes.items apart.logs.items apart.stores.items apart.seats.items }
     ensures whole { IfOk result (λ r. IsWhole N.frame.world r.0) }
     ensures core { IfOk result (λ r. IsCoreRun N.frame.world r.0.history.entries) }
-    ensures sealed { IfOk result (λ r. entries_read r.1.entries ≡ r.0.history.entries) }
+    ensures sealed { IfOk result (λ r. entries_read N.frame.world.platform r.1.entries ≡ r.0.history.entries) }
     ensures world { IfOk result (λ r. (r.1.table ≡ N.table) × (r.1.world ≡ N.frame.world)) }
 {
-    let DoneWith {
+    let Apart {
         logs,
         stores,
-        mut seats,
-    } = done;
-    seats.append(&mut more)?;
+        seats,
+    } = apart;
     let Closed::Done(sealed) = history.close(seats, notes) else {
         unreachable!()
     };

@@ -2,8 +2,7 @@
 use Rattle.std.proofs.Common.{◌≡◌, ℕ, ◌+◌, ◌*◌, ◌<◌, ◌≤◌, Bool, true, false, List, [], ◌∷◌, length, get_or, sum_by, Option, Some, slice_get, nat_lt, Result, Ok, Err, refl, sym, ap, subst, ◌∙◌, add-one, mul-zero, zero-add, arith}
 use Rattle.std.specs.Prelude.{All, codes, if◌then◌else◌}
 use Rattle.std.specs.List.{range_with_len}
-use Rattle.std.proofs.lemmas.Bool.{false≢true, ltb-false}
-use Rattle.std.proofs.lemmas.List.Elements.{All-head, All-tail}
+use Rattle.std.proofs.lemmas.Bool.{ltb-false}
 use Rattle.std.proofs.lemmas.List.Folds.{fold-map}
 use Rattle.std.proofs.lemmas.List.FromFn.{get_or-map-range_with_len, get_or-range_with_len, length-map-range_with_len, length-range_with_len}
 use Rattle.std.proofs.lemmas.List.Sums.{get_or-le-sum_by, sum_by-cons}
@@ -19,21 +18,19 @@ use Rattle.tlm_types.specs.declared.words.ObjectNo.TheVariants.{Memory, Hop, Poo
 use Rattle.tlm_model.specs.declared.operation.Operation.{Operation}
 use Rattle.tlm_model.specs.declared.platform.InitiatorRow.{InitiatorRow}
 use Rattle.tlm_model.specs.declared.platform.Platform.{Platform}
-use Rattle.tlm_model.specs.declared.platform.Style.{Style}
-use Rattle.tlm_model.specs.declared.platform.Style.TheVariants.{Blocking, Direct, FourPhase}
 use Rattle.tlm_model.specs.declared.ask.Ask.{Ask}
 use Rattle.tlm_model.specs.declared.ask.Ask.TheVariants.{Access as AnAccess, DebugRead as ADebugRead, Invalidation as AnInvalidation}
-use Rattle.tlm_model.specs.Plan.{Plan, Initiator, initiators_from, initiators_of}
+use Rattle.tlm_model.specs.Plan.{Plan, Initiator, initiators_of}
 use Rattle.route_plan.specs.declared.shares.Share.{Share}
 use Rattle.route_plan.specs.Counted.{logged_share_at, logged_share_by, share_at, share_by}
 use Rattle.route_plan.specs.Paths.{once}
 use Rattle.route_plan.specs.Places.{object_at, object_count}
-use Rattle.route_plan.specs.Planned.{asks_in, at_hop, at_pool, by_fourphase, is_routed_to, logged_at, logged_bytes, logged_share, planned_at, share_of}
+use Rattle.route_plan.specs.Planned.{asks_in, is_routed_to, logged_at, logged_bytes, logged_share, planned_at}
 use Rattle.route_plan.specs.Shape.{IsServed, checked_served, checked_style, style_is_built}
 use Rattle.route_plan.specs.Shares.{checked_shares, entries_in, logged_in, object_shares, pair_share, shares_of, with_scripts}
 use Rattle.route_plan.specs.Valid.{IsObject, checked_plan, hop_count, logged_in_all, most_entries, most_logged, planned, planned_in_all}
 use Rattle.route_plan.proofs.PlaceLemmas.{hop_at, memory_at, pool_at, shifted, sum_places}
-use Rattle.route_plan.proofs.ShareLemmas.{count_initiators, numbered}
+use Rattle.route_plan.proofs.ShareLemmas.{count_initiators}
 use Rattle.route_plan.proofs.WayLemmas.{none_in, walk_within}
 
 -- a sum over the numbers of elements is one over the elements
@@ -181,41 +178,3 @@ served_by_rows rows done passed = rows_passed (λ (i : InitiatorRow). style_is_b
 pub served_by_test : (p : Platform) → checked_served p ≡ Ok tt → IsServed p
 unfolding checked_served
 served_by_test p h = bind_ok (rows_from checked_style 0 p.initiators) _ _ h (λ done passed h1. served_by_rows p.initiators done passed)
-
--- where each style is built, nothing is planned at hops and pools
-built_adds_none : (s : Style) (n : ℕ) → style_is_built s ≡ true → by_fourphase s n ≡ 0
-built_adds_none Blocking n e = refl
-built_adds_none Direct n e = refl
-built_adds_none FourPhase n e = absurd (false≢true e)
-
-if_none : (b : Bool) (n : ℕ) → n ≡ 0 → (if b then n else 0) ≡ 0
-if_none true n e = e
-if_none false n e = refl
-
-none_at_hop : (plan : Plan) (i : Initiator) (h : ℕ) → style_is_built i.row.style ≡ true → (ask : Ask) → at_hop plan i h ask ≡ 0
-none_at_hop plan i h e (AnAccess a n) = built_adds_none i.row.style _ e
-none_at_hop plan i h e (ADebugRead a n) = refl
-none_at_hop plan i h e (AnInvalidation a) = refl
-
-none_at_pool : (plan : Plan) (i : Initiator) (n : ℕ) → style_is_built i.row.style ≡ true → (ask : Ask) → at_pool plan i n ask ≡ 0
-none_at_pool plan i n e (AnAccess a m) = if_none _ _ (built_adds_none i.row.style _ e)
-none_at_pool plan i n e (ADebugRead a m) = refl
-none_at_pool plan i n e (AnInvalidation a) = refl
-
-none_of_initiators : (f : Initiator → ℕ) → ((i : Initiator) → style_is_built i.row.style ≡ true → f i ≡ 0) → (n : ℕ) (rows : List InitiatorRow) (scripts : List (List Operation))
-    → All (λ (r : InitiatorRow). style_is_built r.style ≡ true) rows → sum_by f (initiators_from n rows scripts) ≡ 0
-none_of_initiators f none n [] scripts built = refl
-none_of_initiators f none n (r ∷ rows) [] built = refl
-none_of_initiators f none n (r ∷ rows) (s ∷ scripts) built =
-    let P : InitiatorRow → Type 0 = λ r. style_is_built r.style ≡ true in
-    omega (arith, sum_by-cons f (numbered n r s) (initiators_from (n + 1) rows scripts), none (numbered n r s) (All-head P r rows built), none_of_initiators f none (n + 1) rows scripts (All-tail P r rows built))
-
-pub none_at_hops : (plan : Plan) (h : ℕ) → IsServed plan.platform → planned_at plan (Hop h) ≡ 0
-unfolding planned_at share_of
-none_at_hops plan h served =
-    none_of_initiators (λ i. share_of plan i (Hop h)) (λ i e. none_in (at_hop plan i h) (none_at_hop plan i h e) (asks_in i)) 0 plan.platform.initiators plan.scripts served
-
-pub none_at_pools : (plan : Plan) (n : ℕ) → IsServed plan.platform → planned_at plan (Pool n) ≡ 0
-unfolding planned_at share_of
-none_at_pools plan n served =
-    none_of_initiators (λ i. share_of plan i (Pool n)) (λ i e. none_in (at_pool plan i n) (none_at_pool plan i n e) (asks_in i)) 0 plan.platform.initiators plan.scripts served

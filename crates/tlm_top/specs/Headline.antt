@@ -36,8 +36,8 @@ pub record Outside : Type 0 where
 pub record IsReported (o : Outside) (command : CommandLine) (sealed : Ended Content Plan) (takes : Option (List ℕ) → Option (List ℕ) → List ℕ → Type 0) : Type 0 where
   pub asked : IsPlan o.files.holds command sealed.world
   pub valid : IsValid sealed.world
-  pub good : IsGood sealed.world (entries_read sealed.entries)
-  pub taken : takes o.out.taken_before o.out.taken_after (report_of (trace_of command) sealed.world (entries_read sealed.entries))
+  pub good : IsGood sealed.world (entries_read sealed.world.platform sealed.entries)
+  pub taken : takes o.out.taken_before o.out.taken_after (report_of (trace_of command) sealed.world (entries_read sealed.world.platform sealed.entries))
 
 -- `out` took nothing
 abbrev pub IsQuiet : Outside → Type 0
@@ -72,8 +72,8 @@ IsExplained exit o words = IsExplainedBy (command_of words) exit o
 -- `out` took the report of a closed history of this plan that is good for it, or the part of it that `takes` says
 pub record IsDoneBy (takes : Option (List ℕ) → Option (List ℕ) → List ℕ → Type 0) (sealed : Ended Content Plan) (out : SinkChange) (trace : Trace) (plan : Plan) : Type 0 where
   pub world : sealed.world ≡ plan
-  pub good : IsGood plan (entries_read sealed.entries)
-  pub taken : takes out.taken_before out.taken_after (report_of trace plan (entries_read sealed.entries))
+  pub good : IsGood plan (entries_read plan.platform sealed.entries)
+  pub taken : takes out.taken_before out.taken_after (report_of trace plan (entries_read plan.platform sealed.entries))
 
 -- what comes of a plan: its report, a part of it where the sink failed, or nothing for want of memory
 abbrev pub IsRunOf : Exit → SinkChange → Trace → Plan → Type 0

@@ -1,8 +1,35 @@
-use Rattle.std.proofs.Common.{◌≡◌, ℕ, length, subst, rules}
-use Rattle.plat_build.specs.Unused.{AreUnusedFrom}
+use Rattle.std.proofs.Common.{◌≡◌, ℕ, All, List, length, sym, subst, rules}
+use Rattle.token_book.specs.Purse.{IsOf, Purse}
+use Rattle.net_end.specs.Closed.{AreHandedBack}
+use Rattle.plat_end.specs.Apart.{HasNoOthers, left_by}
+use Rattle.plat_run.specs.End.{AreFinished}
+use Rattle.plat_run.proofs.WholeLemmas.{wallets_no_others, wallets_of}
 use Rattle.plat_run.proofs.running.run.Goals as goal
 
-pub finish-requires-clause-idle : goal.finish-requires-clause-idle
-finish-requires-clause-idle g c =
-    let count : c.len.result ≡ length g.N.Naming.frame.world.platform.memories = search rules in
-    subst (λ (n : ℕ). AreUnusedFrom g.N.Naming.table g.N.Naming.frame n c.in_ok-seats.seats.items) count c.in_ok-seats.ensures.seats
+pub take_apart-requires-clause-of : goal.take_apart-requires-clause-of
+take_apart-requires-clause-of g c =
+    let n = g.N.Naming in
+    let in_all = c.in_ok-handed.handed in
+    subst (All (IsOf n.tokens)) (sym c.deref_mut.ensures.value) (wallets_of n.table n.tokens n.frame.world (length c.in_ok-jobs-2.jobs.items) in_all.ends.items in_all.wallets.items in_all.notes.items c.in_ok-handed.ensures)
+
+pub take_apart-requires-clause-no_others : goal.take_apart-requires-clause-no_others
+take_apart-requires-clause-no_others g c =
+    let n = g.N.Naming in
+    let in_all = c.in_ok-handed.handed in
+    subst (All (HasNoOthers n.frame.world.platform)) (sym c.deref_mut.ensures.value) (wallets_no_others n.table n.tokens n.frame.world (length c.in_ok-jobs-2.jobs.items) in_all.ends.items in_all.wallets.items in_all.notes.items c.in_ok-handed.ensures)
+
+pub finish-requires-clause-left : goal.finish-requires-clause-left
+finish-requires-clause-left g c =
+    let n = g.N.Naming in
+    let in_all = c.in_ok-handed.handed in
+    let apart = c.in_ok-apart in
+    let value : c.deref_mut.result.now ≡ in_all.wallets.items = c.deref_mut.ensures.value in
+    let count : length c.in_ok-jobs-2.jobs.items ≡ length n.frame.world.platform.initiators = search rules in
+    record {
+      wallets = in_all.wallets.items;
+      finished = subst (λ (k : ℕ). AreFinished n.table n.tokens n.frame.world k in_all.ends.items in_all.wallets.items in_all.notes.items) count c.in_ok-handed.ensures;
+      left = apart.ensures.left;
+      logs_left = apart.ensures.logs;
+      stores_are = apart.ensures.stores;
+      handed_back = subst (λ (ws : List Purse). AreHandedBack n.frame apart.apart.seats.items (left_by n.frame.world.platform ws)) value apart.ensures.handed_back;
+    }
