@@ -11,3 +11,9 @@ pub mod Hops
 pub mod Staged
 pub mod Looks
 pub mod Joined
+pub mod Holds
+pub mod Sweeps
+pub mod JoinsOne
+pub mod Pumps
+pub mod ByReturn
+pub mod HopLists

@@ -1,5 +1,5 @@
 -- The looks of a router at its hops.
-use Rattle.std.proofs.Common.{◌≡◌, ℕ, zero, suc, ◌+◌, ◌<◌, List, [], ◌∷◌, ◌++◌, length, take, get_or, Option, Some, refl, sym, ap, subst, ◌∙◌, append_assoc, arith}
+use Rattle.std.proofs.Common.{◌≡◌, ℕ, zero, suc, ◌+◌, ◌<◌, List, [], ◌∷◌, ◌++◌, length, take, drop, get_or, Option, Some, refl, sym, ap, subst, ◌∙◌, append_assoc, arith}
 use Rattle.std.specs.List.{AllByRecursion}
 use Rattle.std.specs.Prelude.{IfSome}
 use Rattle.view_lists.specs.Lists.{Within}
@@ -7,7 +7,7 @@ use Rattle.one_history.specs.declared.entry.Entry.{Entry}
 use Rattle.tlm_types.specs.declared.entry.Content.{Content}
 use Rattle.tlm_model.specs.Plan.{Plan}
 use Rattle.plat_net.specs.Places.{hop_place}
-use Rattle.router_node.specs.Finds.{vain_looks}
+use Rattle.router_node.specs.Finds.{IsFirst, vain_looks}
 
 pub within_on : (xs ys zs : List (Entry Content)) → Within xs ys → Within ys zs → Within xs zs
 within_on xs ys zs a b = λ x has. b x (a x has)
@@ -42,3 +42,17 @@ looks_more p look xs i first before after below b a =
 
 pub of_some : {A : Type 0} (P : A → Type 0) (o : Option A) (x : A) → o ≡ Some x → IfSome o P → P x
 of_some {A = A} P o x is holds = subst (λ (q : Option A). IfSome q P) is holds
+
+split_at : (xs : List ℕ) (i : ℕ) → i < length xs → xs ≡ take i xs ++ get_or xs i 0 ∷ drop (suc i) xs
+split_at [] i below = absurd (omega (arith, below))
+split_at (x ∷ xs) zero below = refl
+split_at (x ∷ xs) (suc i) below = ap (λ (l : List ℕ). x ∷ l) (split_at xs i (omega (arith, below)))
+
+-- something waits at a hop, and nothing at those before it
+pub is_first : (p : Plan) (look : ℕ) (xs : List ℕ) (i : ℕ) (first before after : List (ℕ × ℕ)) → i < length xs → before ≡ first ++ vain_looks p look (take i xs) → after ≡ before ++ (hop_place p (get_or xs i 0), 0) ∷ [] → IsFirst p look xs (get_or xs i 0) first after
+is_first p look xs i first before after below b a = record {
+  before = take i xs;
+  after = drop (suc i) xs;
+  hops_are = split_at xs i below;
+  looks = a ∙ ap (λ (l : List (ℕ × ℕ)). l ++ (hop_place p (get_or xs i 0), 0) ∷ []) b;
+}

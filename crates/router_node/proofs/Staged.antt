@@ -28,7 +28,7 @@ pub not_true : IsTrue false → ⊥
 not_true q = cc
 
 module _ (frame : Frame Plan) (tokens : TableId) (known more : List (Entry Content)) (w : Within known more) where
-  rest_more : (above : ℕ) (x : TxnId) (o : Option Rest) → IfSome o (IsRestUnder frame tokens known above x) → IfSome o (IsRestUnder frame tokens more above x)
+  pub rest_more : (above : ℕ) (x : TxnId) (o : Option Rest) → IfSome o (IsRestUnder frame tokens known above x) → IfSome o (IsRestUnder frame tokens more above x)
   rest_more above x None i = tt
   rest_more above x (Some r) i = record { pass = i.pass; hop = i.hop; here = i.here; of = i.of; rest = (stays frame tokens known more w).rest r i.pass i.hop i.rest }
 

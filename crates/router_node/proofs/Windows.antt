@@ -151,7 +151,7 @@ module _ (p : Plan) (tokens : TableId) (known : List (Entry Content)) (shape : I
   window_is : window_at p.platform stop stop.to ≡ window_by (slice_get p.platform.routers r) stop.address
   window_is = ap (window_at p.platform stop) stop_is
 
-  ends_are : hop_in p.platform (hop_at pass k) ≡ to_router (response_at asked.initiator k) (slice_get p.platform.routers r)
+  pub ends_are : hop_in p.platform (hop_at pass k) ≡ to_router (response_at asked.initiator k) (slice_get p.platform.routers r)
   ends_are =
       let f = initiator_from 0 p.platform.initiators p.scripts x.initiator asked.initiator asked.is in
       let own : asked.initiator.number ≡ x.initiator = f.0 ∙ none x.initiator in

@@ -33,12 +33,19 @@ abbrev pub vain_looks : Plan → ℕ → List ℕ → List (ℕ × ℕ)
 vain_looks p look [] = []
 vain_looks p look (h ∷ hs) = (hop_place p h, look) ∷ vain_looks p look hs
 
+-- Something was fetched from the first of these hops, in order, at which something waits: there was nothing at those before it.
+pub record IsFirst (p : Plan) (look : ℕ) (hops : List ℕ) (hop : ℕ) (was is : List (ℕ × ℕ)) : Type 0 where
+  pub before : List ℕ
+  pub after : List ℕ
+  pub hops_are : hops ≡ before ++ hop ∷ after
+  pub looks : is ≡ was ++ vain_looks p look before ++ (hop_place p hop, 0) ∷ []
+
 -- A response was fetched from a hop below; or none waits at any.
 abbrev pub HasFoundBack : Frame Plan → TableId → List ℕ → View Content Plan → View Content Plan → Option Found → Type 0
 HasFoundBack frame tokens hops was is None = is.looks ≡ was.looks ++ vain_looks frame.world 2 hops
-HasFoundBack frame tokens hops was is (Some f) = IsFound frame tokens is.known f
+HasFoundBack frame tokens hops was is (Some f) = IsFirst frame.world 2 hops f.hop was.looks is.looks × IsFound frame tokens is.known f
 
 -- A request was fetched from a hop above; or none waits at any.
 abbrev pub HasFoundRequest : Frame Plan → TableId → ℕ → List ℕ → View Content Plan → View Content Plan → Option Request → Type 0
 HasFoundRequest frame tokens router hops was is None = is.looks ≡ was.looks ++ vain_looks frame.world 1 hops
-HasFoundRequest frame tokens router hops was is (Some r) = (r.hop < hop_count frame.world.platform) × IsRequest frame tokens is.known router r
+HasFoundRequest frame tokens router hops was is (Some r) = IsFirst frame.world 1 hops r.hop was.looks is.looks × (r.hop < hop_count frame.world.platform) × IsRequest frame tokens is.known router r

@@ -1,5 +1,6 @@
 -- A response from below and the transaction that it belongs to.
-use Rattle.std.specs.Prelude.{◌≡◌, Option, Some, None}
+use Rattle.std.specs.Prelude.{◌≡◌, List, [], ◌∷◌, ◌++◌, Option, Some, None}
+use Rattle.std.specs.List.{AllByRecursion}
 use Rattle.router_node.specs.declared.finds.Found.{Found}
 use Rattle.router_node.specs.declared.items.Held.{Held}
 use Rattle.router_node.specs.declared.stage.Stage.{Stage}
@@ -9,8 +10,43 @@ use Rattle.router_node.specs.declared.stage.Stage.TheVariants.{Below, Up}
 abbrev pub IsOf : Held → Found → Type 0
 IsOf h f = (h.txn ≡ f.fetched.txn) × (h.below ≡ f.hop)
 
--- It was joined with the transaction, which is to go up; or neither has changed.
+-- the response isn't this transaction's
+abbrev pub IsOther : Found → Stage → Type 0
+IsOther f (Below h) = IsOf h f → ⊥
+IsOther f s = Unit {0}
+
+-- It was joined with the transaction, which is to go up; or it isn't that one's, and neither has changed.
 abbrev pub HasJoined : Stage → Found → Stage → Option Found → Type 0
-HasJoined s f t (Some g) = (t ≡ s) × (g ≡ f)
+HasJoined s f t (Some g) = (t ≡ s) × (g ≡ f) × IsOther f s
 HasJoined (Below h) f (Up r rest) None = IsOf h f × (r.hop ≡ h.above)
 HasJoined s f t None = ⊥
+
+-- the same, where there may be no response left
+abbrev pub HasJoinedLeft : Stage → Option Found → Stage → Option Found → Type 0
+HasJoinedLeft s (Some f) t o = HasJoined s f t o
+HasJoinedLeft s None t o = (t ≡ s) × (o ≡ None)
+
+-- The first of these transactions was tried, and stands behind the others now.
+pub record JoinsFirst (old : List Stage) (f : Option Found) (new : List Stage) (o : Option Found) : Type 0 where
+  pub first : Stage
+  pub rest : List Stage
+  pub after : Stage
+  pub was_first : old ≡ first ∷ rest
+  pub joined : HasJoinedLeft first f after o
+  pub line : new ≡ rest ++ after ∷ []
+
+-- It was joined with the first of these transactions that it is of, and the others are as they were.
+pub record JoinsOne (f : Found) (old new : List Stage) : Type 0 where
+  pub before : List Stage
+  pub stage : Stage
+  pub after : List Stage
+  pub joined : Stage
+  pub others : AllByRecursion (IsOther f) before
+  pub was : old ≡ before ++ stage ∷ after
+  pub is : new ≡ before ++ joined ∷ after
+  pub joins : HasJoined stage f joined None
+
+-- Or it is of none of them, and nothing has changed.
+abbrev pub HasJoinedOne : Found → List Stage → List Stage → Option Found → Type 0
+HasJoinedOne f old new None = JoinsOne f old new
+HasJoinedOne f old new (Some g) = (new ≡ old) × (g ≡ f) × AllByRecursion (IsOther f) old

@@ -5,3 +5,5 @@ pub mod Turns
 pub mod Stages
 pub mod Finds
 pub mod Joins
+pub mod Node
+pub mod Hops

@@ -5,19 +5,21 @@ use Rattle.one_history.specs.declared.entry.Entry.{Entry}
 use Rattle.one_history.specs.declared.view.Frame.{Frame}
 use Rattle.one_history.specs.declared.view.View.{View}
 use Rattle.tlm_types.specs.declared.entry.Content.{Content}
-use Rattle.tlm_types.specs.declared.words.Phase.TheVariants.{BeginResp}
+use Rattle.tlm_types.specs.declared.words.Phase.TheVariants.{BeginReq, BeginResp}
 use Rattle.tlm_types.specs.declared.words.TxnId.{TxnId}
 use Rattle.tlm_model.specs.Plan.{Plan}
+use Rattle.tlm_model.specs.Route.{later}
 use Rattle.flow_model.specs.World.{Passage, hop_at}
-use Rattle.flow_model.specs.Events.{Finds, FindsAt, IsPhase, IsReleased}
+use Rattle.flow_model.specs.Events.{Finds, FindsAt, IsAccess, IsPhase, IsReleased}
 use Rattle.flow_model.specs.Numbers.{IsEnder}
 use Rattle.cargo_model.specs.Known.{Known}
 use Rattle.route_plan.specs.Valid.{hop_count}
 use Rattle.plat_net.specs.HopCalls.{CanRespond}
 use Rattle.plat_net.specs.Places.{hop_place}
-use Rattle.router_node.specs.Items.{IsBegun, IsDown, IsHolding, IsRest}
+use Rattle.router_node.specs.Items.{IsBegun, IsDown, IsHolding, IsRest, latency_of}
 use Rattle.router_node.specs.Moves.{HasBegunOn}
 use Rattle.router_node.specs.declared.items.Begun.{Begun}
+use Rattle.router_node.specs.declared.items.Down.{Down as ToPass}
 use Rattle.router_node.specs.declared.items.Held.{Held}
 use Rattle.router_node.specs.declared.items.Response.{Response}
 use Rattle.router_node.specs.declared.items.Rest.{Rest}
@@ -69,15 +71,31 @@ look_of End = 5
 look_of Send = 4
 look_of Pass = 3
 
--- the look that a transaction gives in vain, and the hop of it; one that is below gives none
-abbrev pub mark : Stage → ℕ × ℕ
-mark (Down d) = (3, d.held.below)
-mark (Below h) = (0, h.below)
-mark (Up r rest) = (4, r.hop)
-mark (Sent a) = (5, a.above)
+-- Where a transaction stands: all that it is but its payload. A try in vain leaves it as it was.
+pub data Standing : Type 0 where
+  ToGoDown : Held → ℕ → Standing
+  IsBelow : Held → Standing
+  ToGoUp : ℕ → ℕ → TxnId → Option Rest → Standing
+  WasSent : Away → Standing
 
-abbrev pub vain : Plan → Step → ℕ × ℕ → List (ℕ × ℕ)
-vain p w m = if m.0 == look_of w then (hop_place p m.1, look_of w) ∷ [] else []
+abbrev pub standing : Stage → Standing
+standing (Down d) = ToGoDown d.held d.due
+standing (Below h) = IsBelow h
+standing (Up r rest) = ToGoUp r.hop r.due r.cargo.baton.txn rest
+standing (Sent a) = WasSent a
+
+-- the look that a transaction gives in vain, and the hop of it; one that is below gives none
+abbrev pub mark : Standing → ℕ × ℕ
+mark (ToGoDown h due) = (3, h.below)
+mark (IsBelow h) = (0, h.below)
+mark (ToGoUp hop due x rest) = (4, hop)
+mark (WasSent a) = (5, a.above)
+
+abbrev pub vain_at : Plan → Step → ℕ × ℕ → List (ℕ × ℕ)
+vain_at p w m = if m.0 == look_of w then (hop_place p m.1, look_of w) ∷ [] else []
+
+abbrev pub vain : Plan → Step → Standing → List (ℕ × ℕ)
+vain p w s = vain_at p w (mark s)
 
 -- the reference of the hop below was released
 abbrev pub WasReleased : Frame Plan → List (Entry Content) → TxnId → Type 0
@@ -88,18 +106,30 @@ pub record HasEnded (frame : Frame Plan) (known : List (Entry Content)) (a : Awa
   pub above : Finds (Known frame.world.platform known) (IsEnder a.txn a.above)
   pub below : IfSome a.rest (λ r. WasReleased frame known r.txn)
 
+-- BEGIN_REQ was made on the hop below, at a time at which the request was due or later.
+pub record WentDown (frame : Frame Plan) (known : List (Entry Content)) (d : ToPass) (time : ℕ) : Type 0 where
+  pub late : d.due ≤ time
+  pub made : FindsAt (Known frame.world.platform known) (IsPhase d.held.txn d.held.below BeginReq) time
+
+-- Its response came by return: the access was made at the time of BEGIN_REQ, and the response is due above after the memory's latency.
+pub record CameBack (frame : Frame Plan) (known : List (Entry Content)) (d : ToPass) (r : Response) : Type 0 where
+  pub time : ℕ
+  pub went : WentDown frame known d time
+  pub made : FindsAt (Known frame.world.platform known) (IsAccess d.held.txn) time
+  pub due : r.due ≡ later time (latency_of frame.world d.held.below)
+
 -- What a step makes of a transaction that it moves: one that has ended is forgotten, a response was sent, a request is below or back.
 abbrev pub Moves : Frame Plan → List (Entry Content) → Step → Stage → Option Stage → Type 0
 Moves frame known End (Sent a) None = HasEnded frame known a
 Moves frame known Send (Up r rest) (Some (Sent a)) = (a.txn ≡ r.cargo.baton.txn) × (a.above ≡ r.hop) × (r.due ≤ a.at) × (a.rest ≡ rest)
-Moves frame known Pass (Down d) (Some (Below h)) = (h.txn ≡ d.held.txn) × (h.above ≡ d.held.above) × (h.below ≡ d.held.below)
-Moves frame known Pass (Down d) (Some (Up r rest)) = (r.hop ≡ d.held.above) × (r.cargo.baton.txn ≡ d.held.txn)
+Moves frame known Pass (Down d) (Some (Below h)) = (h.txn ≡ d.held.txn) × (h.above ≡ d.held.above) × (h.below ≡ d.held.below) × ((time : ℕ) × WentDown frame known d time)
+Moves frame known Pass (Down d) (Some (Up r rest)) = (r.hop ≡ d.held.above) × (r.cargo.baton.txn ≡ d.held.txn) × CameBack frame known d r
 Moves frame known w s o = ⊥
 
--- It was moved; or it is as it was, and the step has looked in vain where it is one for it.
+-- It was moved; or it stands where it stood, and the step has looked in vain where it is one for it.
 abbrev pub HasStepped : Frame Plan → Step → Stage → View Content Plan → View Content Plan → Bool → Option Stage → Type 0
 HasStepped frame w s old new true o = Moves frame new.known w s o
-HasStepped frame w s old new false o = IsSomeAnd o (λ t. mark t ≡ mark s) × (new.looks ≡ old.looks ++ vain frame.world w (mark s))
+HasStepped frame w s old new false o = IsSomeAnd o (λ t. standing t ≡ standing s) × (new.looks ≡ old.looks ++ vain frame.world w (standing s))
 
 module _ (frame : Frame Plan) (tokens : TableId) (known back : List (Entry Content)) where
   -- END_REQ above was made where it was owed. What was known of the transaction is known of it.
@@ -110,6 +140,17 @@ module _ (frame : Frame Plan) (tokens : TableId) (known back : List (Entry Conte
     pub owed : new.owed ≡ None
     pub holding : IsHolding frame tokens back new
     pub begun : (b : Begun) → IsBegun frame tokens known h b → IsBegun frame tokens back new b
+
+-- The memory of a request whose response came by return was called at the time of its BEGIN_REQ. The response is due above after the memory's latency.
+pub record IsServedAs (frame : Frame Plan) (known : List (Entry Content)) (h : Held) (b : Begun) (r : Response) : Type 0 where
+  pub hop : r.hop ≡ h.above
+  pub txn : r.cargo.baton.txn ≡ h.txn
+  pub made : FindsAt (Known frame.world.platform known) (IsAccess h.txn) b.at
+  pub due : r.due ≡ later b.at (latency_of frame.world h.below)
+
+abbrev pub IsServed : Frame Plan → List (Entry Content) → Held → Begun → Stage → Type 0
+IsServed frame known h b (Up r (Some rest)) = IsServedAs frame known h b r
+IsServed frame known h b s = ⊥
 
 -- A response that was sent has ended above; or not, by a look.
 abbrev pub HasLookedForEnd : Frame Plan → Away → View Content Plan → View Content Plan → Bool → Type 0

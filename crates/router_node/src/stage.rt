@@ -1,20 +1,24 @@
 // A transaction that a router holds, and the steps that move it.
-ghost use Rattle.std.specs.Prelude.{IfSome};
+ghost use Rattle.std.specs.Prelude.{◌≡◌, ℕ, ◌<◌, length, IfNone, IfSome, Some};
 ghost use Rattle.view_lists.specs.Lists.{Within};
 ghost use Rattle.one_history.specs.Lists.{StandBelow};
 ghost use Rattle.shared_object.specs.Steps.{IsNote};
-ghost use Rattle.router_node.specs.Items.{HasGone};
+ghost use Rattle.tlm_model.specs.declared.platform.Target.TheVariants as targets;
+ghost use Rattle.route_plan.specs.Shape.{IsShape};
+ghost use Rattle.route_plan.specs.Valid.{hop_count};
+ghost use Rattle.plat_net.specs.Places.{LeadsTo};
+ghost use Rattle.router_node.specs.Items.{HasGone, IsBegun, IsDown, latency_of};
 ghost use Rattle.router_node.specs.Moves.{HasEndedAbove};
-ghost use Rattle.router_node.specs.Stages.{HasLookedForEnd, HasSettled, HasStepped, IsAway, IsStage, IsUp, WasReleased};
+ghost use Rattle.router_node.specs.Stages.{HasLookedForEnd, HasSettled, HasStepped, IsAway, IsServed, IsSettled, IsStage, IsUp, WasReleased};
 ghost use Rattle.router_node.specs.declared.stage.Stage.TheVariants as Stages;
 ghost use Rattle.router_node.specs.declared.stage.Step.TheVariants as Steps;
 
-use crate::down::end_above;
-use crate::items::{Down, End, Held, Response, Rest};
+use crate::down::{Passed, end_above, pass_on, serve_below};
+use crate::items::{Begun, Down, End, Held, Response, Rest};
 use crate::up;
-use crate::up::{end_below, has_ended_above, release, send_up};
+use crate::up::{end_below, has_ended_above, release, send_up, turn_up};
 use plat_net::{Net, PlatNote, TlmLaw};
-use route_plan::Plan;
+use route_plan::{Down as Behind, HopEnds, Plan};
 use shared_object::Naming;
 use std::sync::Wait;
 use tlm_types::{Ps, TxnId};
@@ -192,4 +196,120 @@ pub fn settle<N: Naming<Plan, TlmLaw>, R: Wait>(
         return (held, note);
     }
     end_above(net, rt, note, held, at)
+}
+
+// The memory that a hop leads to, and its latency in picoseconds. There is none where the hop leads to a
+// router.
+fn memory_behind<N: Naming<Plan, TlmLaw>>(net: &Net<N>, hop: u32) -> Option<(u32, Ps)>
+    requires { hop < hop_count N.frame.world.platform }
+    ensures shape { IsShape N.frame.world.platform }
+    ensures there { IfSome result (λ m. m.0 < length N.frame.world.platform.memories) }
+    ensures memory { IfSome result (λ m. LeadsTo N.frame.world.platform hop (targets.Memory m.0)) }
+    ensures latency { IfSome result (λ m. m.1 ≡ latency_of N.frame.world hop) }
+    ensures router { IfNone result ((r : ℕ) × LeadsTo N.frame.world.platform hop (targets.Router r)) }
+{
+    let platform = net.plan().platform();
+    let Some(HopEnds { up: _, down }) = net.plan().hop_ends(hop) else {
+        unreachable!()
+    };
+    match down {
+        Behind::Memory(memory) => {
+            let row = &platform.memories.as_slice()[memory as usize];
+            Some((memory, row.traits.latency))
+        }
+        Behind::Router(_) => None,
+    }
+}
+
+// Calls the memory of a request whose response comes by return. The response is to go up.
+fn serve<N: Naming<Plan, TlmLaw>, R: Wait>(
+    net: &Net<N>,
+    rt: &R,
+    note: PlatNote,
+    held: Held,
+    begun: Begun,
+) -> (Stage, PlatNote)
+    requires note { IsNote N.table note }
+    requires settled { IsSettled N.frame N.tokens note.knows.known held }
+    requires begun { IsBegun N.frame N.tokens note.knows.known held begun }
+    ensures note { IsNote N.table result.1 }
+    ensures knew { Within note.knows.known result.1.knows.known }
+    ensures below { StandBelow result.1.knows.known result.1.knows.seen }
+    ensures stage { IsStage N.frame N.tokens result.1.knows.known result.0 }
+    ensures served { IsServed N.frame result.1.knows.known held begun result.0 }
+{
+    let Some((memory, latency)) = memory_behind(net, held.below) else {
+        unreachable!()
+    };
+    let (back, note) = serve_below(net, rt, memory, latency, note, &held, begun);
+    let (response, rest) = turn_up(net, &note, held, back);
+    (Stage::Up(response, Some(rest)), note)
+}
+
+// Tries to pass a request on. Where its response comes by return, the memory is called, and the response is
+// to go up.
+fn pass<N: Naming<Plan, TlmLaw>, R: Wait>(
+    net: &Net<N>,
+    rt: &R,
+    note: PlatNote,
+    down: Down,
+) -> (Stage, bool, PlatNote)
+    requires note { IsNote N.table note }
+    requires there { down.held.above < hop_count N.frame.world.platform }
+    requires down { IsDown N.frame N.tokens note.knows.known down }
+    ensures note { IsNote N.table result.2 }
+    ensures knew { Within note.knows.known result.2.knows.known }
+    ensures below { StandBelow result.2.knows.known result.2.knows.seen }
+    ensures stage { IsStage N.frame N.tokens result.2.knows.known result.0 }
+    ensures stepped { HasStepped N.frame Steps.Pass (Stages.Down down) note.knows result.2.knows result.1 (Some result.0) }
+{
+    match pass_on(net, rt, note, down) {
+        Passed::Busy { down, note } => (Stage::Down(down), false, note),
+        Passed::Gone { held, at, note } => {
+            let (held, note) = settle(net, rt, note, held, at);
+            (Stage::Below(held), true, note)
+        }
+        Passed::Now { held, begun, note } => {
+            let (held, note) = settle(net, rt, note, held, begun.at);
+            let (stage, note) = serve(net, rt, note, held, begun);
+            (stage, true, note)
+        }
+    }
+}
+
+/// Makes one step with a transaction that the router holds. Others than those of the step stay as they are.
+pub fn move_on<N: Naming<Plan, TlmLaw>, R: Wait>(
+    net: &Net<N>,
+    rt: &R,
+    what: Step,
+    note: PlatNote,
+    stage: Stage,
+) -> (Option<Stage>, bool, PlatNote)
+    requires note { IsNote N.table note }
+    requires below { StandBelow note.knows.known note.knows.seen }
+    requires stage { IsStage N.frame N.tokens note.knows.known stage }
+    ensures note { IsNote N.table result.2 }
+    ensures knew { Within note.knows.known result.2.knows.known }
+    ensures below { StandBelow result.2.knows.known result.2.knows.seen }
+    ensures stage { IfSome result.0 (IsStage N.frame N.tokens result.2.knows.known) }
+    ensures stepped { HasStepped N.frame what stage note.knows result.2.knows result.1 result.0 }
+{
+    match stage {
+        Stage::Sent(away) => match what {
+            Step::End => end_away(net, rt, note, away),
+            _ => (Some(Stage::Sent(away)), false, note),
+        },
+        Stage::Up(response, rest) => match what {
+            Step::Send => send(net, rt, note, response, rest),
+            _ => (Some(Stage::Up(response, rest)), false, note),
+        },
+        Stage::Down(down) => match what {
+            Step::Pass => {
+                let (stage, moved, note) = pass(net, rt, note, down);
+                (Some(stage), moved, note)
+            }
+            _ => (Some(Stage::Down(down)), false, note),
+        },
+        Stage::Below(held) => (Some(Stage::Below(held)), false, note),
+    }
 }

@@ -3,7 +3,7 @@ use Rattle.plat_net.specs.Places.{hop_place}
 use Rattle.router_node.specs.Finds.{IsHopBelow}
 use Rattle.router_node.specs.Moves.{HasFetchedUp, up_look}
 use Rattle.router_node.specs.declared.up.Fetched.{Fetched}
-use Rattle.router_node.proofs.Looks.{each_at, looks_more, of_some, within_on}
+use Rattle.router_node.proofs.Looks.{each_at, is_first, looks_more, of_some, within_on}
 use Rattle.router_node.proofs.finds.find_back.Goals as goal
 
 pub returns-in-Some-clause-found : goal.returns-in-Some-clause-found
@@ -12,10 +12,13 @@ returns-in-Some-clause-found g c =
     let xs = c.args.hops.now in
     let i = c.loop-hop.hop-index in
     let new = c.fetch_up-fetched.result.1.knows in
-    record {
-      below = each_at (λ (h : ℕ). IsHopBelow frame.world h) xs i 0 c.loop-hop-test.true c.requires.hops;
-      fetched = of_some (λ (f : Fetched). HasFetchedUp frame g.N.Naming.tokens new.known (get_or xs i 0) f) c.fetch_up-fetched.result.0 c.in-Some.fetched c.in-Some.is c.fetch_up-fetched.ensures.fetched;
-    }
+    let old = c.loop-hop.note.knows in (
+      is_first frame.world 2 xs i c.args.note.knows.looks old.looks new.looks c.loop-hop-test.true c.loop-hop.invariant.looks (subst (λ (o : Option Fetched). new.looks ≡ old.looks ++ (hop_place frame.world (get_or xs i 0), up_look o) ∷ []) c.in-Some.is c.fetch_up-fetched.ensures.look),
+      record {
+        below = each_at (λ (h : ℕ). IsHopBelow frame.world h) xs i 0 c.loop-hop-test.true c.requires.hops;
+        fetched = of_some (λ (f : Fetched). HasFetchedUp frame g.N.Naming.tokens new.known (get_or xs i 0) f) c.fetch_up-fetched.result.0 c.in-Some.fetched c.in-Some.is c.fetch_up-fetched.ensures.fetched;
+      },
+    )
 
 pub loop-hop-preserved : goal.loop-hop-preserved
 loop-hop-preserved g c =

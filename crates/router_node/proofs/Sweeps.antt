@@ -1,0 +1,130 @@
+-- A step for all transactions, one after another.
+use Rattle.std.proofs.Common.{◌≡◌, ℕ, zero, suc, ◌+◌, ◌<◌, ◌≤◌, Bool, true, false, List, [], ◌∷◌, ◌++◌, length, map, take, drop, Option, Some, None, refl, sym, ap, subst, ◌∙◌, append_assoc, length-append, arith}
+use Rattle.std.specs.Prelude.{IsSomeAnd, ◌||◌}
+use Rattle.std.proofs.lemmas.List.{map-append, append-nil}
+use Rattle.view_lists.specs.Lists.{Within}
+use Rattle.one_history.specs.declared.view.Frame.{Frame}
+use Rattle.one_history.specs.declared.view.View.{View}
+use Rattle.tlm_types.specs.declared.entry.Content.{Content}
+use Rattle.tlm_model.specs.Plan.{Plan}
+use Rattle.router_node.specs.Node.{MovesFirst, Sweeps, left, vain_steps}
+use Rattle.router_node.specs.Stages.{HasStepped, Standing, standing, vain}
+use Rattle.router_node.specs.declared.stage.Stage.{Stage}
+use Rattle.router_node.specs.declared.stage.Step.{Step}
+
+-- flags
+pub or_none : (a : Bool) → (a || false) ≡ a
+or_none true = refl
+or_none false = refl
+
+pub or_next : (a b c : Bool) → ((a || b) || c) ≡ (a || (b || c))
+or_next true b c = refl
+or_next false b c = refl
+
+pub first_not : (a b : Bool) → (a || b) ≡ false → a ≡ false
+first_not true b q = cc
+first_not false b q = refl
+
+pub second_not : (a b : Bool) → (a || b) ≡ false → b ≡ false
+second_not true b q = cc
+second_not false b q = q
+
+-- lists
+one_on : (i : ℕ) → suc i ≡ i + 1
+one_on i = omega arith
+
+pub split_at : {A : Type 0} (xs : List A) (i : ℕ) → i < length xs → (x : A) × (drop i xs ≡ x ∷ drop (suc i) xs) × (take (suc i) xs ≡ take i xs ++ x ∷ [])
+split_at [] i below = absurd (omega (arith, below))
+split_at (x ∷ xs) zero below = (x, refl, refl)
+split_at (x ∷ xs) (suc i) below = let r = split_at xs i (omega (arith, below)) in (r.0, r.1, ap (λ (l : List _). x ∷ l) r.2)
+
+pub drop_past : {A : Type 0} (xs : List A) (i : ℕ) → (i < length xs → ⊥) → drop i xs ≡ []
+drop_past [] zero past = refl
+drop_past [] (suc i) past = refl
+drop_past (x ∷ xs) zero past = absurd (past (omega arith))
+drop_past (x ∷ xs) (suc i) past = drop_past xs i (λ l. past (omega (arith, l)))
+
+pub take_past : {A : Type 0} (xs : List A) (i : ℕ) → (i < length xs → ⊥) → take i xs ≡ xs
+take_past [] zero past = refl
+take_past [] (suc i) past = refl
+take_past (x ∷ xs) zero past = absurd (past (omega arith))
+take_past (x ∷ xs) (suc i) past = ap (λ (l : List _). x ∷ l) (take_past xs i (λ l. past (omega (arith, l))))
+
+pub same_first : {A : Type 0} (x y : A) (xs ys : List A) → x ∷ xs ≡ y ∷ ys → x ≡ y
+same_first x y xs ys q = cc
+
+pub same_rest : {A : Type 0} (x y : A) (xs ys : List A) → x ∷ xs ≡ y ∷ ys → xs ≡ ys
+same_rest x y xs ys q = cc
+
+few_left : (o : Option Stage) → length (left o) ≤ 1
+few_left None = omega arith
+few_left (Some s) = omega arith
+
+-- one that wasn't moved stands where it stood
+stood : (s : Stage) (o : Option Stage) → IsSomeAnd o (λ (t : Stage). standing t ≡ standing s) → map standing (left o) ≡ standing s ∷ []
+stood s None h = absurd h
+stood s (Some t) h = ap (λ (x : Standing). x ∷ []) h
+
+module _ (frame : Frame Plan) (w : Step) where
+  -- a step for one more
+  sweeps_more : (ss rs : List Stage) (a b c : View Content Plan) (m did : Bool) (s : Stage) (o : Option Stage) → Sweeps frame w ss rs a b m → Within b.known c.known → HasStepped frame w s b c did o → Sweeps frame w (ss ++ s ∷ []) (rs ++ left o) a c (m || did)
+  sweeps_more [] rs a b c m did s o sw more st =
+      (o, [], c, did, false, subst (λ (v : View Content Plan). HasStepped frame w s v c did o) sw.1 st, (λ x has. has), (refl, refl, refl), ap (λ (l : List Stage). l ++ left o) sw.0 ∙ sym (append-nil (left o)), ap (λ (f : Bool). f || did) sw.2 ∙ sym (or_none did))
+  sweeps_more (x ∷ ss) rs a b c m did s o sw more st =
+      let r = sweeps_more ss sw.1 sw.2 b c sw.4 did s o sw.7 more st in
+      (sw.0, sw.1 ++ left o, sw.2, sw.3, (sw.4 || did), sw.5, (λ e has. more e (sw.6 e has)), r, ap (λ (l : List Stage). l ++ left o) sw.8 ∙ append_assoc (left sw.0) sw.1 (left o), ap (λ (f : Bool). f || did) sw.9 ∙ or_next sw.3 sw.4 did)
+
+  -- The step was made with the first i of these transactions: those that are still to come stand in front.
+  pub record IsPartSwept (old : List Stage) (i : ℕ) (now : List Stage) (was is : View Content Plan) (moved : Bool) : Type 0 where
+    pub done : List Stage
+    pub line : now ≡ drop i old ++ done
+    pub swept : Sweeps frame w (take i old) done was is moved
+
+  pub part_start : (old : List Stage) (was : View Content Plan) → IsPartSwept old 0 old was was false
+  part_start old was = record { done = []; line = sym (append-nil old); swept = (refl, refl, refl) }
+
+  part_more : (old : List Stage) (i : ℕ) (now new : List Stage) (was mid is : View Content Plan) (moved did : Bool) → i < length old → IsPartSwept old i now was mid moved → Within mid.known is.known → MovesFirst frame w now new mid is did → IsPartSwept old (i + 1) new was is (moved || did)
+  part_more old i now new was mid is moved did below p more m =
+      let at = split_at old i below in
+      let both : at.0 ∷ (drop (suc i) old ++ p.done) ≡ m.first ∷ m.rest = sym (p.line ∙ ap (λ (l : List Stage). l ++ p.done) at.1) ∙ m.was_first in
+      let head = same_first at.0 m.first (drop (suc i) old ++ p.done) m.rest both in
+      let rest = same_rest at.0 m.first (drop (suc i) old ++ p.done) m.rest both in
+      subst (λ (n : ℕ). IsPartSwept old n new was is (moved || did)) (one_on i) (record {
+        done = p.done ++ left m.after;
+        line = m.line ∙ (ap (λ (l : List Stage). l ++ left m.after) (sym rest) ∙ append_assoc (drop (suc i) old) p.done (left m.after));
+        swept = subst (λ (l : List Stage). Sweeps frame w l (p.done ++ left m.after) was is (moved || did)) (sym at.2) (sweeps_more (take i old) p.done was mid is moved did at.0 m.after p.swept more (subst (λ (s : Stage). HasStepped frame w s mid is did m.after) (sym head) m.stepped));
+      })
+
+  pub part_next : (old : List Stage) (i : ℕ) (now new : List Stage) (was mid is : View Content Plan) (moved did flag : Bool) → flag ≡ (moved || did) → i < length old → IsPartSwept old i now was mid moved → Within mid.known is.known → MovesFirst frame w now new mid is did → IsPartSwept old (i + 1) new was is flag
+  part_next old i now new was mid is moved did flag q below p more m = subst (λ (b : Bool). IsPartSwept old (i + 1) new was is b) (sym q) (part_more old i now new was mid is moved did below p more m)
+
+  pub part_some : (old : List Stage) (i : ℕ) (now : List Stage) (was is : View Content Plan) (moved : Bool) → i < length old → IsPartSwept old i now was is moved → 0 < length now
+  part_some old i now was is moved below p =
+      let at = split_at old i below in
+      let l : length now ≡ suc (length (drop (suc i) old ++ p.done)) = ap (λ (l : List Stage). length l) (p.line ∙ ap (λ (l : List Stage). l ++ p.done) at.1) in
+      omega (arith, l)
+
+  pub part_end : (old : List Stage) (i : ℕ) (now : List Stage) (was is : View Content Plan) (moved : Bool) → (i < length old → ⊥) → IsPartSwept old i now was is moved → Sweeps frame w old now was is moved
+  part_end old i now was is moved past p =
+      let line : now ≡ p.done = p.line ∙ ap (λ (l : List Stage). l ++ p.done) (drop_past old i past) in
+      subst (λ (l : List Stage). Sweeps frame w old l was is moved) (sym line) (subst (λ (l : List Stage). Sweeps frame w l p.done was is moved) (take_past old i past) p.swept)
+
+  -- no more are held than before
+  pub sweeps_few : (ss rs : List Stage) (was is : View Content Plan) (moved : Bool) → Sweeps frame w ss rs was is moved → length rs ≤ length ss
+  sweeps_few [] rs was is moved sw = let l : length rs ≡ 0 = ap (λ (l : List Stage). length l) sw.0 in omega (arith, l)
+  sweeps_few (s ∷ ss) rs was is moved sw =
+      let l : length rs ≡ length (left sw.0) + length sw.1 = ap (λ (l : List Stage). length l) sw.8 ∙ length-append (left sw.0) sw.1 in
+      let f = few_left sw.0 in
+      let r = sweeps_few ss sw.1 sw.2 is sw.4 sw.7 in
+      omega (arith, l, f, r)
+
+  -- where none was moved, each stands where it stood, and the looks are in vain
+  pub sweeps_vain : (ss rs : List Stage) (was is : View Content Plan) (moved : Bool) → moved ≡ false → Sweeps frame w ss rs was is moved → (map standing rs ≡ map standing ss) × (is.looks ≡ was.looks ++ vain_steps frame.world w (map standing ss))
+  sweeps_vain [] rs was is moved off sw = (ap (λ (l : List Stage). map standing l) sw.0, ap (λ (v : View Content Plan). v.looks) sw.1 ∙ sym (append-nil was.looks))
+  sweeps_vain (s ∷ ss) rs was is moved off sw =
+      let none : (sw.3 || sw.4) ≡ false = sym sw.9 ∙ off in
+      let st : HasStepped frame w s was sw.2 false sw.0 = subst (λ (b : Bool). HasStepped frame w s was sw.2 b sw.0) (first_not sw.3 sw.4 none) sw.5 in
+      let r = sweeps_vain ss sw.1 sw.2 is sw.4 (second_not sw.3 sw.4 none) sw.7 in (
+        ap (λ (l : List Stage). map standing l) sw.8 ∙ (map-append standing (left sw.0) sw.1 ∙ (ap (λ (l : List Standing). l ++ map standing sw.1) (stood s sw.0 st.0) ∙ ap (λ (l : List Standing). standing s ∷ l) r.0)),
+        r.1 ∙ (ap (λ (l : List (ℕ × ℕ)). l ++ vain_steps frame.world w (map standing ss)) st.1 ∙ append_assoc was.looks (vain frame.world w (standing s)) (vain_steps frame.world w (map standing ss))),
+      )

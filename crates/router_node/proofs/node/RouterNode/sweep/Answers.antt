@@ -1,0 +1,19 @@
+use Rattle.std.proofs.Common.{◌≤◌, length, refl, arith}
+use Rattle.std.specs.VecDeque.{deque_capacity}
+use Rattle.router_node.proofs.Holds.{keeps, stray_more}
+use Rattle.router_node.proofs.Sweeps.{sweeps_few}
+use Rattle.router_node.proofs.node.RouterNode.sweep.Goals as goal
+
+pub returns-clause-router : goal.returns-clause-router
+returns-clause-router g c =
+    let frame = g.N.Naming.frame in
+    let tokens = g.N.Naming.tokens in
+    let r = c.args.self.now in
+    let is = c.requires.router in
+    let e = c.sweep.ensures in
+    let known = c.args.note.knows.known in
+    let more = c.sweep.result.1.knows.known in
+    let count = sweeps_few frame c.args.what r.held.items c.sweep.new.held.items c.args.note.knows c.sweep.result.1.knows c.sweep.result.0 e.swept in
+    let few : length c.sweep.new.held.items ≤ r.room = omega (arith, count, is.few) in
+    let room : r.room ≤ deque_capacity c.sweep.new.held = omega (arith, is.room, e.capacity) in
+    keeps frame tokens known more e.knew r (record r { held = c.sweep.new.held }) refl is e.held few room (stray_more frame tokens known more e.knew r.stray is.stray)

@@ -1,0 +1,44 @@
+use Rattle.std.proofs.Common.{◌≡◌, ℕ, List, ◌≤◌, length, Option, None, refl, sym, subst, ◌∙◌, arith}
+use Rattle.std.specs.VecDeque.{deque_capacity}
+use Rattle.router_node.specs.Finds.{HasFoundBack}
+use Rattle.router_node.specs.declared.finds.Found.{Found}
+use Rattle.router_node.proofs.Holds.{all_more, is_none, keeps, router_more, strays}
+use Rattle.router_node.proofs.JoinsOne.{joined_count}
+use Rattle.router_node.proofs.node.RouterNode.take_back.Goals as goal
+
+pub returns-in_default-clause-router : goal.returns-in_default-clause-router
+returns-in_default-clause-router g c = router_more g.N.Naming.frame g.N.Naming.tokens c.args.note.knows.known c.find_back-found.result.1.knows.known c.find_back-found.ensures.knew c.args.self.now c.requires.router
+
+pub join_one-requires-clause-held : goal.join_one-requires-clause-held
+join_one-requires-clause-held g c = all_more g.N.Naming.frame g.N.Naming.tokens c.args.note.knows.known c.find_back-found.result.1.knows.known c.find_back-found.ensures.knew c.args.self.now.held.items c.requires.router.held
+
+pub returns-clause-router : goal.returns-clause-router
+returns-clause-router g c =
+    let frame = g.N.Naming.frame in
+    let tokens = g.N.Naming.tokens in
+    let r = c.args.self.now in
+    let is = c.requires.router in
+    let e = c.join_one.ensures in
+    let known = c.args.note.knows.known in
+    let more = c.find_back-found.result.1.knows.known in
+    let count = joined_count c.in-Some.found r.held.items c.join_one.new.held.items c.join_one.result e.joined in
+    let few : length c.join_one.new.held.items ≤ r.room = omega (arith, count, is.few) in
+    let room : r.room ≤ deque_capacity c.join_one.new.held = omega (arith, is.room, e.capacity) in
+    keeps frame tokens known more c.find_back-found.ensures.knew r (record r { held = c.join_one.new.held; stray = c.join_one.result }) refl is e.held few room (strays frame tokens more c.join_one.result e.found)
+
+pub returns-clause-taken : goal.returns-clause-taken
+returns-clause-taken g c =
+    let frame = g.N.Naming.frame in
+    let tokens = g.N.Naming.tokens in
+    let r = c.args.self.now in
+    let was = c.args.note.knows in
+    let is = c.find_back-found.result.1.knows in
+    let f = subst (λ (l : List ℕ). HasFoundBack frame tokens l was is (Rattle.std.proofs.Common.Some c.in-Some.found)) c.as_slice.ensures.value (subst (λ (o : Option Found). HasFoundBack frame tokens c.as_slice.result.now was is o) c.in-Some.is c.find_back-found.ensures.found) in
+    record {
+      free = is_none r.stray (sym c.if-is_some.false ∙ c.is_some.ensures);
+      found = c.in-Some.found;
+      first = f.0;
+      waited = f.1;
+      joined = c.join_one.ensures.joined;
+      same = refl;
+    }

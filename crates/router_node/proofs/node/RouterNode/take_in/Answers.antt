@@ -1,0 +1,64 @@
+use Rattle.std.proofs.Common.{◌≡◌, ℕ, ◌+◌, ◌≤◌, List, [], ◌∷◌, length, Option, Some, refl, ap, subst, ◌∙◌, length-append, arith}
+use Rattle.std.specs.VecDeque.{deque_capacity}
+use Rattle.router_node.specs.Finds.{HasFoundRequest}
+use Rattle.router_node.specs.Node.{stage_of}
+use Rattle.router_node.specs.Stages.{IsStage}
+use Rattle.router_node.specs.declared.items.Request.{Request}
+use Rattle.router_node.specs.declared.stage.Stage.{Stage}
+use Rattle.router_node.proofs.Holds.{all_more, all_next, keeps, last_is, latency_to, router_more, stray_more, turned_stage}
+use Rattle.router_node.proofs.Looks.{within_on}
+use Rattle.router_node.proofs.node.RouterNode.take_in.Goals as goal
+
+pub returns-in_default-clause-router : goal.returns-in_default-clause-router
+returns-in_default-clause-router g c = router_more g.N.Naming.frame g.N.Naming.tokens c.args.note.knows.known c.find_request-request.result.1.knows.known c.find_request-request.ensures.knew c.args.self.now c.requires.router
+
+-- what was found, at which hop
+found : (g : _) (c : goal.After-push_back_reserved g) → HasFoundRequest g.N.Naming.frame g.N.Naming.tokens c.args.self.now.router c.args.self.now.above.items c.args.note.knows c.find_request-request.result.1.knows (Some c.in-Some.request)
+found g c =
+    let frame = g.N.Naming.frame in
+    let r = c.args.self.now in
+    subst (λ (l : List ℕ). HasFoundRequest frame g.N.Naming.tokens r.router l c.args.note.knows c.find_request-request.result.1.knows (Some c.in-Some.request)) c.as_slice.ensures.value
+    (subst (λ (o : Option Request). HasFoundRequest frame g.N.Naming.tokens r.router c.as_slice.result.now c.args.note.knows c.find_request-request.result.1.knows o) c.in-Some.is c.find_request-request.ensures.found)
+
+pub turn-turned-requires-clause-latency : goal.turn-turned-requires-clause-latency
+turn-turned-requires-clause-latency g c =
+    let frame = g.N.Naming.frame in
+    let r = c.args.self.now in
+    let f = subst (λ (o : Option Request). HasFoundRequest frame g.N.Naming.tokens r.router c.as_slice.result.now c.args.note.knows c.find_request-request.result.1.knows o) c.in-Some.is c.find_request-request.ensures.found in
+    c.requires.router.latency ∙ latency_to frame.world c.in-Some.request.hop r.router f.2.leads
+
+pub returns-clause-router : goal.returns-clause-router
+returns-clause-router g c =
+    let frame = g.N.Naming.frame in
+    let tokens = g.N.Naming.tokens in
+    let r = c.args.self.now in
+    let is = c.requires.router in
+    let known = c.args.note.knows.known in
+    let more = c.turn-turned.result.1.knows.known in
+    let w = within_on known c.find_request-request.result.1.knows.known more c.find_request-request.ensures.knew c.turn-turned.ensures.knew in
+    let one = turned_stage frame tokens r.router r.latency c.in-Some.request c.find_request-request.result.1 c.turn-turned.result.1 (found g c).1 c.turn-turned.result.0 c.stage_of-stage.result c.stage_of-stage.ensures c.turn-turned.ensures.turned in
+    let all = all_next (IsStage frame tokens more) r.held.items c.push_back_reserved.new.self.items c.stage_of-stage.result c.push_back_reserved.ensures.items (all_more frame tokens known more w r.held.items is.held) one in
+    let count : length c.push_back_reserved.new.self.items ≡ length r.held.items + 1 = ap (λ (l : List Stage). length l) c.push_back_reserved.ensures.items ∙ length-append r.held.items (c.stage_of-stage.result ∷ []) in
+    let few : length c.push_back_reserved.new.self.items ≤ r.room = omega (arith, count, c.len.ensures, c.if-len-self.false, r.held.ok.0) in
+    let room : r.room ≤ deque_capacity c.push_back_reserved.new.self = omega (arith, is.room, c.push_back_reserved.ensures.capacity) in
+    keeps frame tokens known more w r (record r { held = c.push_back_reserved.new.self }) refl is all few room (stray_more frame tokens known more w r.stray is.stray)
+
+pub returns-clause-below : goal.returns-clause-below
+returns-clause-below g c = c.turn-turned.ensures.below c.find_request-request.ensures.below
+
+pub returns-clause-taken : goal.returns-clause-taken
+returns-clause-taken g c =
+    let r = c.args.self.now in
+    let f = found g c in
+    record {
+      room = omega (arith, c.len.ensures, c.if-len-self.false, r.held.ok.0);
+      request = c.in-Some.request;
+      mid = c.find_request-request.result.1;
+      first = f.0;
+      waited = f.2;
+      turned = c.turn-turned.result.0;
+      turns = c.turn-turned.ensures.turned;
+      knew = c.turn-turned.ensures.knew;
+      line = last_is r.held.items c.push_back_reserved.new.self.items c.stage_of-stage.result (stage_of c.turn-turned.result.0) c.push_back_reserved.ensures.items c.stage_of-stage.ensures;
+      same = refl;
+    }

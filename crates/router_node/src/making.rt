@@ -1,0 +1,152 @@
+// A new router.
+ghost use Rattle.std.specs.Prelude.{◌≡◌, ◌+◌, ◌^◌, ◌<◌, ◌≤◌, [], ◌∷◌, ◌++◌, length, IfOk, OnOk, if◌then◌else◌, slice_get};
+ghost use Rattle.std.specs.List.{range_with_len};
+ghost use Rattle.tlm_model.specs.Route.{window_hop};
+ghost use Rattle.router_node.specs.Hops.{IsNew, hops_to, is_router, leads_to, row_lanes, row_windows};
+ghost use Rattle.router_node.specs.Items.{accepts, is_accepting};
+ghost use Rattle.router_node.specs.Node.{router_latency};
+
+use crate::node::RouterNode;
+use plat_net::{Net, TlmLaw};
+use route_plan::Plan;
+use shared_object::Naming;
+use std::alloc::{AllocError, Global};
+use std::collections::VecDeque;
+use tlm_model::Target;
+use tlm_types::{Memory, Ps, ReqMode};
+
+// Whether a component is this router.
+fn is_router(to: Target, router: u32) -> bool
+    ensures { result ≡ is_router to router }
+{
+    match to {
+        Target::Memory(_) => false,
+        Target::Router(number) => number == router,
+    }
+}
+
+// Whether END_REQ is a call of its own.
+fn accepts(mode: ReqMode) -> bool
+    ensures { result ≡ accepts mode }
+{
+    matches!(mode, ReqMode::Accept)
+}
+
+// Whether a hop leads to this router.
+fn leads_to(plan: &Plan, hop: u32, router: u32) -> bool
+    ensures { result ≡ leads_to plan.now.platform hop router }
+{
+    match plan.hop_ends(hop) {
+        Some(ends) => is_router(ends.down, router),
+        None => false,
+    }
+}
+
+// Adds the hop where it leads to this router.
+fn push_leading(hops: &mut Vec<u32>, plan: &Plan, hop: u32, router: u32) -> Result<(), AllocError>
+    ensures { OnOk result (hops.new.items ≡ hops.old.items ++ (if leads_to plan.now.platform hop router then hop ∷ [] else [])) }
+{
+    if !leads_to(plan, hop, router) {
+        return Ok(());
+    }
+    hops.push(hop)?;
+    Ok(())
+}
+
+// The hops that lead to a router, in order.
+fn hops_to(alloc: Global, plan: &Plan, router: u32) -> Result<Vec<u32>, AllocError>
+    ensures are { IfOk result (λ hops. hops.items ≡ hops_to plan.now.platform router) }
+    ensures few { IfOk result (λ hops. length hops.items ≤ 288) }
+{
+    let _ = plan.platform();
+    let mut hops = Vec::new(alloc);
+    let mut hop = 0u32;
+    'hops: while plan.hop_ends(hop).is_some() {
+        push_leading(&mut hops, plan, hop, router)?;
+        hop += 1;
+    }
+    Ok(hops)
+}
+
+// The hop of a router's first window.
+fn first_window(plan: &Plan, router: u32) -> u32
+    requires { router < length plan.now.platform.routers }
+    ensures first { result ≡ window_hop plan.now.platform router 0 }
+    ensures small { result < 2 ^ 31 }
+{
+    let platform = plan.platform();
+    let mut hop = platform.initiators.as_slice().len() as u32;
+    let earlier = &platform.routers.as_slice()[..router as usize];
+    for row in earlier {
+        hop += row.windows.as_slice().len() as u32;
+    }
+    hop
+}
+
+// How many windows a router has.
+fn count_of(plan: &Plan, router: u32) -> u32
+    requires { router < length plan.now.platform.routers }
+    ensures count { result ≡ row_windows (slice_get plan.now.platform.routers router) }
+    ensures few { result ≤ 16 }
+{
+    let row = &plan.platform().routers.as_slice()[router as usize];
+    row.windows.as_slice().len() as u32
+}
+
+// So many hops from the first one on.
+fn hops_from(alloc: Global, first: u32, count: u32) -> Result<Vec<u32>, AllocError>
+    requires { first + count < 2 ^ 32 }
+    ensures { IfOk result (λ hops. hops.items ≡ range_with_len first count) }
+{
+    let mut hops = Vec::new(alloc);
+    for k in 0..count {
+        hops.push(first + k)?;
+    }
+    Ok(hops)
+}
+
+// Whether END_REQ is a call of its own for this router, its latency in picoseconds, and the lanes of each hop
+// to it.
+fn traits_of(plan: &Plan, router: u32) -> (bool, Ps, u32)
+    requires { router < length plan.now.platform.routers }
+    ensures accepts { result.0 ≡ is_accepting plan.now router }
+    ensures latency { result.1 ≡ router_latency plan.now router }
+    ensures lanes { result.2 ≡ row_lanes (slice_get plan.now.platform.routers router) }
+    ensures few { result.2 ≤ 16 }
+{
+    let row = &plan.platform().routers.as_slice()[router as usize];
+    (accepts(row.accept), row.latency, row.lanes)
+}
+
+impl RouterNode {
+    /// The router of a net with this number, between the hops that lead to it and those of its windows. It has
+    /// room for as many transactions as those that lead to it have lanes. Its only error is want of memory.
+    pub fn new<N: Naming<Plan, TlmLaw>>(
+        alloc: Global,
+        net: &Net<N>,
+        router: u32,
+    ) -> Result<RouterNode, Memory>
+        requires { router < length N.frame.world.platform.routers }
+        ensures { IfOk result (IsNew N.frame N.tokens router) }
+    {
+        let plan = net.plan();
+        let (accepts, latency, lanes) = traits_of(plan, router);
+        let above = hops_to(alloc, plan, router)?;
+        let first = first_window(plan, router);
+        let count = count_of(plan, router);
+        let below = hops_from(alloc, first, count)?;
+        let room = lanes * above.len() as u32;
+        let held = VecDeque::with_capacity(alloc, room as usize)?;
+        Ok(RouterNode {
+            router,
+            first,
+            accepts,
+            latency,
+            above,
+            below,
+            held,
+            room,
+            stray: None,
+        })
+    }
+}
