@@ -75,6 +75,7 @@ goes_on table tokens frame s note back hand held p of within below in_hand is_he
   payload = p.payload;
   has_payload = p.has_payload;
   roomy = p.roomy;
+  proper = p.proper;
 }
 
 pub taken_is_take : (x : TxnId) (position slot : ℕ) (e : Event) → IsTaken x position slot e → IsTake x e

@@ -2,6 +2,8 @@ mod AwayLemmas
 mod WalletLemmas
 mod PortFacts
 mod HandsMore
+mod Proper
+mod SeenRoute
 mod Goes
 mod FirstHop
 mod Backs
@@ -18,4 +20,12 @@ mod NextIsAsked
 mod Taking
 mod Loads
 mod TakesNext
+mod ReadsNext
 mod TakeBack
+mod Reading
+mod Asking
+mod GoesOnward
+mod Shares
+mod Starting
+mod Pumping
+mod Waiting

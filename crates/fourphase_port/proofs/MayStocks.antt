@@ -65,6 +65,7 @@ use Rattle.fourphase_port.specs.Stocks.{HasPaid, IsApart, IsStocked, MayStock, h
 use Rattle.fourphase_port.proofs.FirstHop.{has_its_pool}
 use Rattle.fourphase_port.proofs.NextIsAsked.{access_passes, filled_asks, filled_new, filled_room, taken_asked, way}
 use Rattle.fourphase_port.proofs.TakesIn.{other_pulled, same_pulled}
+use Rattle.fourphase_port.proofs.SeenRoute.{Seen, seen_route}
 
 -- a hop of a list is counted
 counted : (hops : List ℕ) (h j : ℕ) → j < length hops → get_or hops j 0 ≡ h → 1 ≤ count_by (λ k. k == h) hops
@@ -126,22 +127,6 @@ passes (k ∷ hops) h d = go (k == h) refl (passes hops h later)
         missed : Missed hops h → (j : ℕ) → j < suc (length hops) → get_or (k ∷ hops) j 0 ≡ h → ⊥
         missed m zero l e = differs q e
         missed m (suc j) l e = m.none j (omega (arith, l)) e
-
--- the model's route of one that a plan tells
-record Seen (e : Option model.Route) (r : Route) : Type 0 where
-  route : model.Route
-  is : e ≡ Some route
-  memory : route.memory ≡ r.memory
-
-seen_route : (b l : ℕ) (e : Option model.Route) (r : Route) → route_seen b l e ≡ Some r → Seen e r
-seen_route b l None r q = cc
-seen_route b l (Some m) r q = record { route = m; is = refl; memory = same _ r q }
-  where
-    same : (u v : Route) → Some u ≡ Some v → u.memory ≡ v.memory
-    same u v e = ap (λ (o : Route). o.memory) (one u v e)
-      where
-        one : (u v : Route) → Some u ≡ Some v → u ≡ v
-        one u v e = cc
 
 same_kind : (kind : TransferKind) → IsAccessOf kind → IsAccessKind kind
 same_kind (kinds.Access command plain fenced) a = tt

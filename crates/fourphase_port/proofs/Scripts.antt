@@ -1,5 +1,5 @@
 -- A port that settles its time, or passes a pause, is a port.
-use Rattle.std.proofs.Common.{◌≡◌, ℕ, Bool, true, false, List, [], ◌∷◌, length, max, Option, Some, None, refl, sym, ap, ◌∙◌, subst, arith}
+use Rattle.std.proofs.Common.{◌≡◌, ◌≤◌, ℕ, Bool, true, false, List, [], ◌∷◌, length, max, Option, Some, None, refl, sym, ap, ◌∙◌, subst, arith}
 use Rattle.std.specs.Prelude.{slice_get}
 use Rattle.atomic_table.specs.Seated.{TableId}
 use Rattle.one_history.specs.Held.{Held}
@@ -23,6 +23,7 @@ use Rattle.fourphase_port.specs.State.{GoesBack, IsHeld, IsInHand, IsPort, State
 use Rattle.fourphase_port.specs.declared.hand.Hand.{Hand}
 use Rattle.fourphase_port.specs.declared.hand.Hand.TheVariants.{Free}
 use Rattle.fourphase_port.proofs.PortFacts.{waits_for_one}
+use Rattle.fourphase_port.proofs.Proper.{proper_passed}
 
 not_true : (b : Bool) → (b ≡ true → ⊥) → b ≡ false
 not_true true f = absurd (f refl)
@@ -34,6 +35,9 @@ never held hand none c some = cc
 same_number : (e : State) (ops : List Operation) → (passed_over e ops).initiator ≡ e.initiator
 same_number e [] = refl
 same_number e (op ∷ ops) = refl
+
+latest_settled : (t l : ℕ) → l ≤ max t l
+latest_settled t l = grind arith
 
 -- all but the port is as it was
 pub state_is : (s t : StateView) (q : Port) → t.port ≡ q → KeepsRest s t → t ≡ record s { port = q }
@@ -80,7 +84,12 @@ module _ (table tokens : TableId) (frame : Frame Plan) (s : StateView) (note : H
         payload = p.payload;
         has_payload = p.has_payload;
         roomy = p.roomy;
+        proper = p.proper;
       })
+
+  -- and its time is settled then
+  pub has_settled : (t : StateView) → Settles s t → HasSettled t.port
+  has_settled t m = let port = s.port in subst HasSettled (sym m.port) (record { free = quiet m.free; none = m.free; settled = latest_settled port.time port.latest })
 
   pub passed_port : (t : StateView) (pause : Pause) → HasSettled s.port → Passes pause s t → IsPort table tokens frame (with_note t note)
   passed_port t pause settled m =
@@ -112,4 +121,5 @@ module _ (table tokens : TableId) (frame : Frame Plan) (s : StateView) (note : H
         payload = p.payload;
         has_payload = p.has_payload;
         roomy = p.roomy;
+        proper = proper_passed port.engine port.engine.remaining p.proper refl;
       })

@@ -1,6 +1,7 @@
 -- A port that has taken an access back is a port.
 use Rattle.std.proofs.Common.{◌≡◌, ◌⊎◌, ℕ, ◌+◌, ◌*◌, ◌<◌, ◌≤◌, Bool, true, false, List, [], ◌∷◌, ◌++◌, length, Option, Some, None, IsSome, refl, sym, ap, ◌∙◌, subst, inl, inr, arith}
 use Rattle.std.specs.Prelude.{IfSome, slice_get}
+use Rattle.std.specs.List.{AllByRecursion}
 use Rattle.std.proofs.lemmas.Grind.{common_steps}
 use Rattle.std.proofs.lemmas.List.Sums.{sum_by-cons}
 use Rattle.atomic_table.specs.Seated.{TableId}
@@ -12,6 +13,7 @@ use Rattle.shared_object.specs.Steps.{IsNote}
 use Rattle.tlm_types.specs.declared.entry.Content.{Content}
 use Rattle.tlm_model.specs.declared.operation.Operation.{Operation}
 use Rattle.tlm_model.specs.Plan.{Plan, Initiator, initiators_of}
+use Rattle.traffic_script.specs.Proper.{IsProper}
 use Rattle.token_book.specs.Purse.{HasPlace, IsOf, Purse, bytes_of, empty_purse}
 use Rattle.token_book.specs.Ticket.{IsTicket}
 use Rattle.token_book.specs.declared.ticket.Ticket.{Ticket}
@@ -47,6 +49,7 @@ use Rattle.fourphase_port.proofs.Backs.{its}
 use Rattle.fourphase_port.proofs.Goes.{ended_stows}
 use Rattle.fourphase_port.proofs.HandsMore.{ended_more, held_more}
 use Rattle.fourphase_port.proofs.PortFacts.{waits_for_it}
+use Rattle.fourphase_port.proofs.Proper.{proper_told}
 use Rattle.fourphase_port.proofs.TakeBack.{long_back, takes_fenced_back, takes_plain_back}
 use Rattle.fourphase_port.proofs.TakesIn.{few_then}
 
@@ -79,13 +82,13 @@ module _ (table tokens : TableId) (frame : Frame Plan) (s : StateView) (note : H
   i = p.initiator
 
   -- the port with another script, other tickets, and something else to work on
-  pub moved_port : (q : Port) (w : Purse) (hand : Hand) (b : Option PayloadView) → q.time ≡ s.port.time → q.engine.initiator ≡ s.port.engine.initiator → IsOf tokens w → w.places ≡ s.wallet.places
+  pub moved_port : (q : Port) (w : Purse) (hand : Hand) (b : Option PayloadView) → q.time ≡ s.port.time → q.engine.initiator ≡ s.port.engine.initiator → AllByRecursion IsProper q.engine.remaining → IsOf tokens w → w.places ≡ s.wallet.places
       → ((o : ℕ) → HasPlace w o → o < length (objects_of frame.world.platform))
       → ((m : ℕ) → m < length frame.world.platform.memories → bytes_left frame.world i m q.engine ≤ bytes_of w m + bytes_under frame.world i m q)
       → IsUnderWay frame.world i q (events_of frame.world.platform back.knows.known) back.knows.seen (left_at frame.world w)
       → IsInHand frame tokens i q back.knows.known hand → ((c : Cargo) → s.held ≡ Some c → GoesBack hand) → IfSome b (λ (v : PayloadView). v.room ≡ 4096) → IsSome b
       → IsPort table tokens frame (with_note (record s { port = q; hand = hand; payload = b; wallet = w }) back)
-  moved_port q w hand b time who wallet places few bytes way in_hand alone room some = record {
+  moved_port q w hand b time who proper wallet places few bytes way in_hand alone room some = record {
     no_cycle = p.no_cycle;
     initiator = i;
     is = subst (λ (n : ℕ). slice_get (initiators_of frame.world) n ≡ Some i) (sym who) p.is;
@@ -104,6 +107,7 @@ module _ (table tokens : TableId) (frame : Frame Plan) (s : StateView) (note : H
     payload = room;
     has_payload = some;
     roomy = p.roomy;
+    proper = proper;
   }
 
   module _ (c : Cargo) (end : ℕ) (h : IsHandOf frame tokens (with_note s note) (Ended c end)) (second z w : Purse) (first : Pulls tokens (own_pool frame.world s.port.engine.initiator) 0 c.baton.wallet second)
@@ -165,6 +169,10 @@ module _ (table tokens : TableId) (frame : Frame Plan) (s : StateView) (note : H
     who_back false away = refl
     who_back true away = told_number s.port.engine c.baton.payload.bytes (let e = s.port.engine in e.due)
 
+    proper_back : (b : Bool) (away : List ℕ) → AllByRecursion IsProper (port_back s.port away end c.baton.payload.bytes b).engine.remaining
+    proper_back false away = p.proper
+    proper_back true away = proper_told s.port.engine c.baton.payload.bytes (let e = s.port.engine in e.due) p.proper
+
     time_back : (b : Bool) (away : List ℕ) → (port_back s.port away end c.baton.payload.bytes b).time ≡ s.port.time
     time_back false away = refl
     time_back true away = refl
@@ -178,11 +186,11 @@ module _ (table tokens : TableId) (frame : Frame Plan) (s : StateView) (note : H
 
       back_by : (f : Bool) → s.port.waiting ≡ f → (away : List ℕ) → Removes s.port.away seq away
           → IsPort table tokens frame (with_note (record s { port = port_back s.port away end c.baton.payload.bytes f; hand = Released b t end; payload = s.payload; wallet = w }) back)
-      back_by f is away removes = moved_port (port_back s.port away end c.baton.payload.bytes f) w (Released b t end) s.payload (time_back f away) (who_back f away) takes.of takes.places
+      back_by f is away removes = moved_port (port_back s.port away end c.baton.payload.bytes f) w (Released b t end) s.payload (time_back f away) (who_back f away) (proper_back f away) takes.of takes.places
           (few_then table tokens frame s note p c end h second z first last w takes) (bytes_back f is away removes) (way_back f is away removes) (released _) (λ d e. tt) p.payload p.has_payload
 
       stray : IsPort table tokens frame (with_note (record s { port = s.port; hand = Released b t end; payload = s.payload; wallet = w }) back)
-      stray = moved_port s.port w (Released b t end) s.payload refl refl takes.of takes.places (few_then table tokens frame s note p c end h second z first last w takes)
+      stray = moved_port s.port w (Released b t end) s.payload refl refl p.proper takes.of takes.places (few_then table tokens frame s note p c end h second z first last w takes)
           (λ m there. (let old = p.bytes m there in let more = takes.bytes_left m in omega (arith, old, more)))
           (keeps_stray frame.world i s.port (events_of frame.world.platform note.knows.known) (events_of frame.world.platform back.knows.known) note.knows.seen back.knows.seen (left_at frame.world s.wallet) (left_at frame.world w) p.way
           (events_more frame.world.platform note.knows.known back.knows.known within) (events_below frame.world.platform note.knows.known back.knows.known back.knows.seen below)
@@ -202,7 +210,7 @@ module _ (table tokens : TableId) (frame : Frame Plan) (s : StateView) (note : H
           → TakesBack frame c end (with_note s note) (with_note v back) ⊎ PutsStray frame c end (with_note s note) (with_note v back)
       back_move u v (inl k) q freed made look =
           inl (subst (λ (x : StateView). TakesBack frame c end (with_note s note) (with_note x back)) (sym (q ∙ ap (λ (x : StateView). record x { hand = Released b t end }) k.is))
-          (record { freed = freed; released = made; away = k.away; removes = k.removes; port = refl; txn = ap (λ (a : Baton). Some a.txn) is; held = refl; look = look }))
+          (record { freed = freed; released = made; away = k.away; removes = k.removes; port = refl; hand = refl; txn = ap (λ (a : Baton). Some a.txn) is; held = refl; look = look }))
       back_move u v (inr k) q freed made look =
           inr (subst (λ (x : StateView). PutsStray frame c end (with_note s note) (with_note x back)) (sym (q ∙ ap (λ (x : StateView). record x { hand = Released b t end }) k.0))
-          (record { stray = k.1; keeps = record { port = refl; room = refl; known = within }; txn = ap (λ (a : Baton). Some a.txn) is; held = refl; look = look }))
+          (record { stray = k.1; keeps = record { port = refl; room = refl; known = within }; hand = refl; txn = ap (λ (a : Baton). Some a.txn) is; held = refl; look = look }))

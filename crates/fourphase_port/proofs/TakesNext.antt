@@ -1,6 +1,6 @@
 -- A port that takes the access that is next may do so, and is a port afterwards.
 use Rattle.std.proofs.Common.{◌≡◌, ◌⊎◌, ℕ, zero, suc, ◌+◌, ◌*◌, ◌-◌, ◌<◌, ◌≤◌, ◌==◌, if◌then◌else◌, Bool, true, false, not, List, [], ◌∷◌, ◌++◌, length, length-append, Option, Some, None, IsSome, refl, sym, ap, ◌∙◌, subst, inl, inr, arith}
-use Rattle.std.specs.List.{filter}
+use Rattle.std.specs.List.{AllByRecursion, filter}
 use Rattle.std.proofs.lemmas.Bool.{cases_eq, eq-eqb, ne_eqb}
 use Rattle.std.proofs.lemmas.List.{length-map, length-replicate}
 use Rattle.std.proofs.lemmas.List.Filters.{length-filter_both}
@@ -19,6 +19,7 @@ use Rattle.tlm_model.specs.Store.{zeros}
 use Rattle.std.specs.FinMap as map
 use Rattle.std.specs.FinMap.{get-empty}
 use Rattle.std.specs.Ordering.{nat_cmp}
+use Rattle.traffic_script.specs.Proper.{IsProper}
 use Rattle.token_book.specs.Pocket.{Pocket}
 use Rattle.token_book.specs.Purse.{HasPlace, HasRoom, IsOf, Purse, bytes_of, empty_purse, left_in, left_of}
 use Rattle.fourphase_port.specs.Wallets.{Gets}
@@ -30,6 +31,7 @@ use Rattle.view_lists.specs.Lists.{Has}
 use Rattle.fourphase_port.specs.Stocks.{MayStock}
 use Rattle.fourphase_port.proofs.AwayLemmas.{among_of}
 use Rattle.fourphase_port.proofs.PortFacts.{next_is_new}
+use Rattle.fourphase_port.proofs.Proper.{proper_passed}
 use Rattle.fourphase_port.proofs.TakesIn.{same_pulled}
 use Rattle.region_object.specs.Call.{payload_cost}
 use Rattle.payload_pool.specs.declared.baton.Baton.{Baton}
@@ -157,9 +159,28 @@ fewer_under stage (suc n) k l q = elim (low_or_last k n l) [
       )
 ]
 
-passed_who : (e : State) (ops : List Operation) → (passed_over e ops).initiator ≡ e.initiator
+pub passed_who : (e : State) (ops : List Operation) → (passed_over e ops).initiator ≡ e.initiator
 passed_who e [] = refl
 passed_who e (op ∷ ops) = refl
+
+module _ (table tokens : TableId) (frame : Frame Plan) (s : StateView) (note : Held Content Plan) (p : IsPort table tokens frame (with_note s note)) (x : Transfer) (next_is : next_of s.port.engine ≡ Asks x) (quiet : s.port.waiting ≡ false) where
+  made_so_far : length (p.way.made) ≡ s.port.engine.seq
+  made_so_far =
+      let a = p.way.asking in
+      let none : length (pending s.port.waiting s.port.engine a.blocking p.way.step) ≡ 0 = ap (λ (b : Bool). length (pending b s.port.engine a.blocking p.way.step)) quiet in
+      let parts = ap length a.is_made ∙ length-append a.passed (pending s.port.waiting s.port.engine a.blocking p.way.step) in
+      omega (arith, parts, none, a.count)
+
+  next_below : s.port.engine.seq < count_of p.initiator
+  next_below = subst (λ (k : ℕ). s.port.engine.seq < k) p.way.asking.numbers (more_numbers s.port.engine x next_is)
+
+  -- one more may be told as refused
+  pub room_told : length s.port.refused < s.room
+  room_told =
+      let u = p.way in
+      let is = ap length (u.refused (λ k. end_by (u.stage k)) (λ k b. refl)) ∙ length-map _ _ in
+      let few = few_kept (λ (r : Request). has_no_route frame.world.platform p.initiator r r.asked) u.made in
+      omega (arith, is, few, made_so_far, next_below, p.roomy)
 
 module _ (table tokens : TableId) (frame : Frame Plan) (s : StateView) (note : Held Content Plan) (p : IsPort table tokens frame (with_note s note)) (x : Transfer) (next_is : next_of s.port.engine ≡ Asks x) (may : MayTakeNext s.port x) where
   abbrev i : Initiator
@@ -178,21 +199,13 @@ module _ (table tokens : TableId) (frame : Frame Plan) (s : StateView) (note : H
   access = access_by s.port x.kind may
 
   made_long : length (p.way.made) ≡ s.port.engine.seq
-  made_long =
-      let a = p.way.asking in
-      let none : length (pending s.port.waiting s.port.engine a.blocking p.way.step) ≡ 0 = ap (λ (b : Bool). length (pending b s.port.engine a.blocking p.way.step)) quiet in
-      let parts = ap length a.is_made ∙ length-append a.passed (pending s.port.waiting s.port.engine a.blocking p.way.step) in
-      omega (arith, parts, none, a.count)
+  made_long = made_so_far table tokens frame s note p x next_is quiet
 
   number_left : s.port.engine.seq < count_of i
-  number_left = subst (λ (k : ℕ). s.port.engine.seq < k) p.way.asking.numbers (more_numbers s.port.engine x next_is)
+  number_left = next_below table tokens frame s note p x next_is quiet
 
   pub room_refused : length s.port.refused < s.room
-  room_refused =
-      let u = p.way in
-      let is = ap length (u.refused (λ k. end_by (u.stage k)) (λ k b. refl)) ∙ length-map _ _ in
-      let few = few_kept (λ (r : Request). has_no_route frame.world.platform i r r.asked) u.made in
-      omega (arith, is, few, made_long, number_left, p.roomy)
+  room_refused = room_told table tokens frame s note p x next_is quiet
 
   pub room_away : length s.port.away < s.room
   room_away =
@@ -277,7 +290,7 @@ module _ (table tokens : TableId) (frame : Frame Plan) (s : StateView) (note : H
 
     pub full_port : s.hand ≡ Free → (v : StateView) → v ≡ record s { wallet = u } → IsPort table tokens frame (with_note v back)
     full_port free v is = subst (λ (k : StateView). IsPort table tokens frame (with_note k back)) (sym is)
-        (moved_port table tokens frame s note p back of within below s.port u s.hand s.payload refl refl gets.of (gets.places ∙ pulls.places) few_back
+        (moved_port table tokens frame s note p back of within below s.port u s.hand s.payload refl refl p.proper gets.of (gets.places ∙ pulls.places) few_back
         (λ m there. (let old = p.bytes m there in let more = no_less_bytes m in omega (arith, old, more)))
         (keeps_stray frame.world i s.port before (events_of frame.world.platform back.knows.known) note.knows.seen back.knows.seen (left_at frame.world s.wallet) (left_at frame.world u) p.way
         (events_more frame.world.platform note.knows.known back.knows.known within) (events_below frame.world.platform note.knows.known back.knows.known back.knows.seen below) (λ o. no_less (object_number frame.world.platform o)))
@@ -328,6 +341,10 @@ module _ (table tokens : TableId) (frame : Frame Plan) (s : StateView) (note : H
     who_by false = passed_who s.port.engine (let e = s.port.engine in e.remaining)
     who_by true = refl
 
+    proper_by : (f : Bool) → AllByRecursion IsProper (port_taken frame.world i s.port x f).engine.remaining
+    proper_by false = proper_passed s.port.engine (let e = s.port.engine in e.remaining) p.proper refl
+    proper_by true = p.proper
+
     time_by : (f : Bool) → (port_taken frame.world i s.port x f).time ≡ s.port.time
     time_by false = refl
     time_by true = refl
@@ -348,7 +365,7 @@ module _ (table tokens : TableId) (frame : Frame Plan) (s : StateView) (note : H
 
     taken_by : (f : Bool) → is_fenced_kind x.kind ≡ f
         → IsPort table tokens frame (with_note (record s { port = port_taken frame.world i s.port x f; hand = Taken (filled_baton s b l.stock); payload = s.payload; wallet = l.left }) back)
-    taken_by f q = moved_port table tokens frame s note p back of within below (port_taken frame.world i s.port x f) l.left (Taken (filled_baton s b l.stock)) s.payload (time_by f) (who_by f) l.paid.of (l.paid.places ∙ pulls.places)
+    taken_by f q = moved_port table tokens frame s note p back of within below (port_taken frame.world i s.port x f) l.left (Taken (filled_baton s b l.stock)) s.payload (time_by f) (who_by f) (proper_by f) l.paid.of (l.paid.places ∙ pulls.places)
         (λ o has. p.few_places o (held_in o (l.paid.within o has))) (bytes_by f q) (way_by f q) (hand_by f) (not_held (Taken (filled_baton s b l.stock)) s.held free) p.payload p.has_payload
 
     is_then : v ≡ taken_state frame.world i s x b l.stock l.left

@@ -1,5 +1,5 @@
 -- What a port has for the access that is next.
-use Rattle.std.specs.Prelude.{◌≡◌, ◌+◌, false}
+use Rattle.std.specs.Prelude.{◌≡◌, ◌+◌, ◌<◌, ◌≤◌, false, Some, None}
 use Rattle.atomic_table.specs.Seated.{TableId}
 use Rattle.view_lists.specs.Lists.{Within}
 use Rattle.one_history.specs.Held.{Held}
@@ -12,7 +12,10 @@ use Rattle.joined_traffic.specs.Accesses.{txn_of}
 use Rattle.plat_net.specs.PoolCalls.{CanStart}
 use Rattle.tlm_types.specs.declared.words.ObjectNo.{ObjectNo}
 use Rattle.tlm_model.specs.Plan.{Plan}
-use Rattle.token_book.specs.Purse.{Purse}
+use Rattle.token_book.specs.Purse.{Purse, bytes_of, left_of}
+use Rattle.flow_model.specs.Platform.{passage_of}
+use Rattle.route_plan.specs.declared.step.Route.{Route}
+use Rattle.plat_net.specs.Calls.{route_at}
 use Rattle.region_object.specs.Call.{payload_cost}
 use Rattle.cargo_model.specs.Tickets.{Pulls}
 use Rattle.port_model.specs.Stages.{price}
@@ -50,3 +53,13 @@ NextMayStart = (table tokens : TableId) (frame : Frame Plan) (v : PortView) → 
     → (back : Held Content Plan) → Within v.note.knows.known back.knows.known → StandBelow back.knows.known back.knows.seen → (b0 b : Baton) (z : Purse)
     → HasTaken frame tokens (txn_of v.port.engine.initiator v.port.engine.seq) v.port.time v.note.knows.seen b0 back.knows.known → b ≡ record b0 { payload = payload_of v.port.engine 4096; wallet = z }
     → IsStocked tokens frame.world v.port.engine.initiator x.address (payload_cost (payload_of v.port.engine 4096)) z → CanStart frame tokens v.port.engine.initiator b v.port.time back.knows.known
+
+-- A port that waits for nothing may make the debug read that is next: it passes no hop, and where its address has a route there is a ticket of the memory for
+-- its bytes.
+pub record MayBeRead (frame : Frame Plan) (v : PortView) (x : Transfer) : Type 0 where
+  pub no_passage : passage_of frame.world (txn_of v.port.engine.initiator v.port.engine.seq) ≡ None
+  pub ticket : (r : Route) → route_at frame.world v.port.engine.initiator x.address ≡ Some r → 0 < left_of v.wallet r.memory
+  pub bytes : (r : Route) → route_at frame.world v.port.engine.initiator x.address ≡ Some r → payload_cost (payload_of v.port.engine 4096) ≤ bytes_of v.wallet r.memory
+
+abbrev pub NextMayBeRead : Type 0
+NextMayBeRead = (table tokens : TableId) (frame : Frame Plan) (v : PortView) → IsPort table tokens frame v → v.port.waiting ≡ false → (x : Transfer) → next_of v.port.engine ≡ Asks x → x.kind ≡ kinds.DebugRead → MayBeRead frame v x

@@ -8,3 +8,6 @@ pub mod Returned
 pub mod Stocks
 pub mod Loaded
 pub mod Laws
+pub mod Reads
+pub mod Pumps
+pub mod Fresh

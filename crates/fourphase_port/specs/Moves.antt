@@ -54,6 +54,10 @@ abbrev pub port_taken : Plan → Initiator → Port → Transfer → Bool → Po
 port_taken p i port x false = record port { engine = passed_by port.engine; away = port.engine.seq ∷ port.away; refused = port.refused ++ refused_for p i (next_request port x) port.time }
 port_taken p i port x true = record port { waiting = true; away = port.engine.seq ∷ port.away; refused = port.refused ++ refused_for p i (next_request port x) port.time }
 
+-- the debug read that is next was made, and told as refused where it has no route; the engine passes it
+abbrev pub port_read : Plan → Initiator → Port → Transfer → Port
+port_read p i port x = record port { engine = passed_by port.engine; refused = port.refused ++ refused_for p i (next_request port x) port.time }
+
 -- an access that was outstanding is back: it ended at this time; where the engine waits for it, it is told the payload's bytes
 abbrev pub port_back : Port → List ℕ → ℕ → List ℕ → Bool → Port
 port_back port away end got false = record port { latest = max port.latest end; away = away }
@@ -77,6 +81,11 @@ abbrev pub IsFetched : ℕ → Hand → Type 0
 IsFetched at (Owed c leg time) = time ≡ at
 IsFetched at (Ended c end) = end ≡ at
 IsFetched at hand = ⊥
+
+-- a payload is still to be stowed, at this time
+abbrev pub IsToStow : ℕ → Hand → Type 0
+IsToStow end (Released b ticket time) = time ≡ end
+IsToStow end hand = ⊥
 
 -- whose payload it works on
 abbrev pub txn_in : Hand → Option TxnId
@@ -204,6 +213,7 @@ module _ (frame : Frame Plan) where
     pub away : List ℕ
     pub removes : Removes old.port.away c.baton.txn.seq away
     pub port : new.port ≡ port_back old.port away end c.baton.payload.bytes old.port.waiting
+    pub hand : IsToStow end new.hand
     pub txn : txn_in new.hand ≡ Some c.baton.txn
     pub held : new.held ≡ old.held
     pub look : LooksAt old new (own_pool frame.world old.port.engine.initiator) 0
@@ -211,6 +221,7 @@ module _ (frame : Frame Plan) where
   pub record PutsStray (c : Cargo) (end : ℕ) (old new : PortView) : Type 0 where
     pub stray : Among old.port.away c.baton.txn.seq → ⊥
     pub keeps : KeepsPort old new
+    pub hand : IsToStow end new.hand
     pub txn : txn_in new.hand ≡ Some c.baton.txn
     pub held : new.held ≡ old.held
     pub look : LooksAt old new (own_pool frame.world old.port.engine.initiator) 0
@@ -257,7 +268,7 @@ pub record ReadsDebug (frame : Frame Plan) (old new : PortView) : Type 0 where
   pub transfer : Transfer
   pub is_next : next_of old.port.engine ≡ Asks transfer
   pub kind : transfer.kind ≡ kinds.DebugRead
-  pub port : (i : Initiator) → IsItsInitiator frame.world old i → new.port ≡ (let port = old.port in record port { engine = passed_by port.engine; refused = port.refused ++ refused_for frame.world i (next_request port transfer) port.time })
+  pub port : (i : Initiator) → IsItsInitiator frame.world old i → new.port ≡ port_read frame.world i old.port transfer
   pub hand : new.hand ≡ old.hand
   pub held : new.held ≡ old.held
   pub entry : (i : Initiator) (r : Route) → IsItsInitiator frame.world old i → route_of frame.world.platform i transfer.address ≡ Some r →

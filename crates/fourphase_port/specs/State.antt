@@ -1,5 +1,6 @@
 -- What contracts see of a port, and what it knows of what it works on.
 use Rattle.std.specs.Prelude.{ℕ, ◌≡◌, ◌+◌, ◌*◌, ◌<◌, ◌≤◌, Bool, true, List, length, Option, Some, None, IfSome, IsSome, slice_get}
+use Rattle.std.specs.List.{AllByRecursion}
 use Rattle.atomic_table.specs.Seated.{TableId}
 use Rattle.one_history.specs.Held.{Held}
 use Rattle.one_history.specs.declared.entry.Entry.{Entry}
@@ -12,6 +13,7 @@ use Rattle.tlm_types.specs.declared.words.TlmSync.TheVariants.{Completed}
 use Rattle.tlm_model.specs.declared.platform.Style.TheVariants.{FourPhase}
 use Rattle.tlm_model.specs.Plan.{Plan, Initiator, initiators_of}
 use Rattle.base_phases.specs.declared.phases.LaneState.TheVariants.{Responding}
+use Rattle.traffic_script.specs.Proper.{IsProper}
 use Rattle.token_book.specs.Account.{Slip}
 use Rattle.token_book.specs.Purse.{Purse, HasPlace, IsOf, bytes_of, left_of}
 use Rattle.token_book.specs.Ticket.{IsTicket}
@@ -177,6 +179,8 @@ pub record IsPort (table tokens : TableId) (frame : Frame Plan) (v : PortView) :
   pub has_payload : IsSome v.payload
   -- all of its script may be outstanding at once, or refused: that no more are than its pool has slots is known to nobody but the pool
   pub roomy : count_of initiator ≤ v.room
+  -- what is left of its script is proper, as all scripts of a valid plan are: it has no invalidation
+  pub proper : AllByRecursion IsProper v.port.engine.remaining
 
 -- what is known of a hand of it
 abbrev pub IsHandOf : Frame Plan → TableId → PortView → Hand → Type 0

@@ -1,5 +1,6 @@
 //! What a port has for the access that is next.
-ghost use Rattle.fourphase_port.specs.Laws.{NextIsPaid, NextMayBeStocked, NextMayStart};
+ghost use Rattle.fourphase_port.specs.Pumps.{NothingHasLooked};
+ghost use Rattle.fourphase_port.specs.Laws.{NextIsPaid, NextMayBeRead, NextMayBeStocked, NextMayStart};
 
 /// A port has all tickets and bytes of the access that is next.
 pub fn next_may_be_stocked()
@@ -14,4 +15,15 @@ pub fn next_is_paid()
 /// Once its payload was taken, filled and stocked, the access may start.
 pub fn next_may_start()
     ensures { NextMayStart }
+{}
+
+/// The debug read that is next may be made.
+pub fn next_may_be_read()
+    ensures { NextMayBeRead }
+{}
+
+/// A pump that began with nothing in hand and answers `Nothing` has looked in vain for a response, and then
+/// for what it waits.
+pub fn nothing_has_looked()
+    ensures { NothingHasLooked }
 {}

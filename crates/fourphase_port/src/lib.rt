@@ -1,17 +1,19 @@
-//! Moves of a four-phase initiator (IEEE 1666-2011, clauses 11.1.2, 14.5 and 15.2) over a net.
+//! A four-phase initiator (IEEE 1666-2011, clauses 11.1.2, 14.5 and 15.2) over a net.
 //!
-//! - `PortState` is what a four-phase initiator has beside its note: where its script stands, its times, what
-//!   is outstanding, what it works on, and its wallet. Each of its moves makes one entry at most.
-//! - `Hand` is what it works on between two moves: an access on its way down to the first hop (`down`:
-//!   acquire, begin), at a memory that answers at once (`serve`), or back from there (`back`: fetch, end, stow;
-//!   `returns`: take_back). What its script has next is in `script`: settle, pass, finish.
-//! - `Away` are the numbers of the accesses that are outstanding; `wallets` and `stock` move tickets between the
-//!   port's own wallet and that of a payload.
+//! - `Port` is a four-phase initiator under way with its note. `pump` makes its moves up to where a pump ends, `advance`
+//!   the next one, and `finish` gives up its note, its wallet and how it ended.
+//! - `PortState` is what it has beside its note: where its script stands, its times, what is outstanding, what it works
+//!   on, and its wallet. Each of its moves (`moves`) makes one entry at most.
+//! - `Hand` is what it works on between two moves: an access on its way down to the first hop (`down`: acquire, begin),
+//!   at a memory that answers at once (`serve`), or back from there (`back`: fetch, end, stow; `returns`: take_back).
+//! - `onwards` goes on in its script: take (`takes`), settle, pass and finish (`script`), and debug reads (`reads`).
+//! - `Away` are the numbers of the accesses that are outstanding; `wallets` and `stock` move tickets between the port's
+//!   own wallet and that of a payload.
 //!
-//! Promises: `IsPort` says what the end of a run needs of a port (`port_model`'s `IsUnderWay`), and what is
-//! known of what it works on. Each move keeps it, and is one of the moves of `specs/Moves`. No move takes
-//! memory. A port has all tickets of the access that is next (`laws`), which `takes` takes. Debug reads and the
-//! pump are to come.
+//! Promises: `IsPort` says what the end of a run needs of a port (`port_model`'s `IsUnderWay`), and what is known of
+//! what it works on. Each move keeps it, and is one of the moves of `specs/Moves`. A pump is a list of moves, of which
+//! the last one gives its answer (`specs/Pumps`), and ends. No move takes memory. A port has all tickets of what is
+//! next (`laws`).
 #![tactic(auto)]
 
 mod away;
@@ -19,7 +21,11 @@ mod back;
 mod down;
 mod hand;
 pub mod laws;
+mod moves;
+mod onwards;
 mod places;
+mod port;
+mod reads;
 mod returns;
 mod script;
 mod serve;
@@ -31,4 +37,5 @@ mod wallets;
 
 pub use away::Away;
 pub use hand::{Hand, Moved, Pumped};
+pub use port::Port;
 pub use state::PortState;

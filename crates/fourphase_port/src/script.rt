@@ -26,7 +26,7 @@ use std::sync::Wait;
 
 impl PortState {
     // Nothing is outstanding: the current time becomes the greatest of itself and all end times so far.
-    fn settle(&mut self)
+    pub(crate) fn settle(&mut self)
         requires hand { (self.old.hand ≡ Hands.Free) × (self.old.held ≡ None) }
         requires free { length self.old.port.away ≡ 0 }
         requires waiting { IsWaitingOp (op_of self.old.port.engine) }
@@ -46,7 +46,7 @@ impl PortState {
     }
 
     // Goes on after a wait, a sync or a fence, once the current time is settled.
-    fn pass(&mut self, pause: Pause)
+    pub(crate) fn pass(&mut self, pause: Pause)
         requires hand { (self.old.hand ≡ Hands.Free) × (self.old.held ≡ None) }
         requires settled { HasSettled self.old.port }
         requires next { next_of self.old.port.engine ≡ Pauses pause }
@@ -68,7 +68,7 @@ impl PortState {
     }
 
     // The script has ended and nothing is outstanding: the port has finished once no slot of its pool is live.
-    fn finish<N: Naming<Plan, TlmLaw>, R: Wait>(
+    pub(crate) fn finish<N: Naming<Plan, TlmLaw>, R: Wait>(
         &mut self,
         rt: &R,
         net: &Net<N>,

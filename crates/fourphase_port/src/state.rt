@@ -1,5 +1,6 @@
 // A port without its note.
-ghost use Rattle.std.specs.Prelude.{◌≡◌, Some};
+ghost use Rattle.std.specs.Prelude.{◌≡◌, None, Some};
+ghost use Rattle.fourphase_port.specs.declared.hand.Hand.TheVariants as Hands;
 
 use crate::away::Away;
 use crate::hand::Hand;
@@ -7,6 +8,7 @@ use cargo_model::Cargo;
 use generic_payload::Payload;
 use script_engine::Engine;
 use std::marker::Model;
+use std::mem::replace;
 use tlm_types::{Ps, RefusedList};
 use token_book::Wallet;
 
@@ -14,7 +16,8 @@ use token_book::Wallet;
 /// current time and the greatest end so far, in picoseconds; the numbers that are outstanding and what had
 /// no route; what it works on and the request that was refused; the payload of its debug reads, and its
 /// wallet. Contracts see them, and its accesses as a `Port` of `port_model`.
-// The payload is away only while a debug read is made, which carries it along.
+// The payload is away only while a debug read is made, which carries it along. The ticket of a debug read
+// goes through the purse, which is empty before and after.
 #[derive(Drop)]
 pub struct PortState {
     pub(crate) engine: Engine,
@@ -27,12 +30,13 @@ pub struct PortState {
     pub(crate) held: Option<Cargo>,
     pub(crate) payload: Option<Payload>,
     pub(crate) wallet: Wallet,
+    pub(crate) purse: Wallet,
 }
 
 impl Model for PortState {
     ghost use Rattle.std.specs.Prelude.{◌≡◌};
     ghost use Rattle.std.specs.Coded.{codes};
-    ghost use Rattle.token_book.specs.Purse.{purse_code};
+    ghost use Rattle.token_book.specs.Purse.{empty_purse, purse_code};
     ghost use Rattle.fourphase_port.specs.State.{StateView};
 
     ghost Value = { StateView };
@@ -48,7 +52,7 @@ impl Model for PortState {
       wallet = s.wallet;
     } };
 
-    ghost invariant = { λ s. s.refused.room ≡ s.away.room };
+    ghost invariant = { λ s. (s.refused.room ≡ s.away.room) × (s.purse ≡ empty_purse 1) };
 }
 
 impl PortState {
@@ -57,6 +61,22 @@ impl PortState {
         ensures { self.new ≡ record self.old { hand = hand } }
     {
         self.hand = hand;
+    }
+
+    // What it works on. It works on nothing then.
+    pub(crate) fn take_hand(&mut self) -> Hand
+        ensures hand { result ≡ self.old.hand }
+        ensures state { self.new ≡ record self.old { hand = Hands.Free } }
+    {
+        replace(&mut self.hand, Hand::Free)
+    }
+
+    // The request that was refused, to try it again.
+    pub(crate) fn take_held(&mut self) -> Option<Cargo>
+        ensures held { result ≡ self.old.held }
+        ensures state { self.new ≡ record self.old { held = None } }
+    {
+        self.held.take()
     }
 
     // A request was refused, and is held.

@@ -1,0 +1,166 @@
+// A port: a four-phase initiator under way.
+ghost use Rattle.std.specs.Prelude.{◌≡◌, ◌<◌, ◌≤◌, IfOk, Some, length, slice_get};
+ghost use Rattle.tlm_model.specs.Plan.{Initiator, initiators_of};
+ghost use Rattle.script_engine.specs.State.{next_of};
+ghost use Rattle.port_model.specs.Ends.{IsEndOfPort};
+ghost use Rattle.port_model.specs.Stages.{count_of};
+ghost use Rattle.fourphase_port.specs.Fresh.{IsFresh, begun_state};
+ghost use Rattle.fourphase_port.specs.Pumps.{HasFinished, IsMoved, IsPumped, asks_for};
+ghost use Rattle.fourphase_port.specs.State.{IsAtRest, IsPort, with_note};
+ghost use Rattle.fourphase_port.specs.declared.hand.Pumped.TheVariants as Pumps;
+
+use crate::away::Away;
+use crate::hand::{Hand, Moved, Pumped};
+use crate::state::PortState;
+use cargo_net::TlmLaw;
+use generic_payload::Payload;
+use plat_net::{Net, PlatNote};
+use route_plan::Plan;
+use script_engine::{Engine, Part};
+use shared_object::Naming;
+use std::alloc::Global;
+use std::marker::{Model, PhantomData};
+use std::sync::Wait;
+use tlm_types::{EndOf, Memory, RefusedList};
+use token_book::Wallet;
+
+/// A four-phase initiator under way, with its note and its wallet (IEEE 1666-2011, clause 11.1.2). Contracts
+/// see where its script stands, its times, what is outstanding, what had no route, and what it works on.
+// The note is away only while a call is made, which carries it along.
+#[derive(Drop)]
+pub struct Port<N: Naming<Plan, TlmLaw>> {
+    state: PortState,
+    note: Option<PlatNote>,
+    of: PhantomData<N>,
+}
+
+impl<N: Naming<Plan, TlmLaw>> Model for Port<N> {
+    ghost use Rattle.std.specs.Coded.{codes};
+    ghost use Rattle.token_book.specs.Purse.{purse_code};
+    ghost use Rattle.fourphase_port.specs.State.{IsAtRest, RestView};
+
+    ghost Value = { RestView };
+
+    ghost coded = { Prim.hlevel (codes, purse_code) };
+
+    ghost view = { λ p. record { state = p.state; note = p.note } };
+
+    ghost invariant = { λ p. IsAtRest N.table N.tokens N.frame (record { state = p.state; note = p.note }) };
+}
+
+// Room for all that a script may have outstanding or refused.
+fn room_for<N: Naming<Plan, TlmLaw>>(net: &Net<N>, initiator: u32) -> u32
+    requires { initiator < length N.frame.world.platform.initiators }
+    ensures { (i : Initiator) → slice_get (initiators_of N.frame.world) initiator ≡ Some i → count_of i ≤ result }
+{
+    2 * net.plan().script(initiator).len() as u32
+}
+
+impl<N: Naming<Plan, TlmLaw>> Port<N> {
+    /// A port with its whole script before it. It makes the room for all that may be outstanding or refused,
+    /// and takes no memory afterwards. Its only error is want of memory, by which what was handed in is spent.
+    pub fn new(
+        alloc: Global,
+        net: &Net<N>,
+        engine: Engine,
+        payload: Payload,
+        note: PlatNote,
+        wallet: Wallet,
+    ) -> Result<Port<N>, Memory>
+        requires fresh { IsFresh N.table N.tokens N.frame.world engine.initiator engine payload note wallet }
+        ensures state { IfOk result (λ port. port.state ≡ begun_state engine payload port.room wallet) }
+        ensures note { IfOk result (λ port. port.note ≡ Some note) }
+    {
+        let _ = net.plan().platform();
+        let room = room_for(net, engine.initiator());
+        let state = PortState {
+            engine,
+            waiting: false,
+            time: 0,
+            latest: 0,
+            away: Away::with_room(alloc, room)?,
+            refused: RefusedList::with_room(alloc, room)?,
+            hand: Hand::Free,
+            held: None,
+            payload: Some(payload),
+            wallet,
+            purse: Wallet::new(alloc, 1)?,
+        };
+        Ok(Port {
+            state,
+            note: Some(note),
+            of: PhantomData,
+        })
+    }
+
+    /// The number of the access or debug read that is next in its script, and none where another operation
+    /// is next or its script has ended. It takes no memory.
+    pub fn asks(&self) -> Option<u64>
+        ensures { result ≡ asks_for (next_of self.now.port.engine) }
+    {
+        match self.state.engine.next().part() {
+            Part::Asks(transfer) => Some(transfer.seq),
+            _ => None,
+        }
+    }
+
+    /// The next move, which makes one entry at most. `fetched` says that this pump has already looked for a
+    /// response. It takes no memory.
+    pub fn advance<R: Wait>(&mut self, rt: &R, net: &Net<N>, fetched: bool) -> Moved
+        ensures moved { IsMoved N.frame fetched self.old self.new result }
+        ensures rest { IsAtRest N.table N.tokens N.frame self.new }
+    {
+        let note = self.note.take().unwrap();
+        let (moved, note) = self.state.advance(rt, net, note, fetched);
+        self.note = Some(note);
+        moved
+    }
+
+    /// Moves up to where a pump ends: a response that waits on its hop is taken back; else a request that was
+    /// refused is tried again; else the next operation is begun or done, where nothing has to be waited for. It
+    /// takes no memory. `Finished` comes once the script has ended, nothing is outstanding and no slot of the
+    /// pool is live.
+    pub fn pump<R: Wait>(&mut self, rt: &R, net: &Net<N>) -> Pumped
+        ensures pumped { IsPumped N.frame self.old self.new result }
+        ensures finished { result ≡ Pumps.Finished → HasFinished self.new.state }
+    {
+        let _ = &self.note;
+        let mut fetched = false;
+        loop {
+            let moved = self.advance(rt, net, fetched);
+            if let Some(pumped) = moved.pumped {
+                return pumped;
+            }
+            fetched = true;
+        }
+    }
+
+    /// Its note, its own wallet, and how its initiator ended, with no syncs.
+    pub fn finish(self) -> (PlatNote, Wallet, EndOf)
+        requires finished { HasFinished self.state }
+        ensures port { IsPort N.table N.tokens N.frame (with_note self.state result.0) }
+        ensures note { self.note ≡ Some result.0 }
+        ensures wallet { result.1 ≡ self.wallet }
+        ensures end { IsEndOfPort self.port result.2 }
+    {
+        let Port { state, note, of: _ } = self;
+        let (wallet, end) = state.into_end();
+        (note.unwrap(), wallet, end)
+    }
+}
+
+impl PortState {
+    // Its wallet, and how its initiator ended.
+    fn into_end(self) -> (Wallet, EndOf)
+        ensures wallet { result.0 ≡ self.wallet }
+        ensures end { IsEndOfPort self.port result.1 }
+    {
+        let end = EndOf {
+            transactions: self.engine.transactions(),
+            syncs: 0,
+            end: self.time.max(self.latest),
+            refused: self.refused,
+        };
+        (self.wallet, end)
+    }
+}
