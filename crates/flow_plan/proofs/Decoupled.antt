@@ -16,7 +16,7 @@ use Rattle.tlm_model.specs.Plan.{Plan, Initiator, initiators_of}
 use Rattle.tlm_model.specs.Requests.{Request, requests_of}
 use Rattle.tlm_model.specs.Scripts.{OfRequest}
 use Rattle.tlm_model.proofs.EachLemmas.{EachFrom-weaker}
-use Rattle.tlm_model.proofs.HistoryLemmas.{AllByRecursion-push}
+use Rattle.tlm_model.proofs.HistoryLemmas.{AllByRecursion-push, all_at}
 use Rattle.hop_model.specs.ByRules.{KeepsRules}
 use Rattle.hop_model.specs.Protocol.{IsExclusive}
 use Rattle.flow_model.specs.World.{World, Passage}
@@ -27,15 +27,6 @@ use Rattle.flow_model.specs.Platform.{addresses_of, passage_by, passage_to, worl
 use Rattle.flow_model.specs.Points.{InOrderBy, IsFreed, TimedBy}
 use Rattle.flow_model.specs.Traffic.{HasEnded, IsIssuedBy, IsWaitedFor, slots_of}
 use Rattle.flow_plan.specs.Plans.{DecoupledTraffic, HasNoFourPhase, IsAsked, IsDecoupled, KeepsTraffic, EndsTraffic}
-
--- what holds of each holds of the one at place k
-pub all_at : {X : Type 0} (P : X → Type 0) (xs : List X) (k : ℕ) (x : X) → AllByRecursion P xs → slice_get xs k ≡ Some x → P x
-all_at P [] k x a q = cc
-all_at P (y ∷ xs) zero x a q = subst P (some_same y x q) a.0
-  where
-    some_same : {X : Type 0} (a b : X) → Some a ≡ Some b → a ≡ b
-    some_same a b q = cc
-all_at P (y ∷ xs) (suc k) x a q = all_at P xs k x a.1 q
 
 -- nobody passes a hop
 pub no_passage : (p : Plan) → HasNoFourPhase p → (x : TxnId) → (world_of p).passage x ≡ None

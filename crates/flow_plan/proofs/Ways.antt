@@ -16,6 +16,7 @@ use Rattle.tlm_model.specs.declared.platform.WindowRow.{WindowRow}
 use Rattle.tlm_model.specs.declared.operation.Operation.{Operation}
 use Rattle.tlm_model.specs.Plan.{Plan, Initiator, initiators_from, initiators_of}
 use Rattle.tlm_model.specs.Route.{Found, into_memory, into_router, into_window, window_has, later, walk, window_hop, window_of}
+use Rattle.tlm_model.proofs.InitiatorLemmas.{initiator_from}
 use Rattle.flow_model.specs.World.{IsPassage, Passage}
 use Rattle.flow_model.specs.Platform.{addresses_of, passage_by, passage_to, world_of}
 use Rattle.flow_plan.specs.Valid.{HasNoCycle, LeadsOver, WorldLaw}
@@ -149,18 +150,6 @@ differ_from p free (suc j) (suc k) (Router r) (h ∷ hs) y l m q = differ_from p
 record IsInitiator (p : Platform) (n : ℕ) (i : Initiator) : Type 0 where
   number : i.number ≡ n
   row : slice_get p.initiators n ≡ Some i.row
-
-pub initiator_from : (m : ℕ) (rows : List InitiatorRow) (scripts : List (List Operation)) (n : ℕ) (i : Initiator) → slice_get (initiators_from m rows scripts) n ≡ Some i → (i.number ≡ m + n) × (slice_get rows n ≡ Some i.row)
-initiator_from m [] scripts n i q = cc
-initiator_from m (x ∷ rows) [] n i q = cc
-initiator_from m (x ∷ rows) (s ∷ scripts) zero i q =
-    let same = some_same _ i q in
-    let k : m ≡ i.number = ap (λ (d : Initiator). d.number) same in
-    (omega arith, ap (λ (d : Initiator). Some d.row) same)
-initiator_from m (x ∷ rows) (s ∷ scripts) (suc n) i q =
-    let r = initiator_from (m + 1) rows scripts n i q in
-    let k : i.number ≡ (m + 1) + n = r.0 in
-    (omega arith, r.1)
 
 -- a hop of a way is no binding
 pub past_bindings : (p : Platform) (k : ℕ) (t : Target) (hs : List ℕ) → Way p t hs → k < length hs → length p.initiators ≤ get_or hs k 0

@@ -1,1 +1,1 @@
-mod Logs
+pub mod Logs

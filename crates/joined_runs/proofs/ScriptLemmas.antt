@@ -14,9 +14,8 @@ use Rattle.tlm_model.specs.Route.{route_of}
 use Rattle.tlm_model.specs.Scripts.{HasWay, IsEntryOf, IsInOrder, IsPlaced, OfRequest, comes_first, is_answer, is_settled}
 use Rattle.tlm_model.specs.Times.{HasTime, decoupled_time}
 use Rattle.tlm_model.proofs.EachLemmas.{append_nil}
-use Rattle.tlm_model.proofs.HistoryLemmas.{AllByRecursion-weaker}
-use Rattle.flow_plan.proofs.Decoupled.{all_at}
-use Rattle.flow_plan.proofs.Ways.{initiator_from}
+use Rattle.tlm_model.proofs.HistoryLemmas.{AllByRecursion-weaker, all_at}
+use Rattle.tlm_model.proofs.InitiatorLemmas.{initiator_from}
 use Rattle.joined_runs.specs.Own.{own}
 use Rattle.joined_runs.specs.Joined.{HasOwners}
 use Rattle.joined_runs.specs.Laws.{OwnScriptsJoin, OwnTimesJoin}

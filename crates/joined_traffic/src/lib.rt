@@ -8,13 +8,11 @@
 //!   wallet, `specs/Ended` what stands once all have finished, `specs/Issued` when requests were issued and what was waited for.
 //! - `specs/Laws` has the laws: the premises of the law of four-phase traffic, its points, those of requests, and that the history
 //!   is good.
-//! - `specs/Worked` has a run by hand that leaves all this.
 //!
 //! Nothing here runs: each function carries a law.
 #![tactic(auto)]
 
 ghost use Rattle.joined_traffic.specs.Laws.{EndedHasPremises, EndedHasRequests, EndedHasTraffic, EndedIsGood, EndedIsSound, UngrantedHasGrants};
-ghost use Rattle.joined_traffic.specs.Worked.{CompletingHasEnded};
 
 /// What initiators, hops, pools and memories leave at the end of a run has the premises of the law of four-phase
 /// traffic, for the times at which the initiators issued their accesses.
@@ -39,9 +37,4 @@ pub fn ended_runs_are_good()
     ensures good { EndedIsGood }
     ensures beginnings { EndedIsSound }
     ensures ungranted { UngrantedHasGrants }
-{}
-
-/// A run by hand leaves all of this: one access, which its memory completes with its answer.
-pub fn a_completed_access_has_ended()
-    ensures { CompletingHasEnded }
 {}

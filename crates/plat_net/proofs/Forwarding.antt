@@ -29,7 +29,7 @@ use Rattle.route_plan.specs.Shape.{IsShape}
 use Rattle.flow_model.specs.Platform.{all_hops, all_windows, hop_in, hop_to, no_hop, to_memory, to_router, world_of}
 use Rattle.flow_model.specs.World.{Passage, hop_at, hop_count}
 use Rattle.flow_model.specs.World as worlds
-use Rattle.flow_plan.proofs.Ways.{initiator_from}
+use Rattle.tlm_model.proofs.InitiatorLemmas.{initiator_from}
 use Rattle.cargo_model.specs.declared.cargo.Cargo.{Cargo}
 use Rattle.cargo_model.specs.Known.{Known}
 use Rattle.cargo_model.specs.Stops.{response_at}

@@ -15,7 +15,7 @@ use Rattle.tlm_model.specs.Plan.{Initiator}
 use Rattle.tlm_model.specs.Route.{Found, hops_of, into_memory, into_router, into_window, window_has, later, route_of, walk, window_hop, window_of}
 use Rattle.flow_model.specs.Platform.{all_windows}
 use Rattle.flow_model.specs.World.{Passage, hop_at}
-use Rattle.flow_plan.proofs.Ways.{initiator_from}
+use Rattle.tlm_model.proofs.InitiatorLemmas.{initiator_from}
 use Rattle.route_plan.specs.declared.ends.HopEnds.{HopEnds}
 use Rattle.route_plan.specs.Routes.{binding_ends, ends_of, router_ends, window_ends}
 use Rattle.cargo_model.specs.Stops.{GoesOn, Stop, hop_behind, past_router, past_target, past_window, stop_at, window_at, window_by}

@@ -14,11 +14,10 @@ use Rattle.flow_model.specs.Numbers.{EndIs}
 use Rattle.flow_plan.specs.Valid.{HasNoCycle}
 use Rattle.flow_model.specs.Platform.{passage_of, world_of}
 use Rattle.report_model.specs.Ends.{IsEndOf, end_with, refused_at}
-use Rattle.joined_runs.specs.Joined.{EndsOwn}
 use Rattle.joined_traffic.specs.Accesses.{txn_of}
 use Rattle.joined_traffic.specs.Driven.{HasDriven, HasPaid}
 use Rattle.joined_traffic.specs.Ended.{HaveEnded}
-use Rattle.joined_traffic.specs.Issued.{HasIssued, HasWaited, IsIssued, issued_at}
+use Rattle.joined_traffic.specs.Issued.{EndsOwn, HasIssued, HasWaited, IsIssued, issued_at}
 use Rattle.script_engine.specs.declared.op.Op.TheVariants as next
 use Rattle.script_engine.specs.State.{op_of}
 use Rattle.port_model.specs.Stages.{Stage, calls_by, end_by}

@@ -1,9 +1,9 @@
 -- The initiators of a plan.
-use Rattle.std.proofs.Common.{◌≡◌, ◌≢◌, ℕ, zero, suc, ◌+◌, ◌<◌, true, List, [], ◌∷◌, length, Some, slice_get, refl, sym, subst, ◌∙◌, arith}
+use Rattle.std.proofs.Common.{◌≡◌, ◌≢◌, ℕ, zero, suc, ◌+◌, ◌<◌, true, List, [], ◌∷◌, length, Some, slice_get, refl, sym, ap, subst, ◌∙◌, arith}
 use Rattle.std.specs.List.{AllByRecursion}
 use Rattle.std.specs.Prelude.{All}
 use Rattle.std.proofs.lemmas.Bool.{false≢true}
-use Rattle.std.proofs.lemmas.List.Elements.{All-head, All-tail}
+use Rattle.std.proofs.lemmas.List.Elements.{All-head, All-tail, All-weaker}
 use Rattle.tlm_model.specs.declared.operation.Operation.{Operation}
 use Rattle.tlm_model.specs.declared.operation.Operation.TheVariants.{Invalidate}
 use Rattle.tlm_model.specs.declared.platform.InitiatorRow.{InitiatorRow}
@@ -13,10 +13,10 @@ use Rattle.tlm_model.specs.declared.platform.Style.TheVariants.{Blocking, Direct
 use Rattle.tlm_model.specs.Plan.{Plan, Initiator, initiators_from, initiators_of}
 use Rattle.tlm_model.proofs.HistoryLemmas.{AllByRecursion-weaker}
 use Rattle.flow_plan.specs.Plans.{HasNoFourPhase}
-use Rattle.flow_plan.proofs.Ways.{initiator_from}
+use Rattle.tlm_model.proofs.InitiatorLemmas.{initiator_from}
 use Rattle.grant_model.specs.Laws.{HasNoDirect, HasNoInvalidation, IsNoInvalidation}
 use Rattle.traffic_script.specs.Proper.{AreProper, IsProper}
-use Rattle.route_plan.specs.Shape.{IsServed, style_is_built}
+use Rattle.route_plan.specs.Shape.{IsBlocking, IsServed, style_is_built}
 use Rattle.route_plan.specs.Valid.{IsValid}
 use Rattle.run_outcome.proofs.ListLemmas.{within}
 
@@ -28,20 +28,28 @@ initiator_number p n i is = omega (arith, (initiator_from 0 p.platform.initiator
 pub initiator_within : (p : Plan) (n : ℕ) (i : Initiator) → slice_get (initiators_of p) n ≡ Some i → n < length p.platform.initiators
 initiator_within p n i is = within p.platform.initiators n i.row (initiator_from 0 p.platform.initiators p.scripts n i is).1
 
-built_is_blocking : (style : Style) → style_is_built style ≡ true → style ≡ Blocking
-built_is_blocking Blocking built = refl
-built_is_blocking Direct built = absurd (false≢true built)
-built_is_blocking FourPhase built = absurd (false≢true built)
+blocking_is_built : (style : Style) → style ≡ Blocking → style_is_built style ≡ true
+blocking_is_built style is = ap style_is_built is
 
-built_rows : (rows : List InitiatorRow) → All (λ (row : InitiatorRow). style_is_built row.style ≡ true) rows → AllByRecursion (λ (row : InitiatorRow). row.style ≡ Blocking) rows
-built_rows [] built = tt
-built_rows (row ∷ rows) built =
-    let P : InitiatorRow → Type 0 = λ r. style_is_built r.style ≡ true in
-    (built_is_blocking row.style (All-head P row rows built), built_rows rows (All-tail P row rows built))
+-- a platform of blocking initiators is served
+pub blocking_is_served : (p : Platform) → IsBlocking p → IsServed p
+blocking_is_served p blocking = All-weaker (λ (row : InitiatorRow). row.style ≡ Blocking) (λ (row : InitiatorRow). style_is_built row.style ≡ true) (λ row is. blocking_is_built row.style is) p.initiators blocking
 
--- the initiators of a platform that is served are blocking
-are_blocking : (p : Platform) → IsServed p → AllByRecursion (λ (row : InitiatorRow). row.style ≡ Blocking) p.initiators
-are_blocking p served = built_rows p.initiators served
+built_apart : (style : Style) → style_is_built style ≡ true → style ≢ Direct
+built_apart Blocking built is = cc
+built_apart Direct built is = absurd (false≢true built)
+built_apart FourPhase built is = cc
+
+-- what holds of all rows holds of each in turn
+rows_in_turn : (P : Style → Type 0) (rows : List InitiatorRow) → All (λ (row : InitiatorRow). P row.style) rows → AllByRecursion (λ (row : InitiatorRow). P row.style) rows
+rows_in_turn P [] all = tt
+rows_in_turn P (row ∷ rows) all =
+    let Q : InitiatorRow → Type 0 = λ r. P r.style in
+    (All-head Q row rows all, rows_in_turn P rows (All-tail Q row rows all))
+
+-- the initiators of a blocking platform, in turn
+are_blocking : (p : Platform) → IsBlocking p → AllByRecursion (λ (row : InitiatorRow). row.style ≡ Blocking) p.initiators
+are_blocking p blocking = rows_in_turn (λ style. style ≡ Blocking) p.initiators blocking
 
 -- an initiator of blocking rows is blocking
 blocking_from : (k n : ℕ) (rows : List InitiatorRow) (scripts : List (List Operation)) (i : Initiator) → AllByRecursion (λ (row : InitiatorRow). row.style ≡ Blocking) rows → slice_get (initiators_from k rows scripts) n ≡ Some i → i.row.style ≡ Blocking
@@ -52,15 +60,12 @@ blocking_from k zero (row ∷ rows) (script ∷ scripts) i all is =
     subst (λ (x : Initiator). x.row.style ≡ Blocking) same all.0
 blocking_from k (suc n) (row ∷ rows) (script ∷ scripts) i all is = blocking_from (k + 1) n rows scripts i all.1 is
 
--- an initiator of a plan that is served is blocking
-pub blocking_at : (p : Plan) → IsServed p.platform → (n : ℕ) (i : Initiator) → slice_get (initiators_of p) n ≡ Some i → i.row.style ≡ Blocking
-blocking_at p served n i is = blocking_from 0 n p.platform.initiators p.scripts i (are_blocking p.platform served) is
+-- an initiator of a plan of blocking initiators is blocking
+pub blocking_at : (p : Plan) → IsBlocking p.platform → (n : ℕ) (i : Initiator) → slice_get (initiators_of p) n ≡ Some i → i.row.style ≡ Blocking
+blocking_at p blocking n i is = blocking_from 0 n p.platform.initiators p.scripts i (are_blocking p.platform blocking) is
 
 pub blocking_apart : (style : Style) → style ≡ Blocking → style ≢ FourPhase
 blocking_apart style is four = let wrong : Blocking ≡ FourPhase = sym is ∙ four in cc
-
-direct_apart : (style : Style) → style ≡ Blocking → style ≢ Direct
-direct_apart style is direct = let wrong : Blocking ≡ Direct = sym is ∙ direct in cc
 
 -- what holds of each row holds of each initiator, and so with scripts
 rows_hold : (P Q : Style → Type 0) → ((style : Style) → P style → Q style) → (n : ℕ) (rows : List InitiatorRow) (scripts : List (List Operation)) → AllByRecursion (λ (row : InitiatorRow). P row.style) rows → AllByRecursion (λ i. Q i.row.style) (initiators_from n rows scripts)
@@ -73,13 +78,15 @@ scripts_hold P Q f n [] scripts all = tt
 scripts_hold P Q f n (row ∷ rows) [] all = tt
 scripts_hold P Q f n (row ∷ rows) (script ∷ scripts) all = (f script all.0, scripts_hold P Q f (n + 1) rows scripts all.1)
 
--- the initiators of a plan that is served have no four phases
-pub no_fourphase : (p : Plan) → IsServed p.platform → HasNoFourPhase p
-no_fourphase p served = rows_hold (λ style. style ≡ Blocking) (λ style. style ≢ FourPhase) blocking_apart 0 p.platform.initiators p.scripts (are_blocking p.platform served)
+-- blocking initiators have no four phases
+pub no_fourphase : (p : Plan) → IsBlocking p.platform → HasNoFourPhase p
+no_fourphase p blocking = rows_hold (λ style. style ≡ Blocking) (λ style. style ≢ FourPhase) blocking_apart 0 p.platform.initiators p.scripts (are_blocking p.platform blocking)
 
--- and aren't direct
+-- the initiators of a plan that is served aren't direct
 pub no_direct : (p : Plan) → IsServed p.platform → HasNoDirect p
-no_direct p served = rows_hold (λ style. style ≡ Blocking) (λ style. style ≢ Direct) direct_apart 0 p.platform.initiators p.scripts (are_blocking p.platform served)
+no_direct p served =
+    let Built : Style → Type 0 = λ style. style_is_built style ≡ true in
+    rows_hold Built (λ style. style ≢ Direct) built_apart 0 p.platform.initiators p.scripts (rows_in_turn Built p.platform.initiators served)
 
 proper_invalidates_nothing : (op : Operation) → IsProper op → IsNoInvalidation op
 proper_invalidates_nothing (Invalidate a n) proper = absurd proper

@@ -24,7 +24,7 @@ use Rattle.token_book.specs.declared.ticket.Ticket.{Ticket}
 use Rattle.flow_model.specs.World.{HopEnds, Passage, hop_at, hop_count, row_by, row_of}
 use Rattle.flow_model.specs.Events.{Event, FindsAt, IsCall}
 use Rattle.flow_model.specs.Platform.{hop_in, hop_to, to_memory, world_of}
-use Rattle.flow_plan.proofs.Ways.{initiator_from}
+use Rattle.tlm_model.proofs.InitiatorLemmas.{initiator_from}
 use Rattle.route_plan.specs.Valid as valid
 use Rattle.cargo_model.specs.Called.{IsAnswerIn}
 use Rattle.cargo_model.specs.Counts.{request_ends}

@@ -1,5 +1,5 @@
 -- One more entry of a history, and a history's beginning.
-use Rattle.std.proofs.Common.{◌≡◌, ℕ, ◌+◌, List, [], ◌∷◌, ◌++◌, length, arith}
+use Rattle.std.proofs.Common.{◌≡◌, ℕ, zero, suc, ◌+◌, List, [], ◌∷◌, ◌++◌, length, Some, slice_get, subst, arith}
 use Rattle.std.specs.List.{AllByRecursion}
 use Rattle.tlm_types.specs.declared.entry.Entry.{Entry}
 use Rattle.tlm_model.specs.declared.platform.Platform.{Platform}
@@ -15,6 +15,15 @@ AllByRecursion-push P (y ∷ xs) x h p = (h.0, AllByRecursion-push P xs x h.1 p)
 pub AllByRecursion-weaker : {X : Type 0} (P Q : X → Type 0) (xs : List X) → ((x : X) → P x → Q x) → AllByRecursion P xs → AllByRecursion Q xs
 AllByRecursion-weaker P Q [] f h = h
 AllByRecursion-weaker P Q (x ∷ xs) f h = (f x h.0, AllByRecursion-weaker P Q xs f h.1)
+
+-- what holds of each holds of the one at place k
+pub all_at : {X : Type 0} (P : X → Type 0) (xs : List X) (k : ℕ) (x : X) → AllByRecursion P xs → slice_get xs k ≡ Some x → P x
+all_at P [] k x a q = cc
+all_at P (y ∷ xs) zero x a q = subst P (some_same y x q) a.0
+  where
+    some_same : {X : Type 0} (a b : X) → Some a ≡ Some b → a ≡ b
+    some_same a b q = cc
+all_at P (y ∷ xs) (suc k) x a q = all_at P xs k x a.1 q
 
 pub IsNumberedFrom-push : (n : ℕ) (h : List Entry) (e : Entry) → IsNumberedFrom n h → e.position ≡ n + length h → IsNumberedFrom n (h ++ e ∷ [])
 IsNumberedFrom-push n [] e i p = (omega arith, tt)

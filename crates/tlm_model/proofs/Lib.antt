@@ -4,3 +4,4 @@ pub mod LogLemmas
 pub mod HistoryLemmas
 pub mod PartsLemmas
 pub mod RequestLemmas
+pub mod InitiatorLemmas
