@@ -59,12 +59,12 @@ pub record IsShape (p : Platform) : Type 0 where
   pub bounded : IsBounded p
   pub checked : checked_shape p ≡ Ok tt
 
--- A plan may have initiators of every style. What is served so far is said here alone: other styles than blocking
--- aren't built yet.
+-- A plan may have initiators of every style. What is served so far is said here alone: direct initiators aren't
+-- built yet.
 abbrev pub style_is_built : Style → Bool
 style_is_built Blocking = true
 style_is_built Direct = false
-style_is_built FourPhase = false
+style_is_built FourPhase = true
 
 abbrev pub checked_style : ℕ → InitiatorRow → Result (Unit {0}) PlatformRefusal
 checked_style n i = if style_is_built i.style then Ok tt else Err (refusal NotBuilt (place.Initiator n) (codes "style"))
@@ -78,3 +78,7 @@ checked_served p = do
 -- the style of each initiator is built
 abbrev pub IsServed : Platform → Type 0
 IsServed p = All (λ (i : InitiatorRow). style_is_built i.style ≡ true) p.initiators
+
+-- all initiators are blocking
+abbrev pub IsBlocking : Platform → Type 0
+IsBlocking p = All (λ (i : InitiatorRow). i.style ≡ Blocking) p.initiators

@@ -1,8 +1,8 @@
 // The tests of a platform's shape.
-ghost use Rattle.std.specs.Prelude.{◌≡◌, IfOk, OnOk};
+ghost use Rattle.std.specs.Prelude.{◌≡◌, ◌↔◌, true, IfOk, OnOk};
 ghost use Rattle.platform_model.specs.Bounded.{IsBounded};
 ghost use Rattle.platform_model.specs.Reading.{Gives, GivesBy};
-ghost use Rattle.route_plan.specs.Shape.{checked_windowed, checked_router_named, checked_memory_named, checked_acyclic, checked_depth, checked_single, checked_style, checked_served, checked_shape, IsServed};
+ghost use Rattle.route_plan.specs.Shape.{checked_windowed, checked_router_named, checked_memory_named, checked_acyclic, checked_depth, checked_single, checked_style, checked_served, checked_shape, IsBlocking, IsServed};
 
 use crate::copies::copy_platform;
 use crate::paths::{has_two_paths, is_deeper, is_named, is_on_cycle};
@@ -132,8 +132,8 @@ impl RowKind<InitiatorRow> for BuiltStyle {
 
     fn read(&self, alloc: Global, index: usize, item: &InitiatorRow) -> Result<(), PlatformFault> {
         match item.style {
-            Style::Blocking => Ok(()),
-            Style::Direct | Style::FourPhase => {
+            Style::Blocking | Style::FourPhase => Ok(()),
+            Style::Direct => {
                 Err(Place::Initiator(index).refuse(alloc, PlatformCode::NotBuilt, "style"))
             }
         }
@@ -173,7 +173,7 @@ pub fn shape(alloc: Global, platform: &Platform) -> Result<Shape, PlatformFault>
 }
 
 /// Whether a platform is served: the first initiator whose style isn't built is refused (`NotBuilt`).
-/// The built styles are blocking alone. The only other error is want of memory.
+/// All styles but direct are built. The only other error is want of memory.
 #[tactic(auto, unfolding(crate::specs::Shape::checked_served))]
 pub fn served(alloc: Global, shape: &Shape) -> Result<(), PlatformFault>
     ensures checked { Gives result (checked_served shape.now) }
@@ -182,4 +182,15 @@ pub fn served(alloc: Global, shape: &Shape) -> Result<(), PlatformFault>
     let initiators = shape.platform().initiators.as_slice();
     rows(alloc, &BuiltStyle, initiators)?;
     Ok(())
+}
+
+/// Whether all initiators of a platform are blocking.
+pub fn is_blocking(platform: &Platform) -> bool
+    ensures { (result ≡ true) ↔ IsBlocking platform.now }
+{
+    platform
+        .initiators
+        .as_slice()
+        .iter()
+        .all(|row| row.style == Style::Blocking)
 }

@@ -2,7 +2,7 @@
 //!
 //! - `shape` tests a platform and copies it into a `Shape`, or answers its first fault as a
 //!   `PlanFault`, which is the fault of the platform file. Initiators may have every style; `served` asks
-//!   whether theirs are built so far.
+//!   whether theirs are built so far, `is_blocking` whether all are blocking.
 //! - `plan` makes a `Plan` of a shape and the script of each initiator. It answers where addresses
 //!   lead (`route`), how long that takes, also where no memory is (`latency`), over which hops (`hops`,
 //!   with `hop_ends`), what the scripts may add to each object at most (`entries` and `logged`, with the
@@ -38,7 +38,7 @@ mod shares;
 mod step;
 mod walks;
 
-pub use checks::{served, shape};
+pub use checks::{is_blocking, served, shape};
 pub use ends::{HopEnds, Up};
 pub use planning::plan;
 pub use plans::Plan;
