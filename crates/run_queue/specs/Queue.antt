@@ -1,5 +1,5 @@
 -- What is seen of the jobs.
-use Rattle.std.specs.Prelude.{◌≡◌, ◌+◌, ◌-◌, ◌^◌, ◌==◌, ◌<◌, ◌≤◌, min, nat_lt, ℕ, Bool, true, false, List, [], ◌∷◌, ◌++◌, Option, Some, None, length, count_by, slice_index_or, slice_set, if◌then◌else◌}
+use Rattle.std.specs.Prelude.{◌≡◌, ◌+◌, ◌-◌, ◌^◌, ◌==◌, ◌&&◌, ◌<◌, ◌≤◌, min, nat_lt, ℕ, Bool, true, false, List, [], ◌∷◌, ◌++◌, Option, Some, None, length, count_by, slice_index_or, slice_set, if◌then◌else◌}
 use Rattle.run_queue.specs.declared.jobs.JobState.{JobState}
 use Rattle.run_queue.specs.declared.jobs.JobState.TheVariants.{Waiting, Out, Finished}
 use Rattle.run_queue.specs.declared.jobs.Taken.{Taken}
@@ -82,6 +82,14 @@ module _ {J : Type 0} where
   -- after the queue was told that a job has moved: all that rest wait in line, behind those that do
   abbrev pub woken : Queue J → Queue J
   woken q = record q { order = q.order ++ q.resting; resting = []; moves = min (q.moves + 1) (2 ^ 64 - 1) }
+
+  -- no job is in line, and none is out: those that haven't finished are parked or at rest
+  abbrev pub is_stuck : Queue J → Bool
+  is_stuck q = (length q.order == 0) && (length q.places - finished_count q.places == length q.parked + length q.resting)
+
+  -- after those that rest were woken where the queue is stuck
+  abbrev pub roused : Queue J → Queue J
+  roused q = if is_stuck q then woken q else q
 
   -- after the job of a number has finished
   abbrev pub ended : Queue J → ℕ → J → Queue J

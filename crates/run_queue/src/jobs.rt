@@ -2,7 +2,7 @@
 ghost use Rattle.std.specs.Prelude.{◌≡◌, ◌+◌, ◌<◌, ◌≤◌, ◌↔◌, ◌++◌, [], length, map, count_by, IfOk, IfSome, IsTrue, vec_len, vec_capacity};
 ghost use Rattle.std.specs.List.{range_with_len};
 ghost use Rattle.std.specs.VecDeque.{deque_capacity};
-ghost use Rattle.run_queue.specs.Queue.{job_of, IsOut, finished_count, AreNumbered, IsLine, IfTook, UnlessTook, Takes, given_back, ended, brought_back, set_aside, laid_down, woken, Gathers};
+ghost use Rattle.run_queue.specs.Queue.{job_of, IsOut, finished_count, AreNumbered, IsLine, IfTook, UnlessTook, Takes, given_back, ended, brought_back, set_aside, laid_down, roused, woken, Gathers};
 ghost use Rattle.run_queue.specs.Sound.{ArePlaced};
 
 use std::alloc::{AllocError, Global};
@@ -270,6 +270,17 @@ impl<J: Job> Jobs<J> {
     {
         self.moves = self.moves.saturating_add(1);
         join(&mut self.order, &mut self.resting);
+    }
+
+    /// Where no job is in line and none is out, all that rest wait in line once more, so that none is left lying.
+    pub fn rouse(&mut self)
+        ensures { self.new ≡ roused self.old }
+    {
+        if self.order.is_empty()
+            && self.places.len() - self.finished == self.parked.len() + self.resting.len()
+        {
+            self.wake();
+        }
     }
 
     /// The job, which is done, has finished. A job whose number isn't out is dropped.

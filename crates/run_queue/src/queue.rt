@@ -56,32 +56,60 @@ impl<J: Job> RunQueue<J> {
         self.lock.lock(rt).finish(job);
     }
 
-    /// What `Jobs::bring_back`, `Jobs::give_back` and then `Jobs::take` do, under one lock. It may wait for the
-    /// lock.
-    pub fn give_back_and_take<R: Wait>(&self, rt: &R, job: J, reached: u64) -> Taken<J> {
+    /// What `Jobs::rouse` and then `Jobs::take` do, under one lock, with how often it was told by then that a job has moved.
+    /// It may wait for the lock. So do the calls below, which hand in a job before.
+    pub fn take_and_look<R: Wait>(&self, rt: &R) -> (Taken<J>, u64) {
+        look(&mut self.lock.lock(rt))
+    }
+
+    /// `Jobs::bring_back` and `Jobs::give_back` before.
+    pub fn give_back_and_take<R: Wait>(&self, rt: &R, job: J, reached: u64) -> (Taken<J>, u64) {
         let mut jobs = self.lock.lock(rt);
         jobs.bring_back(reached);
         jobs.give_back(job);
-        jobs.take()
+        look(&mut jobs)
     }
 
-    /// What `Jobs::bring_back` and `Jobs::park`, both with this round, and then `Jobs::take` do, under one lock. It
-    /// may wait for the lock.
-    pub fn park_and_take<R: Wait>(&self, rt: &R, job: J, reached: u64) -> Taken<J> {
+    /// The job has moved: `Jobs::wake` and `Jobs::give_back` before.
+    pub fn move_and_take<R: Wait>(&self, rt: &R, job: J) -> (Taken<J>, u64) {
+        let mut jobs = self.lock.lock(rt);
+        jobs.wake();
+        jobs.give_back(job);
+        look(&mut jobs)
+    }
+
+    /// `Jobs::bring_back` and `Jobs::park`, both with this round, before.
+    pub fn park_and_take<R: Wait>(&self, rt: &R, job: J, reached: u64) -> (Taken<J>, u64) {
         let mut jobs = self.lock.lock(rt);
         jobs.bring_back(reached);
         jobs.park(job, reached);
-        jobs.take()
+        look(&mut jobs)
     }
 
-    /// What `Jobs::bring_back`, `Jobs::finish` and then `Jobs::take` do, under one lock. It may wait for the lock.
-    pub fn finish_and_take<R: Wait>(&self, rt: &R, job: J, reached: u64) -> Taken<J>
+    /// `Jobs::rest` before, with what was told when the job was taken; where the job has moved since then, `Jobs::wake`
+    /// before that, which isn't counted against it.
+    pub fn rest_and_take<R: Wait>(
+        &self,
+        rt: &R,
+        job: J,
+        moves: u64,
+        moved: bool,
+    ) -> (Taken<J>, u64) {
+        let mut jobs = self.lock.lock(rt);
+        let moves = tell_move(&mut jobs, moves, moved);
+        jobs.rest(job, moves);
+        look(&mut jobs)
+    }
+
+    /// `Jobs::bring_back`, `Jobs::wake` and `Jobs::finish` before.
+    pub fn finish_and_take<R: Wait>(&self, rt: &R, job: J, reached: u64) -> (Taken<J>, u64)
         requires { IsTrue (J.is_done job) }
     {
         let mut jobs = self.lock.lock(rt);
         jobs.bring_back(reached);
+        jobs.wake();
         jobs.finish(job);
-        jobs.take()
+        look(&mut jobs)
     }
 
     /// Each job once, in the order of their numbers; enough of them are done. It waits without end where
@@ -102,4 +130,20 @@ impl<J: Job> RunQueue<J> {
         for _ in rt.forever() {}
         unreachable!()
     }
+}
+
+// Takes the next job, and tells how often it was told by then that a job has moved.
+fn look<J: Job>(jobs: &mut Jobs<J>) -> (Taken<J>, u64) {
+    jobs.rouse();
+    let taken = jobs.take();
+    (taken, jobs.moves())
+}
+
+// Where a job has moved, the queue is told so: so many moves are known then to one who knew so many before.
+fn tell_move<J: Job>(jobs: &mut Jobs<J>, moves: u64, moved: bool) -> u64 {
+    if !moved {
+        return moves;
+    }
+    jobs.wake();
+    moves.saturating_add(1)
 }
