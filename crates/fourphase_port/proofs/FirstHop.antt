@@ -13,7 +13,8 @@ use Rattle.tlm_model.specs.Plan.{Plan, Initiator, initiators_of}
 use Rattle.tlm_model.specs.Route.{hops_of, walk}
 use Rattle.flow_model.specs.World.{Passage, hop_at, hop_count}
 use Rattle.flow_model.specs.Events.{Among, Event}
-use Rattle.flow_plan.proofs.Ways.{initiator_from, past_bindings, walk_way}
+use Rattle.tlm_model.proofs.InitiatorLemmas.{initiator_from}
+use Rattle.flow_plan.proofs.Ways.{past_bindings, walk_way}
 use Rattle.cargo_model.specs.Known.{has_pool, object_number, objects_of, row_has_pool}
 use Rattle.cargo_model.specs.Travel.{IsAsked}
 use Rattle.cargo_model.proofs.Origins.{only_object}

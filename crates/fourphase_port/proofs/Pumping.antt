@@ -1,25 +1,27 @@
 -- A pump is made of moves, each of which brings it nearer to its end.
-use Rattle.std.proofs.Common.{◌≡◌, ◌⊎◌, ℕ, suc, ◌<◌, Bool, true, false, length, Option, Some, None, refl, sym, ap, ◌∙◌, subst, inl, inr, arith}
+use Rattle.std.proofs.Common.{◌≡◌, ◌⊎◌, ℕ, suc, ◌<◌, Bool, true, false, List, [], length, Option, Some, None, slice_get, refl, sym, ap, ◌∙◌, subst, inl, inr, arith}
 use Rattle.atomic_table.specs.Seated.{TableId}
 use Rattle.one_history.specs.Held.{Held}
 use Rattle.one_history.specs.declared.view.Frame.{Frame}
 use Rattle.tlm_types.specs.declared.entry.Content.{Content}
-use Rattle.tlm_model.specs.Plan.{Plan}
+use Rattle.tlm_model.specs.Plan.{Plan, Initiator, initiators_of}
 use Rattle.cargo_model.specs.declared.cargo.Cargo.{Cargo}
 use Rattle.script_engine.specs.declared.op.Op.{Op}
 use Rattle.script_engine.specs.declared.op.Op.TheVariants as next
 use Rattle.script_engine.specs.declared.part.Part.{Part}
 use Rattle.script_engine.specs.declared.part.Part.TheVariants.{Asks, Pauses, Invalidates, Ends as AtEnd}
+use Rattle.script_engine.specs.declared.part.Transfer.{Transfer}
 use Rattle.script_engine.specs.declared.part.TransferKind.{TransferKind}
 use Rattle.script_engine.specs.declared.part.TransferKind.TheVariants as kinds
 use Rattle.script_engine.specs.Part.{part_of}
 use Rattle.script_engine.specs.State.{next_of, op_of}
+use Rattle.initiator_run.proofs.AccessLemmas.{after_initiator}
 use Rattle.port_model.specs.Issues.{IsPlainKind, IsPlainPart}
 use Rattle.port_model.specs.Way.{Port}
 use Rattle.fourphase_port.specs.Moved.{after_begin, ends, ends_made, made, went}
-use Rattle.fourphase_port.specs.Moves.{Fetches, FindsNone, HasGone, IsDue, IsFetched, IsToStow, PutsStray, TakesBack}
+use Rattle.fourphase_port.specs.Moves.{Fetches, FindsNone, HasGone, IsDue, IsFetched, IsItsInitiator, IsToStow, KeepsPort, PutsStray, Settles, TakesBack, port_back, port_read, port_taken}
 use Rattle.fourphase_port.specs.Pumps.{DoesKind, DoesNext, GoesOn, GoesOnIn, HasFinished, IsMove, IsMoveOf, IsMoved, IsPump, TakesNext, TriesBegin, empty_handed, moves_left, unheld}
-use Rattle.fourphase_port.specs.State.{IsAtRest, PortView, RestView, with_note}
+use Rattle.fourphase_port.specs.State.{IsAtRest, PortView, RestView, StateView, with_note}
 use Rattle.fourphase_port.specs.declared.hand.Hand.{Hand}
 use Rattle.fourphase_port.specs.declared.hand.Hand.TheVariants.{Free, Taken, Acquired, Begun, Owed, Ended, Released}
 use Rattle.fourphase_port.specs.declared.hand.Moved.{Moved}
@@ -215,14 +217,87 @@ module _ (frame : Frame Plan) (new : PortView) (m : Moved) (finished : m.pumped 
 pub has_finished : (frame : Frame Plan) (fetched : Bool) (old new : PortView) (m : Moved) → IsMove frame fetched old new m → m.pumped ≡ Some Finished → HasFinished new.state
 has_finished frame fetched old new m is finished = ended_of frame new m finished old.hand fetched old refl is
 
+-- A move keeps the number of the port's initiator, which is in the plan.
+module _ (frame : Frame Plan) (n : ℕ) (i : Initiator) (its : slice_get (initiators_of frame.world) n ≡ Some i) where
+  abbrev HasNumber : PortView → Type 0
+  HasNumber v = v.port.engine.initiator ≡ n
+
+  own : (v : PortView) → HasNumber v → IsItsInitiator frame.world v i
+  own v is = ap (slice_get (initiators_of frame.world)) is ∙ its
+
+  as_port : (port next : Port) → next ≡ port → port.engine.initiator ≡ n → next.engine.initiator ≡ n
+  as_port port next same is = ap (λ (q : Port). q.engine.initiator) same ∙ is
+
+  taken_number : (f : Bool) (port : Port) (x : Transfer) → port.engine.initiator ≡ n → (port_taken frame.world i port x f).engine.initiator ≡ n
+  taken_number false port x is = after_initiator false port.engine [] ∙ is
+  taken_number true port x is = is
+
+  back_number : (port : Port) (away : List ℕ) (end : ℕ) (got : List ℕ) (b : Bool) → port.engine.initiator ≡ n → (port_back port away end got b).engine.initiator ≡ n
+  back_number port away end got false is = is
+  back_number port away end got true is = after_initiator true port.engine got ∙ is
+
+  number_kept : (old new : PortView) → KeepsPort old new → HasNumber old → HasNumber new
+  number_kept old new k is = as_port old.port new.port k.port is
+
+  number_tried : (c : Cargo) (busy : Pumped) (old new : PortView) (m : Moved) → TriesBegin frame c busy old new m → HasNumber old → HasNumber new
+  number_tried c busy old new m (inl b) is = number_kept old new b.0.keeps is
+  number_tried c busy old new m (inr b) is = number_kept old new b.0.keeps is
+
+  number_taken : (f : Bool) (old new : PortView) (m : Moved) → TakesNext frame f old new m → HasNumber old → HasNumber new
+  number_taken f old new m (inl t) is = as_port (port_taken frame.world i old.port t.0.transfer f) new.port (t.0.port i (own old is)) (taken_number f old.port t.0.transfer is)
+  number_taken f old new m (inr t) is = number_kept old new t.0.keeps is
+
+  number_kind : (k : TransferKind) (old new : PortView) (m : Moved) → DoesKind frame k old new m → HasNumber old → HasNumber new
+  number_kind (kinds.Access command plain fenced) old new m d is = number_taken fenced old new m d is
+  number_kind kinds.DebugRead old new m d is = as_port (port_read frame.world i old.port d.0.transfer) new.port (d.0.port i (own old is)) (after_initiator false old.port.engine [] ∙ is)
+
+  number_settled : (old mid : StateView) → Settles old mid → old.port.engine.initiator ≡ n → mid.port.engine.initiator ≡ n
+  number_settled old mid s is = ap (λ (q : Port). q.engine.initiator) s.port ∙ is
+
+  number_next : (part : Part) (old new : PortView) (m : Moved) → DoesNext frame part old new m → HasNumber old → HasNumber new
+  number_next (Asks x) old new m d is = number_kind x.kind (with_note d.mid old.note) new m d.does (number_settled old.state d.mid d.settles is)
+  number_next (Pauses pause) old new m d is = ap (λ (q : Port). q.engine.initiator) d.passes.port ∙ (after_initiator false d.mid.port.engine [] ∙ number_settled old.state d.mid d.settles is)
+  number_next (Invalidates s a k) old new m d is = absurd d
+  number_next AtEnd old new m (inl d) is = number_kept old new d.0.keeps is
+  number_next AtEnd old new m (inr d) is = number_kept old new d.0.keeps is
+
+  number_so : (part : Part) (old new : PortView) (m : Moved) → GoesSo frame part old new m → HasNumber old → HasNumber new
+  number_so part old new m (Takes plain t) is = number_taken false old new m t is
+  number_so part old new m (Waits some_out same nothing) is = ap (λ (v : PortView). v.port.engine.initiator) same ∙ is
+  number_so part old new m (Does away d) is = number_next part old new m d is
+
+  number_on : (held : Option Cargo) (old new : PortView) (m : Moved) → GoesOn frame held old new m → HasNumber old → HasNumber new
+  number_on None old new m g is = number_so (next_of old.port.engine) old new m (goes_so frame (next_of old.port.engine) old new m g) is
+  number_on (Some c) old new m g is = number_tried c Nothing (with_note (unheld old.state) old.note) new m g is
+
+  number_of : (hand : Hand) (fetched : Bool) (old new : PortView) (m : Moved) → IsMoveOf frame hand fetched old new m → HasNumber old → HasNumber new
+  number_of Free false old new m g is = by g.0
+    where
+      by : Fetches frame old new ⊎ FindsNone frame old new → HasNumber new
+      by (inl f) = number_kept old new f.keeps is
+      by (inr f) = number_kept old new f.keeps is
+  number_of Free true old new m g is = number_on old.held old new m g is
+  number_of (Taken b) fetched old new m g is = number_kept (with_note (empty_handed old.state) old.note) new g.0.keeps is
+  number_of (Acquired c) fetched old new m g is = number_tried c Did (with_note (empty_handed old.state) old.note) new m g is
+  number_of (Begun c at leg) fetched old new m g is = number_kept (with_note (empty_handed old.state) old.note) new g.0.keeps is
+  number_of (Owed c leg at) fetched old new m g is = number_kept (with_note (empty_handed old.state) old.note) new g.0.keeps is
+  number_of (Ended c end) fetched old new m g is = by g.0
+    where
+      by : TakesBack frame c end (with_note (empty_handed old.state) old.note) new ⊎ PutsStray frame c end (with_note (empty_handed old.state) old.note) new → HasNumber new
+      by (inl t) = as_port (port_back old.port t.away end c.baton.payload.bytes old.port.waiting) new.port t.port (back_number old.port t.away end c.baton.payload.bytes old.port.waiting is)
+      by (inr t) = number_kept (with_note (empty_handed old.state) old.note) new t.keeps is
+  number_of (Released b ticket end) fetched old new m g is = number_kept (with_note (empty_handed old.state) old.note) new g.0.keeps is
+
 -- A pump that has come to here: what ends it from here on ends it from its beginning on.
 pub record HasPumped (table tokens : TableId) (frame : Frame Plan) (first now : RestView) (fetched : Bool) : Type 0 where
   pub rest : IsAtRest table tokens frame now
+  pub number : now.port.engine.initiator ≡ first.port.engine.initiator
   pub goes : (n k : Held Content Plan) → first.note ≡ Some n → now.note ≡ Some k → (new : PortView) (pumped : Pumped) → IsPump frame fetched (with_note now.state k) new pumped → IsPump frame false (with_note first.state n) new pumped
 
 pub begins : (table tokens : TableId) (frame : Frame Plan) (first : RestView) → IsAtRest table tokens frame first → HasPumped table tokens frame first first false
 begins table tokens frame first rest = record {
   rest = rest;
+  number = refl;
   goes = λ n k q r new pumped is. subst (λ (x : Held Content Plan). IsPump frame false (with_note first.state x) new pumped) (one k n (sym r ∙ q)) is;
 }
   where
@@ -234,9 +309,17 @@ module _ (table tokens : TableId) (frame : Frame Plan) (first now then : RestVie
   move : (k : Held Content Plan) → then.note ≡ Some k → IsMove frame fetched (with_note now.state h.rest.its_note) (with_note then.state k) m
   move k q = moved h.rest.its_note k h.rest.has_note q
 
+  -- the port is that of the same initiator
+  pub keeps_number : then.port.engine.initiator ≡ first.port.engine.initiator
+  keeps_number =
+      let port = h.rest.is_port in
+      number_of frame now.port.engine.initiator port.initiator port.is now.hand fetched (with_note now.state h.rest.its_note) (with_note then.state rest.its_note) m (move rest.its_note rest.has_note) refl
+      ∙ h.number
+
   pub goes_further : m.pumped ≡ None → HasPumped table tokens frame first then true
   goes_further none = record {
     rest = rest;
+    number = keeps_number;
     goes = λ n k q r new pumped is. h.goes n h.rest.its_note q h.rest.has_note new pumped
         (record { more = suc is.more; moves = (with_note then.state k, record { moved = m; is = move k r; goes_on = none }, is.moves) });
   }

@@ -25,7 +25,7 @@ use Rattle.flow_model.specs.World.{HopEnds, Passage, hop_at, is_refused, row_by,
 use Rattle.flow_model.specs.Events.{Event, Finds, FindsAt, IsAccess, IsCall}
 use Rattle.flow_model.specs.Numbers.{UpIs}
 use Rattle.flow_model.specs.Platform.{hop_in, hop_to, passage_of, world_of}
-use Rattle.flow_plan.proofs.Ways.{initiator_from}
+use Rattle.tlm_model.proofs.InitiatorLemmas.{initiator_from}
 use Rattle.cargo_model.specs.declared.cargo.Cargo.{Cargo}
 use Rattle.cargo_model.specs.Counts.{request_ends, response_ends, responses}
 use Rattle.cargo_model.specs.Known.{Known}

@@ -119,10 +119,12 @@ impl<N: Naming<Plan, TlmLaw>> Port<N> {
     /// Moves up to where a pump ends: a response that waits on its hop is taken back; else a request that was
     /// refused is tried again; else the next operation is begun or done, where nothing has to be waited for. It
     /// takes no memory. `Finished` comes once the script has ended, nothing is outstanding and no slot of the
-    /// pool is live.
+    /// pool is live. The port stays that of its initiator.
     pub fn pump<R: Wait>(&mut self, rt: &R, net: &Net<N>) -> Pumped
         ensures pumped { IsPumped N.frame self.old self.new result }
         ensures finished { result ≡ Pumps.Finished → HasFinished self.new.state }
+        ensures rest { IsAtRest N.table N.tokens N.frame self.new }
+        ensures number { self.new.port.engine.initiator ≡ self.old.port.engine.initiator }
     {
         let _ = &self.note;
         let mut fetched = false;
