@@ -67,7 +67,7 @@ next_by first m before g (Acquire slot) step is = absurd (cc (is))
 next_by first m before g (Release slot freed) step is = absurd (cc (is))
 
 -- gates that were given are below the next
-given_below : (first : ℕ) (m : MemoryTraits) (g : ℕ) (before log : List Entry) → EachFrom (λ xs e. IsGrantStep first m xs e.what) before log → IsTrue (is_given g log) → g < first + (grants_in before + grants_in log)
+pub given_below : (first : ℕ) (m : MemoryTraits) (g : ℕ) (before log : List Entry) → EachFrom (λ xs e. IsGrantStep first m xs e.what) before log → IsTrue (is_given g log) → g < first + (grants_in before + grants_in log)
 given_below first m g before [] each is = absurd (cc (is))
 given_below first m g before (e ∷ es) each is = ⊎_elim
     (λ (here : gives g e.what ≡ true).

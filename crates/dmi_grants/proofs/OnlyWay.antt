@@ -25,7 +25,7 @@ use Rattle.tlm_model.specs.Plan.{Plan}
 use Rattle.tlm_model.specs.Route.{Found, Walk, later, walk, window_has, window_of}
 use Rattle.tlm_model.specs.Route as model
 use Rattle.route_plan.specs.declared.step.Route.{Route}
-use Rattle.route_plan.specs.Paths.{is_on_cycle, once, paths_to, reaches, targets_of}
+use Rattle.route_plan.specs.Paths.{has_path, is_on_cycle, once, paths_to, reaches, targets_of}
 use Rattle.route_plan.specs.Plans.{walk_at}
 use Rattle.route_plan.specs.Routes.{bound_walk, route_by, route_seen, row_walk}
 use Rattle.route_plan.specs.Shape.{IsShape, checked_acyclic, checked_depth, checked_memory_named, checked_router_named, checked_shape, checked_single, checked_windowed, has_two_paths}
@@ -438,3 +438,12 @@ all_addresses plan who a first last low high base route valid at up within start
           row_others p valid.shape who a route.memory route.offset first last low high (slice_get p.initiators who) refl ends up b r.offset
           (subst (λ (n : ℕ). EndsAt (bound_walk p who b) n r.offset) memory ends_b) from to;
     }
+
+-- where an address leads, a path leads
+pub walked_has_path : (p : Platform) → IsShape p → (row : InitiatorRow) (a m off : ℕ) → EndsAt (walk 9 p row.bind a 0) m off → has_path p row (Memory m) ≡ true
+walked_has_path p shape row a m off ends =
+    let n : ℕ = length (walk 9 p row.bind a 0).hops in
+    let w : IsWalked p row.bind m n = walked p (tested p shape.checked) 9 row.bind a 0 m off ends in
+    let more = paths_to-le n (length p.routers) p row.bind (Memory m) (few_walked p row.bind m n w) in
+    let one = w.ends in
+    reaches-some (length p.routers) p row.bind (Memory m) ∙ lt-ltb 0 (paths_to (length p.routers) p row.bind (Memory m)) (omega (arith, more, one))

@@ -5,19 +5,24 @@ use Rattle.std.proofs.lemmas.Bool.{and_parts, leb-true, or_cases}
 use Rattle.std.proofs.lemmas.Option.{get_or_from_slice_get, slice_get_within}
 use Rattle.atomic_table.specs.Seated.{TableId}
 use Rattle.view_lists.specs.Lists.{Has, Within}
+use Rattle.view_lists.proofs.Members.{has_map}
 use Rattle.one_history.specs.declared.entry.Entry.{Entry as HistoryEntry}
 use Rattle.one_history.specs.declared.view.Frame.{Frame}
 use Rattle.one_history.specs.declared.view.View.{View}
 use Rattle.one_history.specs.Gates.{IsRevoked}
 use Rattle.one_history.specs.Lists.{StandBelow}
-use Rattle.shared_object.specs.Written.{placed, written_at}
+use Rattle.one_history.specs.declared.entry.Sign.TheVariants.{Granted as GrantedSign, Invalidated as InvalidatedSign}
+use Rattle.shared_object.specs.Written.{Written, placed, sign_of, written_at}
 use Rattle.token_book.specs.Purse.{Purse}
 use Rattle.tlm_types.specs.declared.entry.Content.{Content}
+use Rattle.tlm_types.specs.declared.entry.What.{What}
+use Rattle.tlm_types.specs.declared.entry.What.TheVariants.{Access as AccessOf, Granted, Invalidated, Closed, Call, Take, Acquire, Release}
+use Rattle.tlm_types.specs.declared.words.Kind.{Kind}
 use Rattle.tlm_types.specs.declared.words.Command.{Command}
 use Rattle.tlm_types.specs.declared.words.MemoryTraits.{MemoryTraits}
 use Rattle.tlm_types.specs.declared.words.Response.TheVariants.{Ok}
 use Rattle.tlm_types.specs.declared.words.TxnId.{TxnId}
-use Rattle.tlm_types.specs.declared.words.Way.TheVariants.{Direct}
+use Rattle.tlm_types.specs.declared.words.Way.TheVariants.{Blocking, FourPhase, Direct, Debug}
 use Rattle.tlm_model.specs.declared.platform.MemoryRow.{MemoryRow}
 use Rattle.tlm_model.specs.Plan.{Plan}
 use Rattle.platform_model.specs.Bounded.{IsBoundedMemory}
@@ -35,8 +40,8 @@ use Rattle.plat_net.specs.Calls.{OneTicketLess, entries_of}
 use Rattle.dmi_grants.specs.declared.table.Held.{Held}
 use Rattle.dmi_grants.specs.Made.{IsMade, is_given_in}
 use Rattle.dmi_grants.specs.Table.{TableView, covers}
-use Rattle.dmi_grants.specs.Using.{HasGoneDirect, IsFoundStale, MayUse, at_offset}
-use Rattle.dmi_grants.proofs.Known.{given_more, granted_in, log_given}
+use Rattle.dmi_grants.specs.Using.{HasGoneDirect, IsCutIn, IsFoundStale, MayUse, at_offset}
+use Rattle.dmi_grants.proofs.Known.{given_more, granted_in, log_given, log_known}
 use Rattle.dmi_grants.proofs.GateNumbers.{given_there}
 
 -- a gate that is revoked among some entries is so among more
@@ -50,6 +55,69 @@ learns frame m low high told note back reply g there made void given =
     let in_log : IsTrue (is_given_in log g) = given_more (written_at m note.known) log g made.known given in
     let gate = given_there frame m made.memory made.built there made.gates made.granted g (log_given made.memory.log.entries g in_log) in
     revoked_more (map (placed m) log) back.known g made.enters.knows (made.enters.revoked g void gate.own)
+
+-- what was given, of what the history reads of an entry
+record WasGranted (w : What) (g first last : ℕ) : Type 0 where
+  pub kind : Kind
+  pub is : w ≡ Granted g first last kind
+
+was_granted : (w : What) (g first last : ℕ) → sign_of w ≡ GrantedSign g first last → WasGranted w g first last
+was_granted (Granted gate f l kind) g first last is = record { kind = kind; is = (let a : gate ≡ g = cc (is) in let b : f ≡ first = cc (is) in let c : l ≡ last = cc (is) in cc (a, b, c)) }
+was_granted (AccessOf Blocking access status got) g first last is = absurd (cc (is))
+was_granted (AccessOf FourPhase access status got) g first last is = absurd (cc (is))
+was_granted (AccessOf (Direct gate) access status got) g first last is = absurd (cc (is))
+was_granted (AccessOf Debug access status got) g first last is = absurd (cc (is))
+was_granted (Invalidated f l) g first last is = absurd (cc (is))
+was_granted (Closed gate) g first last is = absurd (cc (is))
+was_granted (Call phase answer) g first last is = absurd (cc (is))
+was_granted (Take slot) g first last is = absurd (cc (is))
+was_granted (Acquire slot) g first last is = absurd (cc (is))
+was_granted (Release slot freed) g first last is = absurd (cc (is))
+
+was_invalidated : (w : What) (low high : ℕ) → sign_of w ≡ InvalidatedSign low high → w ≡ Invalidated low high
+was_invalidated (Invalidated f l) low high is = let a : f ≡ low = cc (is) in let b : l ≡ high = cc (is) in cc (a, b)
+was_invalidated (Granted gate f l kind) low high is = absurd (cc (is))
+was_invalidated (AccessOf Blocking access status got) low high is = absurd (cc (is))
+was_invalidated (AccessOf FourPhase access status got) low high is = absurd (cc (is))
+was_invalidated (AccessOf (Direct gate) access status got) low high is = absurd (cc (is))
+was_invalidated (AccessOf Debug access status got) low high is = absurd (cc (is))
+was_invalidated (Closed gate) low high is = absurd (cc (is))
+was_invalidated (Call phase answer) low high is = absurd (cc (is))
+was_invalidated (Take slot) low high is = absurd (cc (is))
+was_invalidated (Acquire slot) low high is = absurd (cc (is))
+was_invalidated (Release slot freed) low high is = absurd (cc (is))
+
+-- what a memory has written shows it
+cut_in : (m : ℕ) (log : List Written) (g : ℕ) → IsRevoked (map (placed m) log) g → IsCutIn log g
+cut_in m log g r =
+    let grant = has_map (placed m) log r.grant r.has_grant in
+    let cut = has_map (placed m) log r.cut r.has_cut in
+    let granted = was_granted grant.0.content.what g r.first r.last (ap (λ (e : HistoryEntry Content). e.sign) grant.2 ∙ r.is_grant) in
+    record {
+      grant = grant.0;
+      cut = cut.0;
+      first = r.first;
+      last = r.last;
+      kind = granted.kind;
+      low = r.from;
+      high = r.to;
+      has_grant = grant.1;
+      has_cut = cut.1;
+      is_grant = granted.is;
+      is_cut = was_invalidated cut.0.content.what r.from r.to (ap (λ (e : HistoryEntry Content). e.sign) cut.2 ∙ r.is_cut);
+      later = (let a = ap (λ (e : HistoryEntry Content). e.position) grant.2 in let b = ap (λ (e : HistoryEntry Content). e.position) cut.2 in let c = r.later in omega arith);
+      meet = r.meet;
+    }
+
+cut_more : (xs ys : List Written) (g : ℕ) → Within xs ys → IsCutIn xs g → IsCutIn ys g
+cut_more xs ys g more c = record { grant = c.grant; cut = c.cut; first = c.first; last = c.last; kind = c.kind; low = c.low; high = c.high; has_grant = more c.grant c.has_grant; has_cut = more c.cut c.has_cut; is_grant = c.is_grant; is_cut = c.is_cut; later = c.later; meet = c.meet }
+
+pub learns_cut : (frame : Frame Plan) (m low high told : ℕ) (note back : View Content Plan) (reply : RegionReply) (g : ℕ) → m < length frame.world.platform.memories → IsMade frame m (Overlapping 0 low high told) note back None reply → Has note.void g → IsTrue (is_given_in (written_at m note.known) g) → IsCutIn (written_at m back.known) g
+learns_cut frame m low high told note back reply g there made void given =
+    let log = entries_of made.memory in
+    let in_log : IsTrue (is_given_in log g) = given_more (written_at m note.known) log g made.known given in
+    let gate = given_there frame m made.memory made.built there made.gates made.granted g (log_given made.memory.log.entries g in_log) in
+    cut_more log (written_at m back.known) g (log_known m log back.known made.enters.knows) (cut_in m log g (made.enters.revoked g void gate.own))
 
 -- what a grant that covers an access says of its range
 pub record IsCovered (h : Held) (a n : ℕ) (c : Command) : Type 0 where
@@ -127,6 +195,7 @@ gone_direct frame tokens h p q back txn time note known before after (Some posit
       position = position;
       entered = note;
       same = refl;
+      saw = refl;
       made = subst (λ (x : PayloadView). IsMade frame h.memory (DirectCall h.gate txn time x) note known (Some position) (DirectReply back)) is (subst (λ (r : RegionReply). IsMade frame h.memory (DirectCall h.gate txn time q) note known (Some position) r) says made);
       ok = ap (λ (x : PayloadView). x.status) same ∙ law made.memory h.gate q bounds.0 bounds.1 made.granted fit;
       ticket = ticket;
@@ -142,13 +211,14 @@ use_given frame p note seen w h may same =
     subst (λ (l : List (HistoryEntry Content)). IsTrue (is_given_in (written_at h.memory l) h.gate)) (sym same) (granted_in (written_at h.memory note.known) h.gate h.first h.last h.kind may.usable.granted)
 
 -- a grant that was found stale
-pub found_stale : (h x : Held) (which : ℕ) (old new : TableView) (note seen known : View Content Plan) (w : Purse) → Some h ≡ Some x → new ≡ record { held = remove old.held which; room = old.room } → seen.known ≡ note.known → Within seen.known known.known → IsRevoked known.known h.gate → StandBelow known.known known.seen → IsFoundStale x which old new note w w known
-found_stale h x which old new note seen known w is table same keeps revoked below =
+pub found_stale : (h x : Held) (which : ℕ) (old new : TableView) (note seen known : View Content Plan) (w : Purse) → Some h ≡ Some x → new ≡ record { held = remove old.held which; room = old.room } → seen.known ≡ note.known → Within seen.known known.known → IsRevoked known.known h.gate → IsCutIn (written_at h.memory known.known) h.gate → StandBelow known.known known.seen → IsFoundStale x which old new note w w known
+found_stale h x which old new note seen known w is table same keeps revoked cut below =
     let e : h ≡ x = cc (is) in
     record {
       table = table;
       keeps = subst (λ (l : List (HistoryEntry Content)). Within l known.known) same keeps;
       revoked = subst (λ (y : Held). IsRevoked known.known y.gate) e revoked;
+      cut = subst (λ (y : Held). IsCutIn (written_at y.memory known.known) y.gate) e cut;
       below = below;
       wallet = refl;
     }

@@ -1,15 +1,17 @@
 -- What the use of a grant does.
-use Rattle.std.specs.Prelude.{ℕ, ◌≡◌, ◌+◌, ◌-◌, ◌<◌, ◌≤◌, IsTrue, [], length, remove, Some}
-use Rattle.view_lists.specs.Lists.{Within}
+use Rattle.std.specs.Prelude.{ℕ, ◌≡◌, ◌+◌, ◌-◌, ◌<◌, ◌≤◌, IsTrue, List, [], length, remove, Some}
+use Rattle.view_lists.specs.Lists.{Has, Within}
 use Rattle.one_history.specs.declared.view.Frame.{Frame}
 use Rattle.one_history.specs.declared.view.View.{View}
 use Rattle.one_history.specs.Gates.{IsRevoked}
 use Rattle.one_history.specs.Held.{Held as Noted}
 use Rattle.one_history.specs.Lists.{StandBelow}
-use Rattle.shared_object.specs.Written.{written_at}
+use Rattle.shared_object.specs.Written.{Written, written_at}
 use Rattle.token_book.specs.Purse.{Purse, left_of, bytes_of}
 use Rattle.tlm_types.specs.declared.entry.Content.{Content}
+use Rattle.tlm_types.specs.declared.entry.What.TheVariants.{Granted, Invalidated}
 use Rattle.tlm_types.specs.declared.words.Command.TheVariants.{Read}
+use Rattle.tlm_types.specs.declared.words.Kind.{Kind}
 use Rattle.tlm_types.specs.declared.words.Response.TheVariants.{Ok}
 use Rattle.tlm_types.specs.declared.words.TxnId.{TxnId}
 use Rattle.tlm_model.specs.Plan.{Plan}
@@ -46,15 +48,33 @@ pub record HasGoneDirect (frame : Frame Plan) (h : Held) (p : PayloadView) (txn 
   pub position : ℕ
   pub entered : View Content Plan
   pub same : entered.known ≡ note.known
+  pub saw : entered.seen ≡ note.seen
   pub made : IsMade frame h.memory (Direct h.gate txn time (at_offset h p)) entered known (Some position) (DirectReply back)
   pub ok : back.status ≡ Ok
   pub ticket : OneTicketLess h.memory (payload_cost p) before after
+
+-- among these entries a gate is given, and after it stands an invalidation that overlaps its grant
+pub record IsCutIn (known : List Written) (gate : ℕ) : Type 0 where
+  pub grant : Written
+  pub cut : Written
+  pub first : ℕ
+  pub last : ℕ
+  pub kind : Kind
+  pub low : ℕ
+  pub high : ℕ
+  pub has_grant : Has known grant
+  pub has_cut : Has known cut
+  pub is_grant : grant.content.what ≡ Granted gate first last kind
+  pub is_cut : cut.content.what ≡ Invalidated low high
+  pub later : grant.position < cut.position
+  pub meet : (low ≤ last) × (first ≤ high)
 
 -- an invalidation that overlaps the grant is known after it, below what the note has seen, and the grant is held no more
 pub record IsFoundStale (h : Held) (which : ℕ) (old new : TableView) (note : View Content Plan) (before after : Purse) (known : View Content Plan) : Type 0 where
   pub table : new ≡ record { held = remove old.held which; room = old.room }
   pub keeps : Within note.known known.known
   pub revoked : IsRevoked known.known h.gate
+  pub cut : IsCutIn (written_at h.memory known.known) h.gate
   pub below : StandBelow known.known known.seen
   pub wallet : after ≡ before
 

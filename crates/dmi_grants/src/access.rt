@@ -9,7 +9,7 @@ ghost use Rattle.token_book.specs.Purse.{IsOf};
 ghost use Rattle.plat_net.specs.Calls.{HasNoPassage};
 ghost use Rattle.shared_object.specs.Written.{written_at};
 ghost use Rattle.dmi_grants.specs.Made.{IsRoomyFor, is_given_in};
-ghost use Rattle.dmi_grants.specs.Using.{HasGoneThrough, HasUsed, MayUse, note_of};
+ghost use Rattle.dmi_grants.specs.Using.{HasGoneThrough, HasUsed, IsCutIn, MayUse, note_of};
 
 use crate::made::{Made, least_open, make_inside};
 use crate::table::{GrantTable, Held};
@@ -141,6 +141,7 @@ fn learn<N: Naming<Plan, TlmLaw>, R: Wait>(
     ensures note { IsNote N.table result }
     ensures keeps { Within note.knows.known result.knows.known }
     ensures revoked { IsRevoked result.knows.known gate }
+    ensures cut { IsCutIn (written_at memory result.knows.known) gate }
     ensures below { StandBelow result.knows.known result.knows.seen }
 {
     let (_, note) = least_open(net, rt, memory, 0, 0, 0, note);

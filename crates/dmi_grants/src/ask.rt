@@ -1,5 +1,5 @@
 // A wish for a grant.
-ghost use Rattle.std.specs.Prelude.{◌≡◌, ◌<◌, IsSomeAnd, length};
+ghost use Rattle.std.specs.Prelude.{◌≡◌, ℕ, ◌<◌, IsSomeAnd, length};
 ghost use Rattle.std.specs.Option.{ForSome};
 ghost use Rattle.shared_object.specs.Steps.{IsNote};
 ghost use Rattle.token_book.specs.Purse.{IsOf};
@@ -61,6 +61,7 @@ impl GrantTable {
         ensures note { IsNote N.table result.1 }
         ensures wallet { IsOf N.tokens wallet.new }
         ensures room { ForSome (route_at N.frame.world who address) (λ route. IsRoomyFor route.memory wallet.new) }
+        ensures rooms { (m : ℕ) → IsRoomyFor m wallet.old → IsRoomyFor m wallet.new }
     {
         let Some(route) = net.plan().route(who, address) else {
             unreachable!()

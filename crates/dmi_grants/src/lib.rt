@@ -23,8 +23,6 @@ mod laws;
 mod made;
 mod range;
 mod table;
-#[cfg(test)]
-mod tests;
 
 pub use access::UseOf;
 pub use ask::Asked;

@@ -1,9 +1,9 @@
 // Steps at a memory of a net.
-ghost use Rattle.std.specs.Prelude.{◌≡◌, ◌<◌, false, length, None, Some};
+ghost use Rattle.std.specs.Prelude.{◌≡◌, ◌<◌, ◌⊎◌, ℕ, false, length, None, Some};
 ghost use Rattle.std.specs.Option.{ForSome};
 ghost use Rattle.one_history.specs.Gates.{total_gates};
 ghost use Rattle.shared_object.specs.Steps.{HasTicket, IsInside, IsNote, unspent};
-ghost use Rattle.token_book.specs.Purse.{IsOf, left_of};
+ghost use Rattle.token_book.specs.Purse.{HasPlace, IsOf, left_of};
 ghost use Rattle.region_object.specs.declared.call.RegionCall.TheVariants.{Overlapping};
 ghost use Rattle.region_object.specs.declared.call.RegionReply.TheVariants.{Overlapping as OverlappingReply};
 ghost use Rattle.dmi_grants.specs.Made.{HasGot, HasSpent, IsMade, IsPlainTicket, IsRoomyFor, MayMake, MayMakeInside, added, count_of, is_question};
@@ -100,6 +100,7 @@ fn take<N: Naming<Plan, TlmLaw>>(net: &Net<N>, wallet: &mut Wallet, memory: u32)
     ensures ticket { IsPlainTicket N.tokens memory result }
     ensures of { IsOf N.tokens wallet.new }
     ensures room { IsRoomyFor memory wallet.new }
+    ensures held { (o : ℕ) → HasPlace wallet.new o → HasPlace wallet.old o }
     ensures spent { HasSpent memory 1 wallet.old wallet.new }
 {
     wallet.pull(net.tickets(), memory, 0)
@@ -117,6 +118,7 @@ fn put_back<N: Naming<Plan, TlmLaw>>(
     requires ticket { ForSome ticket (IsPlainTicket N.tokens memory) }
     ensures of { IsOf N.tokens wallet.new }
     ensures room { IsRoomyFor memory wallet.new }
+    ensures held { (o : ℕ) → HasPlace wallet.new o → (o ≡ memory) ⊎ HasPlace wallet.old o }
     ensures back { HasGot memory (count_of ticket) wallet.old wallet.new }
 {
     let Some(Ticket { entry, bytes: _ }) = ticket else {
@@ -145,6 +147,7 @@ pub(crate) fn make_paid<N: Naming<Plan, TlmLaw>, R: Wait>(
     ensures note { IsNote N.table result.2 }
     ensures of { IsOf N.tokens wallet.new }
     ensures room { IsRoomyFor memory wallet.new }
+    ensures rooms { (m : ℕ) → IsRoomyFor m wallet.old → IsRoomyFor m wallet.new }
     ensures spent { HasSpent memory (added result.1) wallet.old wallet.new }
 {
     let ticket = take(net, wallet, memory);

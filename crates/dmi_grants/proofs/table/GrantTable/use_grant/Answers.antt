@@ -13,6 +13,6 @@ learn-note-requires-clause-granted g c =
 pub returns-in-Marked-clause-used : goal.returns-in-Marked-clause-used
 returns-in-Marked-clause-used g c = λ x at. (
   found_stale c.at-held.result x c.args.which c.args.self.now c.drop_stale.new.self c.args.note.knows c.enter.new.note.knows c.learn-note.result.knows c.args.wallet.now (sym c.at-held.ensures ∙ at) c.drop_stale.ensures
-      (ap (λ (v : View Content Plan). v.known) c.in-Marked.ensures.came) c.learn-note.ensures.keeps c.learn-note.ensures.revoked c.learn-note.ensures.below,
+      (ap (λ (v : View Content Plan). v.known) c.in-Marked.ensures.came) c.learn-note.ensures.keeps c.learn-note.ensures.revoked c.learn-note.ensures.cut c.learn-note.ensures.below,
   refl,
 )
