@@ -21,7 +21,7 @@ use Rattle.tlm_model.specs.Route.{Route, route_of}
 use Rattle.flow_model.specs.Events.{Event, entries}
 use Rattle.flow_model.specs.Platform.{passage_of}
 use Rattle.flow_plan.specs.Valid.{HasNoCycle}
-use Rattle.flow_plan.proofs.Ways.{initiator_from}
+use Rattle.tlm_model.proofs.InitiatorLemmas.{initiator_from}
 use Rattle.report_model.specs.Ends.{IsEndOf, refused_at}
 use Rattle.report_model.specs.Laws.{IsEndByLatencies}
 use Rattle.report_model.proofs.Ending.{ends_by_latencies}
@@ -118,7 +118,7 @@ module _ (p : Plan) (h : List Event) (left : ℕ → ObjectNo → ℕ) (end : �
   n = length (initiators_of p)
 
   abbrev Styles : ℕ → Initiator → Type 0
-  Styles k i = ((i.row.style ≡ FourPhase) × IsPortDone p i h (left k) (end k)) ⊎ ((i.row.style ≡ FourPhase → ⊥) × IsRunDone p i h (end k))
+  Styles k i = ((i.row.style ≡ FourPhase) × IsPortDone p i h (left k) (end k)) ⊎ ((i.row.style ≡ FourPhase → ⊥) × IsRunDone p i h (left k) (end k))
 
   abbrev stage_by : (k : ℕ) (i : Initiator) → Styles k i → ℕ → Stage
   stage_by k i (inl port) s = port.1.under_way.stage s
@@ -219,7 +219,7 @@ module _ (p : Plan) (h : List Event) (left : ℕ → ObjectNo → ℕ) (end : �
           latencies = λ other. absurd (other four);
         }
 
-    by_run : (other : i.row.style ≡ FourPhase → ⊥) (run : IsRunDone p i h (end k)) → d.by_style ≡ inr (other, run) → Facts k
+    by_run : (other : i.row.style ≡ FourPhase → ⊥) (run : IsRunDone p i h (left k) (end k)) → d.by_style ≡ inr (other, run) → Facts k
     by_run other run is =
         let same : run.mine ≡ mine k = sym (mine_is (inr (other, run)) is) in
         record {
@@ -344,6 +344,17 @@ module _ (p : Plan) (h : List Event) (left : ℕ → ObjectNo → ℕ) (end : �
             time = by_mine.time;
             refused = by_mine.refused ∙ ap (map (λ r. refused_at r r.time)) (ap (refused_of p.platform i) (sym own_is) ∙ sym (own_is_enough p.platform i (entries h)).refused);
           })
+
+  -- the entries in the history of one that isn't four-phase are those that it hands in
+  pub own_is : (k : ℕ) (b : k < n) → cases_lt k n ≡ inl b → (other : (done k b).initiator.row.style ≡ FourPhase → ⊥) (run : IsRunDone p (done k b).initiator h (left k) (end k)) → (done k b).by_style ≡ inr (other, run) → own k (entries h) ≡ run.mine
+  own_is k b q other run is =
+      let j : Initiator = (done k b).initiator in
+      let same : j.number ≡ k = number k b q in
+      let here : slice_get (initiators_of p) j.number ≡ Some j = ap (slice_get (initiators_of p)) same ∙ (done k b).at in
+      let handed : mine k ≡ run.mine = mine_is k b q (inr (other, run)) is in
+      let rising : IsRising (λ (e : Entry). e.position) (mine j.number) = subst (λ (m : ℕ). IsRising (λ (e : Entry). e.position) (mine m)) (sym same) (subst (IsRising (λ (e : Entry). e.position)) (sym handed) run.runs.rising) in
+      let premises = ended_has_premises p h issued calls mine left acyclic have_ended in
+      subst (λ (m : ℕ). own m (entries h) ≡ mine m) same (own_mine p h issued ends calls mine left have_ended have_issued premises j here other rising) ∙ handed
 
   pub ended_whole : HasEndedWhole p h left end
   ended_whole = record { issued = issued; ends = ends; calls = calls; mine = mine; ended = have_ended; was_issued = have_issued; ends_are = end_is }

@@ -54,7 +54,8 @@ use Rattle.numbered_log.specs.Logged.{written_by}
 use Rattle.cargo_model.specs.Known.{Known, event_of, object_number, objects_of}
 use Rattle.cargo_net.proofs.ObjectsOnce.{stands_once}
 use Rattle.net_end.specs.Closed.{AreHandedBack, AreLeft, IsClosed, IsLeft, IsPlanned, events_in}
-use Rattle.net_end.specs.Laws.{ObjectsLeave}
+use Rattle.region_object.specs.Grants.{IsGrantLog}
+use Rattle.net_end.specs.Laws.{HasGatesOf, MemoriesLeaveGates, ObjectsLeave}
 use Rattle.cargo_model.proofs.Origins.{is_self, is_that}
 use Rattle.cargo_net.proofs.Lists.{read_there}
 use Rattle.net_end.proofs.Reading.{there, at_none, at_number, entries_read, is_there, log_read, memory_read}
@@ -297,6 +298,36 @@ module _ (table : TableId) (frame : Frame Plan) (seats notes : List (Held Conten
           let same : s.is.row ≡ r = some_same s.is.row r (sym s.is.at ∙ q) in
           subst (IsLog r.traits) (sym (memory_entries m s)) (subst (λ (x : MemoryRow). IsLog x.traits s.is.log) same s.is.lawful)
 
+  -- and its grants and closings are those of its gates
+  memory_gates : (m : ℕ) (row : Option MemoryRow) → slice_get p.platform.memories m ≡ row → Found os (Memory m) → HasGatesOf row (entries_at (Memory m) (entries h))
+  memory_gates m row at (Nowhere none) = by row at
+    where
+      nothing : entries_at (Memory m) (entries h) ≡ []
+      nothing = entries_read (Memory m) h ∙ ap entries (at_none p.platform (Memory m) none all below)
+
+      by : (row : Option MemoryRow) → slice_get p.platform.memories m ≡ row → HasGatesOf row (entries_at (Memory m) (entries h))
+      by None q = nothing
+      by (Some r) q = record { first = 0; granted = subst (IsGrantLog 0 r.traits) (sym nothing) tt }
+  memory_gates m row at (Here k here) = by row at
+    where
+      s : Sits (Memory m)
+      s = sits (Memory m) k here
+
+      by : (row : Option MemoryRow) → slice_get p.platform.memories m ≡ row → HasGatesOf row (entries_at (Memory m) (entries h))
+      by None q = absurd (none_some s.is.row (sym q ∙ s.is.at))
+        where
+          none_some : (r : MemoryRow) → None ≡ Some r → ⊥
+          none_some r e = cc
+      by (Some r) q =
+          let same : s.is.row ≡ r = some_same s.is.row r (sym s.is.at ∙ q) in
+          record {
+            first = s.is.first;
+            granted = subst (IsGrantLog s.is.first r.traits) (sym (memory_entries m s)) (subst (λ (x : MemoryRow). IsGrantLog s.is.first x.traits s.is.log) same s.is.granted);
+          }
+
+  pub gates_left : (m : ℕ) → HasGatesOf (slice_get p.platform.memories m) (entries_at (Memory m) (entries h))
+  gates_left m = memory_gates m (slice_get p.platform.memories m) refl (find_object os (Memory m))
+
   -- no object has more entries than planned, less what is left
   object_spent : (o : ObjectNo) → Found os o → HasSpent p h left o
   object_spent o (Nowhere none) =
@@ -359,3 +390,6 @@ module _ (table : TableId) (frame : Frame Plan) (seats notes : List (Held Conten
 
 pub objects_leave : ObjectsLeave
 objects_leave table frame seats notes all left planned closed are back = have_left table frame seats notes all left planned closed are back
+
+pub memories_leave_gates : MemoriesLeaveGates
+memories_leave_gates table frame seats notes all left planned closed are back = gates_left table frame seats notes all left planned closed are back

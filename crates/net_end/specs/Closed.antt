@@ -19,6 +19,7 @@ use Rattle.tlm_model.specs.Log.{IsLog}
 use Rattle.tlm_model.specs.Plan.{Plan, initiators_of}
 use Rattle.tlm_model.specs.Route.{greatest_time}
 use Rattle.shared_object.specs.Standing.{IsSeat}
+use Rattle.region_object.specs.Grants.{IsGrantLog}
 use Rattle.region_object.specs.Written.{written_from}
 use Rattle.numbered_log.specs.Logged.{written_by}
 use Rattle.flow_model.specs.Events.{Event}
@@ -54,12 +55,14 @@ pub record IsPlanned (frame : Frame Plan) : Type 0 where
 abbrev pub IsTimed : List Event → Type 0
 IsTimed log = All (λ (e : Event). e.time ≤ greatest_time) log
 
--- memory m is done with: its lawful log, whose entries are its own
+-- memory m is done with: its lawful log, whose entries are its own, and whose grants and closings are those of its gates, numbered from its first
 pub record IsMemoryLeft (table : TableId) (frame : Frame Plan) (m : ℕ) (seat : Held Content Plan) : Type 0 where
   pub log : List Entry
   pub row : MemoryRow
   pub at : slice_get frame.world.platform.memories m ≡ Some row
   pub lawful : IsLog row.traits log
+  pub first : ℕ
+  pub granted : IsGrantLog first row.traits log
   pub own : All (λ (e : Entry). e.object ≡ Memory m) log
   pub timed : All (λ (e : Entry). e.time ≤ greatest_time) log
   pub seat_is : IsSeat table frame (object_number frame.world.platform (Memory m)) (written_from 0 log) seat

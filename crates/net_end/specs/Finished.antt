@@ -1,5 +1,5 @@
 -- Initiators that have finished, and what all of them together leave.
-use Rattle.std.specs.Prelude.{ℕ, ◌≡◌, ◌<◌, ◌⊎◌, List, length, Some, slice_get}
+use Rattle.std.specs.Prelude.{ℕ, ◌≡◌, ◌+◌, ◌<◌, ◌≤◌, ◌⊎◌, List, length, Some, slice_get}
 use Rattle.view_lists.specs.Lists.{Has, Within}
 use Rattle.tlm_types.specs.declared.ends.EndOf.{EndOf}
 use Rattle.tlm_types.specs.declared.entry.Entry.{Entry}
@@ -33,20 +33,20 @@ pub record IsPortDone (p : Plan) (i : Initiator) (h : List Event) (left : Object
   pub none : length port.away ≡ 0
   pub end_is : IsEndOfPort port end
 
--- another one has: these are its entries, as many at each memory as the plan counts
-pub record IsRunDone (p : Plan) (i : Initiator) (h : List Event) (end : EndOf) : Type 0 where
+-- another one has: these are its entries, and at each memory it has as many of them and tickets left as the plan counts
+pub record IsRunDone (p : Plan) (i : Initiator) (h : List Event) (left : ObjectNo → ℕ) (end : EndOf) : Type 0 where
   pub mine : List Entry
   pub within : Within mine (entries h)
   pub own : (e : Entry) → Has mine e → e.txn.initiator ≡ i.number
   pub runs : HasRun p i mine
-  pub all : (m : ℕ) → m < length p.platform.memories → length (entries_at (Memory m) mine) ≡ share_at p i.number (Memory m)
+  pub all : (m : ℕ) → m < length p.platform.memories → share_at p i.number (Memory m) ≤ length (entries_at (Memory m) mine) + left (Memory m)
   pub end_is : IsEndByLatencies p.platform i mine end
 
 -- initiator k has finished, by its style
 pub record IsDone (p : Plan) (h : List Event) (k : ℕ) (left : ObjectNo → ℕ) (end : EndOf) : Type 0 where
   pub initiator : Initiator
   pub at : slice_get (initiators_of p) k ≡ Some initiator
-  pub by_style : ((initiator.row.style ≡ FourPhase) × IsPortDone p initiator h left end) ⊎ ((initiator.row.style ≡ FourPhase → ⊥) × IsRunDone p initiator h end)
+  pub by_style : ((initiator.row.style ≡ FourPhase) × IsPortDone p initiator h left end) ⊎ ((initiator.row.style ≡ FourPhase → ⊥) × IsRunDone p initiator h left end)
 
 -- All initiators have finished and all objects are done with, for some numbers that the initiators know; and each end is what the report says of it.
 pub record HasEndedWhole (p : Plan) (h : List Event) (left : ℕ → ObjectNo → ℕ) (end : ℕ → EndOf) : Type 0 where

@@ -8,12 +8,17 @@
 //! Nothing here runs: each function carries a law.
 #![tactic(auto)]
 
-ghost use Rattle.net_end.specs.Laws.{InitiatorsEnd, ObjectsLeave};
+ghost use Rattle.net_end.specs.Laws.{InitiatorsEnd, MemoriesLeaveGates, ObjectsLeave};
 
 /// The objects of a net, whose history is closed, have left what the law of ended runs wants of them: each
 /// entry is backed, each hop made its steps, all slots are free, and the tickets are counted.
 pub fn objects_leave_what_is_wanted()
     ensures { ObjectsLeave }
+{}
+
+/// Of the gates of each memory of a net, whose history is closed, the history has what the memory wrote.
+pub fn memories_leave_gates()
+    ensures { MemoriesLeaveGates }
 {}
 
 /// Where all initiators have finished, by their styles, and all objects are done with, the run has ended whole,

@@ -30,6 +30,7 @@ use Rattle.payload_pool.specs.Pool.{IsPool, PoolView, live_of}
 use Rattle.cargo_model.specs.declared.cargo.Cargo.{Cargo}
 use Rattle.cargo_model.specs.Known.{object_number}
 use Rattle.cargo_net.specs.Traffic.{IsHopBuilt, IsMemoryBuilt, IsPoolBuilt}
+use Rattle.region_object.specs.Grants.{IsGrantLog}
 use Rattle.net_end.specs.Closed.{IsTimed}
 use Rattle.plat_net.specs.Net.{hop_numbers, memory_numbers, pool_numbers}
 use Rattle.plat_net.proofs.Lookups.{short_at}
@@ -76,9 +77,9 @@ module _ (table tokens : TableId) (frame : Frame Plan) (s : Numbers) (seat : Hel
         same_row : (x y : MemoryRow) → Some x ≡ Some y → x ≡ y
         same_row x y q = cc
 
-    pub memory_left : (log : LogView) → log ≡ memory.log → IsSeat table frame s.number (written_from 0 memory.log.entries) seat → IsLog memory.traits memory.log.entries → All (λ (e : Entry). e.object ≡ Memory memory.number) memory.log.entries
-        → All (λ (e : Entry). e.time < 2 ^ 64) memory.log.entries → HasLeftLog table frame (Memory s.own) log seat
-    memory_left log log_is seat_is lawful own timed =
+    pub memory_left : (log : LogView) → log ≡ memory.log → IsSeat table frame s.number (written_from 0 memory.log.entries) seat → IsLog memory.traits memory.log.entries → IsGrantLog memory.first_gate memory.traits memory.log.entries
+        → All (λ (e : Entry). e.object ≡ Memory memory.number) memory.log.entries → All (λ (e : Entry). e.time < 2 ^ 64) memory.log.entries → HasLeftLog table frame (Memory s.own) log seat
+    memory_left log log_is seat_is lawful granted own timed =
         let r = memory_row in
         let own_is : memory.number ≡ s.own = built.own in
         let number : s.number ≡ s.own = ap (λ (n : Numbers). n.number) are in
@@ -89,6 +90,8 @@ module _ (table tokens : TableId) (frame : Frame Plan) (s : Numbers) (seat : Hel
             row = r.row;
             at = r.at;
             lawful = subst (λ (t : MemoryTraits). IsLog t memory.log.entries) r.is lawful;
+            first = memory.first_gate;
+            granted = subst (λ (t : MemoryTraits). IsGrantLog memory.first_gate t memory.log.entries) r.is granted;
             own = subst (λ (k : ℕ). All (λ (e : Entry). e.object ≡ Memory k) memory.log.entries) own_is own;
             timed = timed_entries memory.log.entries timed;
             seat_is = subst (λ (k : ℕ). IsSeat table frame k (written_from 0 memory.log.entries) seat) (number ∙ sym here) seat_is;

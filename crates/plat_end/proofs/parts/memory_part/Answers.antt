@@ -15,7 +15,7 @@ returns-clause-left g c =
     let n = g.N.Naming in
     let e = c.into_parts-region.ensures in
     let parts = c.into_parts-log.ensures in
-    memory_left n.table n.tokens n.frame c.args.memory c.into_parts-region.result.1 c.into_parts-region.result.0 c.requires.numbers e.built c.into_parts-log.result.0 parts.log e.seat parts.lawful c.log.ensures.own (All-same (λ (x : Entry). x.time < 2 ^ 64) _ _ (sym (ap (λ (l : LogView). l.entries) c.log.ensures.log)) c.len.ensures.timed)
+    memory_left n.table n.tokens n.frame c.args.memory c.into_parts-region.result.1 c.into_parts-region.result.0 c.requires.numbers e.built c.into_parts-log.result.0 parts.log e.seat parts.lawful c.log.ensures.granted c.log.ensures.own (All-same (λ (x : Entry). x.time < 2 ^ 64) _ _ (sym (ap (λ (l : LogView). l.entries) c.log.ensures.log)) c.len.ensures.timed)
 
 pub returns-clause-bytes : goal.returns-clause-bytes
 returns-clause-bytes g c =
