@@ -1,9 +1,9 @@
 -- One more job that has finished.
 use Rattle.std.proofs.Common.{◌≡◌, ℕ, zero, suc, ◌+◌, ◌<◌, ◌≤◌, Bool, true, false, cond, List, [], ◌∷◌, ◌++◌, length, get_or, map, Some, refl, ap, sym, subst, ◌∙◌, ⊎_elim, arith, length-append}
-use Rattle.std.proofs.lemmas.List.{get_or-map, length-map}
+use Rattle.std.proofs.lemmas.List.{get_or-map, get_or_append_left, get_or_push, length-map}
 use Rattle.run_queue.specs.Queue.{AreNumbered}
 use Rattle.std.specs.Prelude.{slice_get, slice_index_or, All, count_by}
-use Rattle.std.proofs.lemmas.List.Sums.{count_by-le-length, sum_by-cons}
+use Rattle.std.proofs.lemmas.List.Sums.{count_by-le-length, sum_by-cons, sum_by_push}
 use mathlib.Core.Option.{some, some-injective, some-ne-none}
 use lib.ListN.{get_elem?}
 use Rattle.atomic_table.specs.Seated.{TableId}
@@ -69,6 +69,46 @@ all_pass test (x ∷ xs) many = by_test (test x) refl (λ more. all_pass test xs
         all_more all zero d below = is
         all_more all (suc i) d below = all i d (omega arith)
     by_test false is rest many = let few = count_by-le-length test xs in absurd (omega arith)
+
+abbrev one_if : Bool → ℕ
+one_if b = cond b 1 0
+
+-- where the first so many pass, as many pass
+pub first_pass : {A : Type 0} (test : A → Bool) (n : ℕ) (xs : List A) → ((k : ℕ) (d : A) → k < n → test (slice_index_or xs k d) ≡ true) → n ≤ length xs → n ≤ count_by test xs
+first_pass test zero xs pass few = omega arith
+first_pass test (suc n) [] pass few = absurd (omega arith)
+first_pass test (suc n) (x ∷ xs) pass few =
+    let rest = first_pass test n xs (λ k d below. pass (suc k) d (omega arith)) (omega arith) in
+    let here : one_if (test x) ≡ 1 = ap one_if (pass 0 x (omega arith)) in
+    omega (arith, here, rest, sum_by-cons (λ y. one_if (test y)) x xs)
+
+pub numbered_pass : {A : Type 0} (number : A → ℕ) (test : A → Bool) (n : ℕ) (xs : List A) → AreNumbered number xs → All (λ x. number x < n → test x ≡ true) xs → n ≤ length xs → n ≤ count_by test xs
+numbered_pass number test n xs numbered all many = first_pass test n xs (λ k d below.
+    let within : k < length xs = omega arith in
+    all k d within (subst (λ (m : ℕ). m < n) (sym (numbered k d within)) below)) many
+
+-- the jobs that are left where the last one is let go, whose number is too great for one that is done
+pub record StillEnough {A : Type 0} (number : A → ℕ) (test : A → Bool) (n : ℕ) (xs : List A) : Type 0 where
+  pub numbered : AreNumbered number xs
+  pub many : n ≤ length xs
+  pub enough : n ≤ count_by test xs
+
+pub one_let_go : {A : Type 0} (number : A → ℕ) (test : A → Bool) (n : ℕ) (xs after : List A) (x : A) → xs ≡ after ++ x ∷ [] → n < length xs → (test x ≡ true → number x < n) → StillEnough number test n xs → StillEnough number test n after
+one_let_go {A} number test n xs after x is more past left =
+    let long : length xs ≡ length after + 1 = ap length is ∙ length-append after (x ∷ []) in
+    let number_is : number x ≡ length after =
+    ap number (sym (get_or_push after x x (length after) refl)) ∙ (ap (λ (l : List A). number (slice_index_or l (length after) x)) (sym is) ∙ left.numbered (length after) x (omega arith)) in
+    let none : one_if (test x) ≡ 0 = not_passed (test x) (λ passes. let low = past passes in omega arith) in
+    let fewer : count_by test xs ≡ count_by test after + one_if (test x) = ap (count_by test) is ∙ sum_by_push (λ y. one_if (test y)) after x in
+    record {
+      numbered = λ k d below. ap number (sym (get_or_append_left after (x ∷ []) d k below)) ∙ (ap (λ (l : List A). number (slice_index_or l k d)) (sym is) ∙ left.numbered k d (omega arith));
+      many = omega arith;
+      enough = let e = left.enough in omega arith;
+    }
+  where
+    not_passed : (b : Bool) → (b ≡ true → ⊥) → one_if b ≡ 0
+    not_passed true never = absurd (never refl)
+    not_passed false never = refl
 
 -- jobs with the same numbers are numbered as well
 pub numbered_again : {A : Type 0} (f : A → ℕ) (xs ys : List A) → map f ys ≡ map f xs → AreNumbered f xs → AreNumbered f ys

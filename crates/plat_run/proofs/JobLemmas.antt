@@ -36,7 +36,7 @@ use Rattle.initiator_run.specs.Moves.{HasReached}
 use Rattle.initiator_run.specs.Run.{Run, accessed, engine_after}
 use Rattle.initiator_run.proofs.AccessLemmas.{transfer_is_not_done}
 use Rattle.quantum_keeper.specs.Keeper.{current_time}
-use Rattle.run_outcome.proofs.PlanLemmas.{blocking_at, initiator_number}
+use Rattle.run_outcome.proofs.PlanLemmas.{initiator_number}
 use Rattle.initiator_run.proofs.EntryLemmas.{entries_at-push, HasCome-turn, goes_on_with}
 use Rattle.initiator_run.proofs.LeftLemmas.{bytes_after, cost_at, leads_elsewhere, leads_there, left_after}
 use Rattle.initiator_run.proofs.RunLemmas.{accessed_finished, accessed_initiator, accessed_step}
@@ -94,7 +94,7 @@ module _ (p : Plan) (r : Run) (x : Transfer) (route : Route) (note back : View C
   own_number = ap (slice_get (initiators_of p)) (initiator_number p r.engine.initiator job.initiator job.is) ∙ job.is
 
   blocking : job.initiator.row.style ≡ Blocking
-  blocking = blocking_at p job.served r.engine.initiator job.initiator job.is
+  blocking = job.style
 
   object_is : (the_entry).object ≡ Memory route.memory
   object_is = ap Memory sent.called.number
@@ -218,10 +218,10 @@ module _ (p : Plan) (r : Run) (x : Transfer) (route : Route) (note back : View C
   pub access_made : IsInitiator p next_run back new
   access_made = record {
     valid = job.valid;
-    served = job.served;
     initiator = job.initiator;
     mine = job.mine ++ the_entry ∷ [];
     is = ap (slice_get (initiators_of p)) (accessed_initiator x route.latency payload.bytes r) ∙ job.is;
+    style = job.style;
     made = made_more;
     tickets = λ m below. tickets_left m (job.tickets m below);
     no_others = λ k past.

@@ -4,6 +4,8 @@ pub mod JobLemmas
 pub mod AccessLemmas
 pub mod SealLemmas
 pub mod BeginLemmas
+pub mod PortLemmas
+pub mod NodeLemmas
 pub mod OrderLemmas
 pub mod LogLemmas
 pub mod WholeLemmas

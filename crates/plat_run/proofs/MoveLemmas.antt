@@ -42,10 +42,10 @@ number_below p r v w job = initiator_within p r.engine.initiator job.initiator j
 pub moved : (p : Plan) (old new : Run) (v : View Content Plan) (w : Purse) → IsInitiator p old v w → Keeps p old new → (new.finished ≡ true → op_of new.engine ≡ next.Done) → IsInitiator p new v w
 moved p old new v w job keeps finished = record {
   valid = job.valid;
-  served = job.served;
   initiator = job.initiator;
   mine = job.mine;
   is = ap (slice_get (initiators_of p)) keeps.initiator ∙ job.is;
+  style = job.style;
   made = record {
     rising = job.made.rising;
     known = job.made.known;

@@ -4,17 +4,17 @@ use Rattle.std.specs.Prelude.{slice_get}
 use Rattle.std.proofs.lemmas.Option.{MatchOption-at_some}
 use Rattle.token_book.specs.Purse.{Purse}
 use Rattle.tlm_types.specs.declared.words.TxnId.{TxnId}
+use Rattle.tlm_model.specs.declared.platform.Style.{Style}
 use Rattle.tlm_model.specs.Plan.{Plan, Initiator, initiators_of}
 use Rattle.tlm_model.specs.Route.{Route as RouteOfModel, route_of}
 use Rattle.generic_payload.specs.Payload.{PayloadView}
 use Rattle.one_history.specs.declared.view.View.{View}
 use Rattle.tlm_types.specs.declared.entry.Content.{Content}
 use Rattle.region_object.specs.Call.{IsFit}
-use Rattle.flow_plan.proofs.Decoupled.{no_passage}
+use Rattle.flow_model.specs.Platform.{addresses_of, passage_by, passage_to}
 use Rattle.route_plan.specs.declared.step.Route.{Route}
 use Rattle.route_plan.specs.Plans.{walk_at}
 use Rattle.route_plan.specs.Routes.{route_by}
-use Rattle.route_plan.specs.Shape.{IsServed}
 use Rattle.script_engine.specs.declared.part.Part.TheVariants.{Asks}
 use Rattle.script_engine.specs.declared.part.Transfer.{Transfer}
 use Rattle.script_engine.specs.declared.part.TransferKind.{TransferKind}
@@ -26,7 +26,6 @@ use Rattle.initiator_run.specs.Left.{bytes_at}
 use Rattle.initiator_run.specs.Moves.{HasReached}
 use Rattle.initiator_run.specs.Run.{Run}
 use Rattle.run_outcome.proofs.ListLemmas.{is_within}
-use Rattle.run_outcome.proofs.PlanLemmas.{no_fourphase}
 use Rattle.initiator_run.proofs.RouteLemmas.{walk_memory, routed, unrouted}
 use Rattle.initiator_run.proofs.LeftLemmas.{bytes_after, cost_at, leads_there, left_after}
 use Rattle.initiator_run.proofs.SendLemmas.{payload_fits}
@@ -34,9 +33,11 @@ use Rattle.plat_net.specs.Calls.{CanPay, HasNoPassage, route_at}
 use Rattle.plat_run.specs.Job.{IsInitiator}
 use Rattle.plat_run.specs.Sent.{IsSentBy}
 
--- in a plan that is served nobody passes a hop
-pub none_pass : (p : Plan) → IsServed p.platform → (x : TxnId) → HasNoPassage p x
-none_pass p served x = no_passage p (no_fourphase p served) x
+-- what an initiator makes that is blocking passes no hop
+pub none_pass : (p : Plan) (r : Run) (note : View Content Plan) (w : Purse) → IsInitiator p r note w → (x : TxnId) → x.initiator ≡ r.engine.initiator → HasNoPassage p x
+none_pass p r note w job x own =
+    ap (λ (i : Option Initiator). passage_by p.platform i x.seq) (ap (slice_get (initiators_of p)) own ∙ job.is)
+    ∙ ap (λ (style : Style). passage_to p.platform job.initiator style (slice_get (addresses_of job.initiator.script) x.seq)) job.style
 
 sent_by : (kind : TransferKind) (txn : TxnId) (t before offset : ℕ) (payload : PayloadView) → IsFit (call_at kind txn t before (record payload { address = offset })) → IsSentBy kind payload
 sent_by (transfer.Access command plain fenced) txn t before offset payload fit = fit.1

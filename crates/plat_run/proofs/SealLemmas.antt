@@ -1,5 +1,5 @@
 -- A blocking initiator that has finished is done, in each history that has what its note knows.
-use Rattle.std.proofs.Common.{◌≡◌, ℕ, ◌+◌, ◌<◌, List, length, Option, true, inr, ap, sym, subst, ◌∙◌, arith}
+use Rattle.std.proofs.Common.{◌≡◌, ℕ, ◌+◌, ◌<◌, ◌≤◌, List, length, Option, true, inr, ap, sym, subst, ◌∙◌, arith}
 use Rattle.std.proofs.lemmas.Grind.{common_steps}
 use Rattle.atomic_table.specs.Seated.{TableId}
 use Rattle.view_lists.specs.Lists.{Has, Within}
@@ -25,12 +25,15 @@ use Rattle.initiator_run.specs.Run.{Run, end_at}
 use Rattle.initiator_run.proofs.EndLemmas.{HasCome-ended}
 use Rattle.net_end.specs.Closed.{events_in}
 use Rattle.net_end.specs.Finished.{IsDone, IsRunDone}
-use Rattle.run_outcome.proofs.PlanLemmas.{blocking_apart, blocking_at, initiator_number}
+use Rattle.run_outcome.proofs.PlanLemmas.{blocking_apart, initiator_number}
 use Rattle.plat_run.specs.End.{IsFinished}
 use Rattle.plat_run.specs.Entries.{entry_read}
 use Rattle.plat_run.specs.Job.{IsInitiator, IsJob}
 
 -- a script that has ended asks for nothing more
+enough : (made share left : ℕ) → made ≡ share → share ≤ made + left
+enough made share left all = omega (arith, all)
+
 none_left_at : (p : Plan) (i : Initiator) (m s : ℕ) (due : Option Due) (ops : List Operation) → op_at s due ops ≡ next.Done → asked_due p i m due + asked_in p i m ops ≡ 0
 none_left_at p i m s due ops done = grind (arith, common_steps)
 
@@ -58,7 +61,7 @@ module _ (p : Plan) (r : Run) (v : View Content Plan) (w : Purse) (job : IsIniti
       let all : length (entries_at (Memory m) job.mine) ≡ share_at p r.engine.initiator (Memory m) = omega arith in
       all ∙ ap (λ (n : ℕ). share_at p n (Memory m)) (sym number)
 
-  run_done : (all : List (HistoryEntry Content)) → Within v.known all → IsRunDone p job.initiator (events_in p.platform all) (end_at r)
+  run_done : (all : List (HistoryEntry Content)) → Within v.known all → IsRunDone p job.initiator (events_in p.platform all) (λ o. left_of w (object_number p.platform o)) (end_at r)
   run_done all tells =
       let reached = HasCome-ended ends p.platform job.initiator job.mine r job.made.come (job.finished finished) in
       record {
@@ -70,7 +73,7 @@ module _ (p : Plan) (r : Run) (v : View Content Plan) (w : Purse) (job : IsIniti
           keeps = job.made.keeps;
           ended = reached.ended;
         };
-        all = spent;
+        all = λ m below. enough _ _ (left_of w (object_number p.platform (Memory m))) (spent m below);
         end_is = record {
           transactions = reached.transactions;
           syncs = reached.syncs;
@@ -83,7 +86,7 @@ module _ (p : Plan) (r : Run) (v : View Content Plan) (w : Purse) (job : IsIniti
   is_done all tells = record {
     initiator = job.initiator;
     at = job.is;
-    by_style = inr (blocking_apart job.initiator.row.style (blocking_at p job.served r.engine.initiator job.initiator job.is), run_done all tells);
+    by_style = inr (blocking_apart job.initiator.row.style job.style, run_done all tells);
   }
 
 -- so a job leaves what is wanted of one that has finished

@@ -9,6 +9,7 @@ use Rattle.shared_object.specs.Steps.{IsNote}
 use Rattle.tlm_types.specs.declared.entry.Content.{Content}
 use Rattle.tlm_types.specs.declared.entry.Entry.{Entry}
 use Rattle.tlm_types.specs.declared.words.ObjectNo.TheVariants.{Memory}
+use Rattle.tlm_model.specs.declared.platform.Style.TheVariants.{Blocking}
 use Rattle.tlm_model.specs.History.{entries_at}
 use Rattle.tlm_model.specs.Plan.{Plan, Initiator, initiators_of}
 use Rattle.good_history.specs.Laws.{AllDecoupled}
@@ -19,7 +20,6 @@ use Rattle.route_plan.specs.Counted.{share_at}
 use Rattle.script_engine.specs.declared.op.Op.TheVariants as next
 use Rattle.script_engine.specs.State.{op_of}
 use Rattle.initiator_run.specs.Come.{HasCome}
-use Rattle.route_plan.specs.Shape.{IsServed}
 use Rattle.route_plan.specs.Valid.{IsValid}
 use Rattle.initiator_run.specs.Left.{asks_left, bytes_left}
 use Rattle.initiator_run.specs.Run.{Run}
@@ -55,10 +55,10 @@ pub record HasTickets (p : Plan) (i : Initiator) (r : Run) (w : Purse) (mine : L
 -- A blocking initiator under way, with its note and its wallet.
 pub record IsInitiator (p : Plan) (r : Run) (v : View Content Plan) (w : Purse) : Type 0 where
   pub valid : IsValid p
-  pub served : IsServed p.platform
   pub initiator : Initiator
   pub mine : List Entry
   pub is : slice_get (initiators_of p) r.engine.initiator ≡ Some initiator
+  pub style : initiator.row.style ≡ Blocking
   pub made : HasMade p initiator r v mine
   pub tickets : (m : ℕ) → m < length p.platform.memories → HasTickets p initiator r w mine m
   pub no_others : HasNoOthers p.platform w

@@ -1,6 +1,8 @@
 pub mod Sent
 pub mod Entries
 pub mod Job
+pub mod Ports
+pub mod Nodes
 pub mod Actors
 pub mod Turn
 pub mod End

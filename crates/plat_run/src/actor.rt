@@ -1,11 +1,12 @@
 // The kinds of jobs.
-ghost use Rattle.std.specs.Prelude.{◌≡◌, ◌≢◌, ◌↔◌, true};
-ghost use Rattle.initiator_run.specs.Steps.{StepsOnce};
-ghost use Rattle.plat_run.specs.Actors.{is_done, number_of};
+ghost use Rattle.std.specs.Prelude.{◌≡◌, ◌<◌, true, length};
+ghost use Rattle.plat_run.specs.Actors.{is_done, is_pumped, number_of};
 ghost use Rattle.plat_run.specs.End.{IsFinished};
-ghost use Rattle.plat_run.specs.Turn.{is_held_back, run_of};
+ghost use Rattle.plat_run.specs.Turn.{HasTurned};
 
 use crate::initiator::BlockingInitiator;
+use crate::nodes::{MemoryJob, RouterJob};
+use crate::port_job::PortJob;
 use crate::turn::Turn;
 use outside::Pace;
 use plat_net::{PlatNote, Reach, TlmLaw};
@@ -18,11 +19,14 @@ use time_board::Board;
 use tlm_types::EndOf;
 use token_book::Wallet;
 
-/// A job of a run.
+/// A job of a run. The jobs of initiators have their numbers, and those of routers and memories come after them.
 // It is in a box, so that workers hand on the box alone and a turn works in place.
 #[derive(Drop)]
 pub enum Actor<N: Naming<Plan, TlmLaw>> {
     Blocking(Box<BlockingInitiator<N>, Global>),
+    FourPhase(Box<PortJob<N>, Global>),
+    Memory(Box<MemoryJob<N>, Global>),
+    Router(Box<RouterJob<N>, Global>),
 }
 
 impl<N: Naming<Plan, TlmLaw>> Job for Actor<N> {
@@ -35,18 +39,30 @@ impl<N: Naming<Plan, TlmLaw>> Job for Actor<N> {
     fn number(&self) -> u32 {
         match self {
             Actor::Blocking(job) => job.number(),
+            Actor::FourPhase(job) => job.number(),
+            Actor::Memory(job) => job.number(),
+            Actor::Router(job) => job.number(),
         }
     }
 
     fn done(&self) -> bool {
         match self {
             Actor::Blocking(job) => job.done(),
+            Actor::FourPhase(job) => job.done(),
+            Actor::Memory(_) | Actor::Router(_) => false,
         }
     }
 }
 
 impl<N: Naming<Plan, TlmLaw>> Actor<N> {
-    /// A turn of a job of any kind: at most one step of its script.
+    /// Whether its turns may change hops and pools. Such a job takes no part in rounds.
+    pub fn is_pumped(&self) -> bool
+        ensures { result ≡ is_pumped self.now }
+    {
+        !matches!(self, Actor::Blocking(_))
+    }
+
+    /// A turn of a job of any kind: of a blocking initiator at most one step of its script, of all others one pump.
     pub fn turn<B: Reach<N>, P: Pace, R: Wait>(
         &mut self,
         rt: &R,
@@ -55,11 +71,13 @@ impl<N: Naming<Plan, TlmLaw>> Actor<N> {
         pace: &P,
     ) -> Turn
         ensures number { number_of self.new ≡ number_of self.old }
-        ensures once { StepsOnce (run_of self.old).engine (run_of self.new).engine }
-        ensures held { (is_held_back result ≡ true) ↔ ((run_of self.new).round ≢ (run_of self.new).syncs) }
+        ensures turned { HasTurned N.frame self.old self.new result }
     {
         match self {
             Actor::Blocking(job) => job.turn(rt, reach, board, pace),
+            Actor::FourPhase(job) => job.turn(rt, reach.net(), pace),
+            Actor::Memory(job) => job.turn(rt, reach.net()),
+            Actor::Router(job) => job.turn(rt, reach.net()),
         }
     }
 
@@ -70,6 +88,19 @@ impl<N: Naming<Plan, TlmLaw>> Actor<N> {
     {
         match self {
             Actor::Blocking(job) => Box::into_inner(job).finish(),
+            Actor::FourPhase(job) => Box::into_inner(job).finish(),
+            Actor::Memory(_) | Actor::Router(_) => unreachable!(),
+        }
+    }
+
+    /// Lets go of a job. One that is done has the number of an initiator.
+    pub(crate) fn let_go(self)
+        ensures { is_done self ≡ true → number_of self < length N.frame.world.platform.initiators }
+    {
+        match self {
+            Actor::Blocking(job) => Box::into_inner(job).let_go(),
+            Actor::FourPhase(job) => Box::into_inner(job).let_go(),
+            Actor::Memory(_) | Actor::Router(_) => {}
         }
     }
 }

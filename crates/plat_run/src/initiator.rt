@@ -1,5 +1,5 @@
 // A blocking initiator as a job.
-ghost use Rattle.std.specs.Prelude.{◌≡◌, ◌≢◌, ◌↔◌, true, length};
+ghost use Rattle.std.specs.Prelude.{◌≡◌, ◌≢◌, ◌↔◌, ◌<◌, true, length};
 ghost use Rattle.initiator_run.specs.Moves.{HasReached};
 ghost use Rattle.initiator_run.specs.Steps.{StepsOnce};
 ghost use Rattle.plat_run.specs.End.{IsFinished};
@@ -90,6 +90,19 @@ impl<N: Naming<Plan, TlmLaw>> BlockingInitiator<N> {
             of: _,
         } = self;
         (run.into_end(), wallet, note.unwrap())
+    }
+
+    /// Lets go of it. Its number is that of an initiator.
+    pub(crate) fn let_go(self)
+        ensures { self.engine.initiator < length N.frame.world.platform.initiators }
+    {
+        let BlockingInitiator {
+            run: _,
+            payload: _,
+            note: _,
+            wallet: _,
+            of: _,
+        } = self;
     }
 
     /// At most one access or debug read, or one other operation, and the sync that is due after it. If the

@@ -2,9 +2,11 @@
 //!
 //! - `BlockingInitiator` is a blocking initiator as a job: its run, its payload, its note and its wallet.
 //!   A turn of it is at most one operation, or one access of it, and the sync that is due after it.
+//! - `PortJob` is a four-phase initiator as a job: a turn of it is one pump of its port. `MemoryJob` and `RouterJob` are the
+//!   memories and routers, which are jobs where some initiator is of four phases; a turn is one pump.
 //! - `Actor` is a job of any kind, in a box: workers hand the box on, and a turn works in place. It answers a
-//!   `Turn`: whether the job went on, let others go on, or is held back by the board.
-//! - `run` makes the jobs of a net that was just built, lets workers give them turns until all have
+//!   `Turn`: whether the job went on, let others go on, is held back by the board, or found nothing to do.
+//! - `run` makes the jobs of a net that was just built, lets workers give them turns until all initiators have
 //!   finished, and makes the outcome of what the jobs and the memories have. `run_plan` builds the net as
 //!   well.
 //!
@@ -16,6 +18,8 @@ mod actor;
 mod begin;
 mod ending;
 mod initiator;
+mod nodes;
+mod port_job;
 mod running;
 mod send;
 mod turn;
@@ -23,5 +27,7 @@ mod workers;
 
 pub use actor::Actor;
 pub use initiator::BlockingInitiator;
+pub use nodes::{MemoryJob, RouterJob};
+pub use port_job::PortJob;
 pub use running::{PlatSealed, run, run_plan};
 pub use turn::Turn;

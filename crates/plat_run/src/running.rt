@@ -1,5 +1,5 @@
 // The run of a net.
-ghost use Rattle.std.specs.Prelude.{◌≡◌, true, length, All, IfOk};
+ghost use Rattle.std.specs.Prelude.{◌≡◌, ◌≤◌, true, length, All, IfOk, count_by};
 ghost use Rattle.run_queue.specs.Queue.{AreNumbered};
 ghost use Rattle.plat_build.specs.Kept.{all_waiting};
 ghost use Rattle.plat_net.specs.Objects.{frame_of};
@@ -22,7 +22,7 @@ use plat_end::{Apart, take_apart};
 use plat_net::{Net, NetParts, PlatHistory, PlatNote, TlmLaw};
 use route_plan::Plan;
 use run_outcome::{MergedLog, Outcome};
-use run_queue::RunQueue;
+use run_queue::{Job, RunQueue};
 use shared_object::Naming;
 use std::alloc::Global;
 use std::marker::Brand;
@@ -57,7 +57,7 @@ pub fn run<N: Naming<Plan, TlmLaw> + Send + Sync, P: Pace + Sync, R: Threads + W
     let Built { mut net, mut kept } = built;
     let jobs = begin_jobs(alloc, &net, &mut kept)?;
     let count = net.plan().platform().initiators.as_slice().len() as u32;
-    let board = Board::new(alloc, count)?;
+    let board = begin_board(rt, alloc, &jobs, count)?;
     let jobs = finish_jobs(rt, alloc, &mut net, &board, pace, jobs, count, workers)?;
     let handed = hand_in(alloc, jobs)?;
     let HandedIn {
@@ -76,9 +76,48 @@ pub fn run<N: Naming<Plan, TlmLaw> + Send + Sync, P: Pace + Sync, R: Threads + W
     finish::<N>(history, ends, notes, apart)
 }
 
-// Gives turns to these jobs, which are so many, by so many workers, until all have finished. Its only error
-// is want of memory, before the first turn.
+// A board on which the blocking initiators of these jobs take part in rounds. Its only error is want of memory.
+fn begin_board<N: Naming<Plan, TlmLaw>, R: Wait>(
+    rt: &R,
+    alloc: Global,
+    jobs: &[Actor<N>],
+    count: u32,
+) -> Result<Board, Memory> {
+    let board = Board::new(alloc, count)?;
+    for job in jobs {
+        if job.is_pumped() {
+            board.finish(rt, job.number());
+        }
+    }
+    Ok(board)
+}
+
+// Gives turns to these jobs, of which the first so many are those of initiators, by so many workers, until these have
+// finished, and lets go of the others. Its only error is want of memory, before the first turn.
 fn finish_jobs<N: Naming<Plan, TlmLaw> + Send + Sync, P: Pace + Sync, R: Threads + Wait + Sync>(
+    rt: &R,
+    alloc: Global,
+    net: &mut Net<N>,
+    board: &Board,
+    pace: &P,
+    jobs: Vec<Actor<N>>,
+    count: u32,
+    workers: u32,
+) -> Result<Vec<Actor<N>>, Memory>
+    requires initiators { count ≡ length N.frame.world.platform.initiators }
+    requires many { count ≤ length jobs.items }
+    requires numbered { AreNumbered number_of jobs.items }
+    ensures numbered { IfOk result (λ jobs. AreNumbered number_of jobs.items) }
+    ensures count { IfOk result (λ jobs. length jobs.items ≡ count) }
+    ensures done { IfOk result (λ jobs. All (λ job. is_done job ≡ true) jobs.items) }
+{
+    let jobs = give_all_turns(rt, alloc, net, board, pace, jobs, count, workers)?;
+    Ok(dismiss_nodes(jobs, count))
+}
+
+// Gives turns to these jobs by so many workers, until the first so many have finished. Its only error is want of
+// memory, before the first turn.
+fn give_all_turns<N: Naming<Plan, TlmLaw> + Send + Sync, P: Pace + Sync, R: Threads + Wait + Sync>(
     rt: &R,
     alloc: Global,
     net: &mut Net<N>,
@@ -88,21 +127,41 @@ fn finish_jobs<N: Naming<Plan, TlmLaw> + Send + Sync, P: Pace + Sync, R: Threads
     count: u32,
     workers: u32,
 ) -> Result<Vec<Actor<N>>, Memory>
-    requires count { count ≡ length jobs.items }
+    requires many { count ≤ length jobs.items }
     requires numbered { AreNumbered number_of jobs.items }
     ensures numbered { IfOk result (λ jobs. AreNumbered number_of jobs.items) }
     ensures count { IfOk result (λ done. length done.items ≡ length jobs.items) }
-    ensures done { IfOk result (λ jobs. All (λ job. is_done job ≡ true) jobs.items) }
+    ensures enough { IfOk result (λ jobs. count ≤ count_by is_done jobs.items) }
 {
     // More workers than jobs would find nothing to do.
-    let workers = workers.min(count);
+    let workers = jobs.len().min(workers as usize);
     if workers <= 1 {
-        work_alone(rt, net, board, pace, &mut jobs);
+        work_alone(rt, net, board, pace, &mut jobs, count);
         return Ok(jobs);
     }
     let queue = RunQueue::new(alloc, jobs, count)?;
-    work_all(rt, net, board, &queue, workers, pace);
+    work_all(rt, net, board, &queue, workers as u32, pace);
     Ok(queue.into_jobs(rt))
+}
+
+// Lets go of the routers and memories, which come after the initiators, where as many jobs are done as there are
+// initiators: so these are all done.
+fn dismiss_nodes<N: Naming<Plan, TlmLaw>>(mut jobs: Vec<Actor<N>>, count: u32) -> Vec<Actor<N>>
+    requires initiators { count ≡ length N.frame.world.platform.initiators }
+    requires many { count ≤ length jobs.items }
+    requires numbered { AreNumbered number_of jobs.items }
+    requires enough { count ≤ count_by is_done jobs.items }
+    ensures numbered { AreNumbered number_of result.items }
+    ensures count { length result.items ≡ count }
+    ensures done { All (λ job. is_done job ≡ true) result.items }
+{
+    'nodes: while jobs.len() > count as usize {
+        let Some(job) = jobs.pop() else {
+            unreachable!()
+        };
+        job.let_go();
+    }
+    jobs
 }
 
 /// Builds the net of a plan that is served, and runs it. Its only error is want of memory, before the first worker starts

@@ -11,6 +11,8 @@ pub enum Turn {
     Opened { round: u64 },
     /// The job's last sync was not let through: all have reached this round, and the job waits for a later one.
     HeldBack { reached: u64 },
+    /// The job was pumped, and there was nothing that it could do: it waits until another one has moved.
+    Idle,
 }
 
 impl Turn {

@@ -1,5 +1,5 @@
 // The workers.
-ghost use Rattle.std.specs.Prelude.{◌≡◌, true, false, map, All};
+ghost use Rattle.std.specs.Prelude.{◌≡◌, ◌<◌, true, false, map, All};
 ghost use Rattle.plat_run.specs.Actors.{is_done, number_of};
 
 use crate::actor::Actor;
@@ -15,8 +15,9 @@ use std::thread::Threads;
 use time_board::Board;
 
 /// Takes a job, gives it its share of turns, and takes the next one as it hands it in, until none is in line: enough
-/// have finished, or each of the others is out with another worker, or parked until one that is out lets it go
-/// on. So a worker that isn't needed leaves: where rounds are short, waking it would cost more than its work.
+/// have finished, or each of the others is out with another worker, or parked or at rest until one that is out lets
+/// it go on. So a worker that isn't needed leaves: where rounds are short, waking it would cost more than its work. The
+/// last one stays: whoever lets others go on takes one of them, and where none is out the queue gives those that rest.
 fn work<N: Naming<Plan, TlmLaw>, P: Pace, R: Wait>(
     rt: &R,
     net: &Net<N>,
@@ -25,10 +26,11 @@ fn work<N: Naming<Plan, TlmLaw>, P: Pace, R: Wait>(
     pace: &P,
 ) {
     let mut reach = net;
-    let mut taken = queue.take(rt);
+    let mut next = queue.take_and_look(rt);
     for _ in rt.forever() {
-        taken = match taken {
-            Taken::Took(job) => give_turns(rt, &mut reach, board, queue, pace, job),
+        let (taken, moves) = next;
+        next = match taken {
+            Taken::Took(job) => give_turns(rt, &mut reach, board, queue, pace, job, moves),
             Taken::Nothing | Taken::AllDone => return,
         };
     }
@@ -38,27 +40,43 @@ fn work<N: Naming<Plan, TlmLaw>, P: Pace, R: Wait>(
 // once for all of them, costs a small part of what they do.
 const TURNS: u32 = 64;
 
-// Gives a job turns until it has finished, or is held back, or lets others go on, or has had its share.
+// Gives a job turns until it has finished, or can't go on, or lets others go on, or has had its share. What the last
+// turn has come to, and whether the job went on before.
 fn give_share<N: Naming<Plan, TlmLaw>, B: Reach<N>, P: Pace, R: Wait>(
     rt: &R,
     reach: &mut B,
     board: &Board,
     pace: &P,
     job: &mut Actor<N>,
-) -> Turn
+) -> (Turn, bool)
     ensures { number_of job.new ≡ number_of job.old }
 {
+    let mut moved = false;
     for _turn in 0..TURNS {
         let turn = job.turn(rt, reach, board, pace);
         if job.done() || !matches!(turn, Turn::WentOn) {
-            return turn;
+            return (turn, moved);
         }
+        moved = true;
     }
-    Turn::WentOn
+    (Turn::WentOn, moved)
+}
+
+// Hands in a job that went on, and takes the next one. One that is pumped lets those go on that rest.
+fn hand_on<N: Naming<Plan, TlmLaw>, R: Wait>(
+    rt: &R,
+    queue: &RunQueue<Actor<N>>,
+    job: Actor<N>,
+) -> (Taken<Actor<N>>, u64) {
+    if job.is_pumped() {
+        queue.move_and_take(rt, job)
+    } else {
+        queue.give_back_and_take(rt, job, 0)
+    }
 }
 
 // Gives a job its share of turns, hands it in, and takes the next one. Who hands in a job tells the queue which
-// round all have reached, so that none stays parked that can go on.
+// round all have reached, and whether it has moved, so that none stays parked or at rest that can go on.
 fn give_turns<N: Naming<Plan, TlmLaw>, B: Reach<N>, P: Pace, R: Wait>(
     rt: &R,
     reach: &mut B,
@@ -66,16 +84,18 @@ fn give_turns<N: Naming<Plan, TlmLaw>, B: Reach<N>, P: Pace, R: Wait>(
     queue: &RunQueue<Actor<N>>,
     pace: &P,
     mut job: Actor<N>,
-) -> Taken<Actor<N>> {
-    let turn = give_share(rt, reach, board, pace, &mut job);
+    moves: u64,
+) -> (Taken<Actor<N>>, u64) {
+    let (turn, moved) = give_share(rt, reach, board, pace, &mut job);
     if job.done() {
         let reached = board.finish_and_look(rt, job.number());
         return queue.finish_and_take(rt, job, reached);
     }
     match turn {
-        Turn::WentOn => queue.give_back_and_take(rt, job, 0),
+        Turn::WentOn => hand_on(rt, queue, job),
         Turn::Opened { round } => queue.give_back_and_take(rt, job, round),
         Turn::HeldBack { reached } => queue.park_and_take(rt, job, reached),
+        Turn::Idle => queue.rest_and_take(rt, job, moves, moved),
     }
 }
 
@@ -116,54 +136,58 @@ fn turn_finishes<N: Naming<Plan, TlmLaw>, B: Reach<N>, P: Pace, R: Wait>(
     done
 }
 
-// Gives a job a turn if it hasn't finished, and answers whether it needs more.
+// Gives a job a turn if it hasn't finished, and answers whether it needs more: it is one of the first so many, and
+// hasn't finished.
 fn turn_leaves_more<N: Naming<Plan, TlmLaw>, B: Reach<N>, P: Pace, R: Wait>(
     rt: &R,
     reach: &mut B,
     board: &Board,
     pace: &P,
     job: &mut Actor<N>,
+    count: u32,
 ) -> bool
     ensures number { number_of job.new ≡ number_of job.old }
-    ensures more { result ≡ false → is_done job.new ≡ true }
+    ensures more { result ≡ false → number_of job.new < count → is_done job.new ≡ true }
 {
-    !job.done() && !turn_finishes(rt, reach, board, pace, job)
+    !job.done() && !turn_finishes(rt, reach, board, pace, job) && job.number() < count
 }
 
-// Gives each job a turn that hasn't finished, in order, and answers whether one needs more.
+// Gives each job a turn that hasn't finished, in order, and answers whether one of the first so many needs more.
 fn give_round<N: Naming<Plan, TlmLaw>, P: Pace, R: Wait>(
     rt: &R,
     net: &mut Net<N>,
     board: &Board,
     pace: &P,
     jobs: &mut [Actor<N>],
+    count: u32,
 ) -> bool
     ensures numbers { map number_of jobs.new ≡ map number_of jobs.old }
-    ensures more { result ≡ false → All (λ job. is_done job ≡ true) jobs.new }
+    ensures more { result ≡ false → All (λ job. number_of job < count → is_done job ≡ true) jobs.new }
 {
     let mut more = false;
     for job in jobs.iter_mut() {
-        if turn_leaves_more(rt, net, board, pace, job) {
+        if turn_leaves_more(rt, net, board, pace, job, count) {
             more = true;
         }
     }
     more
 }
 
-/// Gives turns by the caller alone, in the order in which they would come off a queue, until all jobs have
-/// finished. No lock is taken to give a turn or to make an access, and no memory.
+/// Gives turns by the caller alone, in the order in which they would come off a queue, until the first so many jobs have
+/// finished. No lock is taken to give a turn, and none for the access of a blocking initiator; nor is memory.
 pub(crate) fn work_alone<N: Naming<Plan, TlmLaw>, P: Pace, R: Wait>(
     rt: &R,
     net: &mut Net<N>,
     board: &Board,
     pace: &P,
     jobs: &mut [Actor<N>],
+    count: u32,
 )
     ensures numbers { map number_of jobs.new ≡ map number_of jobs.old }
-    ensures done { All (λ job. is_done job ≡ true) jobs.new }
+    ensures done { All (λ job. number_of job < count → is_done job ≡ true) jobs.new }
 {
     for _ in rt.forever() {
-        if !give_round(rt, net, board, pace, jobs) {
+        if !give_round(rt, net, board, pace, jobs, count) {
             return;
         }
     }

@@ -13,6 +13,6 @@ loop-job-preserved g c =
       numbers = map-set_same number_of l.jobs l.job-index c.turn_leaves_more.new.job c.job-item.result c.turn_leaves_more.ensures.number ∙ l.invariant.numbers;
       more = λ none. elim c.if-turn_leaves_more.branch [
         | then-turn_leaves_more w ↦ let is = w.more-is in cc
-        | else-turn_leaves_more w ↦ AllWithin-more_set l.jobs l.job-index c.turn_leaves_more.new.job within (λ job. is_done job ≡ true) (l.invariant.more (sym w.more-is ∙ none)) (c.turn_leaves_more.ensures.more w.if-turn_leaves_more.false)
+        | else-turn_leaves_more w ↦ AllWithin-more_set l.jobs l.job-index c.turn_leaves_more.new.job within (λ job. number_of job < c.args.count → is_done job ≡ true) (l.invariant.more (sym w.more-is ∙ none)) (c.turn_leaves_more.ensures.more w.if-turn_leaves_more.false)
       ];
     }

@@ -1,4 +1,5 @@
 use Rattle.std.proofs.Common.{ℕ, ◌<◌, length, refl, ap, sym, subst, ◌∙◌}
+use Rattle.tlm_types.specs.declared.words.TxnId.{TxnId}
 use Rattle.tlm_model.specs.Plan.{Plan}
 use Rattle.generic_payload.specs.Payload.{PayloadView}
 use Rattle.plat_net.specs.Calls.{CanPay}
@@ -55,7 +56,7 @@ send-sent-requires-clause-passage g c =
     let p = n.frame.world in
     let note = c.unwrap-note.result in
     let job : IsInitiator p old.run note.knows old.wallet = set_out n.table n.tokens n.frame.world p old.run old.payload old.note note old.wallet c.self.invariant (sym c.take-2.ensures.value ∙ c.unwrap-note.ensures) refl in
-    none_pass p job.served c.next_txn-txn.result
+    none_pass p old.run note.knows old.wallet job c.next_txn-txn.result (ap (λ (x : TxnId). x.initiator) c.next_txn-txn.ensures)
 
 pub complete-requires-clause-whole : goal.complete-requires-clause-whole
 complete-requires-clause-whole g c =

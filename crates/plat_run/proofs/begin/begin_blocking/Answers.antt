@@ -1,11 +1,12 @@
 use Rattle.std.proofs.Common.{◌≡◌, ℕ, ◌*◌, ◌<◌, length, Some, ap, subst, ◌∙◌}
-use Rattle.std.specs.Prelude.{slice_get}
+use Rattle.std.specs.Prelude.{IsSomeAnd, slice_get}
+use Rattle.tlm_model.specs.declared.platform.InitiatorRow.{InitiatorRow}
 use Rattle.tlm_model.specs.declared.platform.Platform.{Platform}
+use Rattle.tlm_model.specs.declared.platform.Style.TheVariants.{Blocking}
 use Rattle.tlm_model.specs.Plan.{Plan}
-use Rattle.route_plan.specs.Shape.{IsServed}
 use Rattle.route_plan.specs.Valid.{IsValid}
 use Rattle.plat_run.proofs.BeginLemmas.{job_begun}
-use Rattle.plat_run.proofs.begin.begin_initiator.Goals as goal
+use Rattle.plat_run.proofs.begin.begin_blocking.Goals as goal
 
 pub new-job-requires : goal.new-job-requires
 new-job-requires g c =
@@ -14,7 +15,7 @@ new-job-requires g c =
     let there : c.plan-plan.result.now ≡ g.N.Naming.frame.world = plan.plan ∙ plan.world in
     job_begun g.N.Naming.frame.world g.N.Naming.table g.N.Naming.tokens c.args.number c.args.start c.in_ok-run.run' c.platform.result.now.quantum (2 * c.len.result) script
     (subst IsValid there c.platform.ensures.valid)
-    (subst (λ (p : Plan). IsServed p.platform) plan.world c.requires.served)
+    (subst (λ (p : Plan). IsSomeAnd (slice_get p.platform.initiators c.args.number) (λ (row : InitiatorRow). row.style ≡ Blocking)) plan.world c.requires.style)
     (subst (λ (p : Plan). c.args.number < length p.platform.initiators) plan.world c.requires.number)
     c.requires.start
     (subst (λ (p : Plan). slice_get p.scripts c.args.number ≡ Some script) there c.script.ensures.script)
