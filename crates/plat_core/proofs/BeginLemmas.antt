@@ -15,7 +15,7 @@ use Rattle.route_plan.specs.Planned.{planned_at, share_of}
 use Rattle.script_engine.proofs.Remaining.{few_numbers}
 use Rattle.script_engine.proofs.Steps.{begins}
 use Rattle.plat_core.specs.Core.{IsCore, IsMemoryAt, IsRunOf, are_finished, begun_run, history_of, logs_of, no_runs}
-use Rattle.route_plan.specs.Shape.{IsServed}
+use Rattle.route_plan.specs.Shape.{IsBlocking}
 use Rattle.route_plan.specs.Valid.{IsValid}
 use Rattle.plat_core.specs.Fresh.{AreFresh, IsFresh}
 use Rattle.initiator_run.specs.Left.{asked_in, total_left}
@@ -23,7 +23,7 @@ use Rattle.run_outcome.specs.Merge.{by_position, entries_in}
 use Rattle.initiator_run.specs.Run.{Run, fresh_run}
 use Rattle.initiator_run.proofs.EndLemmas.{HasCome-begun}
 use Rattle.run_outcome.proofs.ListLemmas.{at_push}
-use Rattle.run_outcome.proofs.PlanLemmas.{no_direct, no_fourphase}
+use Rattle.run_outcome.proofs.PlanLemmas.{blocking_is_served, no_direct, no_fourphase}
 use Rattle.traffic_script.specs.Proper.{AreProper}
 use Rattle.initiator_run.proofs.BeginLemmas.{proper_at, syncs_bound}
 
@@ -57,13 +57,13 @@ pub no_history : (p : Plan) (regions : List LoggedMemory) (n : ℕ) → AreFresh
 no_history p regions n fresh = ap by_position (empty_logs regions (λ k m is. (fresh.each k m is).empty))
 
 -- a core before its first step
-pub core_begun : (p : Plan) (runs : List Run) (regions : List LoggedMemory) → IsValid p → IsServed p.platform → runs ≡ no_runs p → AreFresh p regions (length p.platform.memories) → length (initiators_of p) ≡ length p.platform.initiators → IsCore p runs regions 0
-core_begun p runs regions valid served same fresh count =
+pub core_begun : (p : Plan) (runs : List Run) (regions : List LoggedMemory) → IsValid p → IsBlocking p.platform → runs ≡ no_runs p → AreFresh p regions (length p.platform.memories) → length (initiators_of p) ≡ length p.platform.initiators → IsCore p runs regions 0
+core_begun p runs regions valid blocking same fresh count =
     let none : history_of regions ≡ [] = no_history p regions (length p.platform.memories) fresh in
     subst (λ (r : List Run). IsCore p r regions 0) (sym same) (record {
       valid = valid;
-      served = served;
-      sound = subst (IsSound p) (sym none) (sound_empty p (no_fourphase p served) (no_direct p served));
+      blocking = blocking;
+      sound = subst (IsSound p) (sym none) (sound_empty p (no_fourphase p blocking) (no_direct p (blocking_is_served p.platform blocking)));
       count = sym (ap length none);
       run_count = length-map (initiators_of p) (begun_run p) ∙ count;
       region_count = fresh.count;

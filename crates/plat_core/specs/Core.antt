@@ -18,7 +18,7 @@ use Rattle.initiator_run.specs.Left.{total_left}
 use Rattle.run_outcome.specs.Merge.{merged}
 use Rattle.plat_core.specs.Rounds.{IsHeldBack, due_round}
 use Rattle.initiator_run.specs.Run.{Run, fresh_run}
-use Rattle.route_plan.specs.Shape.{IsServed}
+use Rattle.route_plan.specs.Shape.{IsBlocking}
 use Rattle.route_plan.specs.Valid.{IsValid}
 use Rattle.plat_core.specs.declared.steps.CoreStep.{CoreStep}
 use Rattle.plat_core.specs.declared.steps.CoreStep.TheVariants.{Made, Waits, Finished}
@@ -70,7 +70,7 @@ pub record IsRunOf (p : Plan) (h : List Entry) (i : Initiator) (r : Run) : Type 
 -- the parts of a core
 pub record IsCore (p : Plan) (runs : List Run) (regions : List LoggedMemory) (made : ℕ) : Type 0 where
   pub valid : IsValid p
-  pub served : IsServed p.platform
+  pub blocking : IsBlocking p.platform
   pub sound : IsSound p (history_of regions)
   pub count : made ≡ length (history_of regions)
   pub run_count : length runs ≡ length p.platform.initiators

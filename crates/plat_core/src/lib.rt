@@ -11,8 +11,8 @@
 //! round only where every other one that hasn't finished has reached the round before: a step waits exactly
 //! where its initiator is held back, and an entry of round r stands after every entry whose round is at most
 //! r - 2. Once all have finished, the history is good, and the stores and ends are those of the
-//! definitions. The plan has to be served: its initiators are of a style that is built, and so blocking.
-//! The only error is want of memory, after which the history is as before.
+//! definitions. All initiators of the plan have to be blocking (`route_plan::is_blocking` tells): the core
+//! moves no four-phase traffic. The only error is want of memory, after which the history is as before.
 #![tactic(auto)]
 
 mod schedule;

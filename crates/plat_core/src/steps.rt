@@ -2,7 +2,7 @@
 ghost use Rattle.std.specs.Prelude.{◌≡◌, ◌<◌, ◌≤◌, length, map, true, false, IfOk, OnOk, OnErr};
 ghost use Rattle.tlm_model.specs.Log.{log_bytes};
 ghost use Rattle.region_object.specs.Region.{LoggedMemory};
-ghost use Rattle.route_plan.specs.Shape.{IsServed};
+ghost use Rattle.route_plan.specs.Shape.{IsBlocking};
 ghost use Rattle.time_board.specs.declared.rounds.Member.{Member};
 ghost use Rattle.plat_core.specs.Fresh.{AreFresh};
 ghost use Rattle.plat_core.specs.Outcome.{IsOutcome};
@@ -68,9 +68,9 @@ impl<'a> Model for Core<'a> {
 }
 
 impl<'a> Core<'a> {
-    /// A core of a plan that is served, before its first step. Its only error is want of memory.
+    /// A core of a plan of blocking initiators, before its first step. Its only error is want of memory.
     pub fn new(alloc: Global, plan: &'a Plan) -> Result<Core<'a>, Memory>
-        requires { IsServed plan.now.platform }
+        requires { IsBlocking plan.now.platform }
         ensures { IfOk result (λ core. core ≡ begun_core plan.now) }
     {
         let runs = begin_runs(alloc, plan)?;

@@ -1,16 +1,16 @@
--- The accesses of a good history of a valid plan that is served can be told.
-use Rattle.std.proofs.Common.{◌≡◌, ℕ, zero, suc, ◌+◌, ◌-◌, ◌%◌, ◌^◌, ◌<◌, ◌≤◌, ◌==◌, Bool, true, false, List, [], ◌∷◌, ◌++◌, length, map, take, drop, Option, Some, None, leb, refl, sym, ap, subst, ◌∙◌, arith}
+-- The entries of a good history of a valid plan that is served can be told.
+use Rattle.std.proofs.Common.{◌≡◌, ◌≢◌, ℕ, zero, suc, ◌+◌, ◌-◌, ◌%◌, ◌^◌, ◌<◌, ◌≤◌, ◌==◌, Bool, true, false, List, [], ◌∷◌, ◌++◌, length, map, take, drop, Option, Some, None, leb, refl, sym, ap, subst, ◌∙◌, arith}
 use Rattle.std.specs.Prelude.{IfSome, if◌then◌else◌, slice_get, slice_index, slice_set}
 use Rattle.std.specs.List.{AllByRecursion}
 use Rattle.std.specs.Option.{option_map}
-use Rattle.std.proofs.lemmas.Bool.{and_parts, false≢true, leb-true}
-use Rattle.std.proofs.lemmas.List.{length-take}
+use Rattle.std.proofs.lemmas.Bool.{and_parts, eq-eqb, leb-true}
+use Rattle.std.proofs.lemmas.List.{length-take, map-append}
 use Rattle.std.proofs.lemmas.Option.{slice_get-map, slice_get_within}
 use Rattle.addr_router.specs.Windows.{IsProper as IsProperWindow}
 use Rattle.tlm_types.specs.declared.words.Command.{Command}
 use Rattle.tlm_types.specs.declared.words.Command.TheVariants.{Read, Write, Ignore, FetchAdd}
 use Rattle.tlm_types.specs.declared.words.ObjectNo.{ObjectNo}
-use Rattle.tlm_types.specs.declared.words.ObjectNo.TheVariants.{Memory as memory_object}
+use Rattle.tlm_types.specs.declared.words.ObjectNo.TheVariants.{Memory as memory_object, Hop, Pool}
 use Rattle.tlm_types.specs.declared.words.Response.{Response}
 use Rattle.tlm_types.specs.declared.words.Response.TheVariants.{Ok as ok_response}
 use Rattle.tlm_types.specs.declared.words.Way.{Way}
@@ -23,37 +23,48 @@ use Rattle.tlm_model.specs.declared.platform.MemoryRow.{MemoryRow}
 use Rattle.tlm_model.specs.declared.platform.Platform.{Platform}
 use Rattle.tlm_model.specs.declared.platform.RouterRow.{RouterRow}
 use Rattle.tlm_model.specs.declared.platform.Style.{Style}
-use Rattle.tlm_model.specs.declared.platform.Style.TheVariants.{Blocking as blocking_style}
+use Rattle.tlm_model.specs.declared.platform.Style.TheVariants.{Blocking as blocking_style, Direct as direct_style, FourPhase as fourphase_style}
 use Rattle.tlm_model.specs.declared.platform.Target.{Target}
 use Rattle.tlm_model.specs.declared.platform.Target.TheVariants.{Router, Memory}
 use Rattle.tlm_model.specs.declared.platform.WindowRow.{WindowRow}
 use Rattle.tlm_model.specs.Each.{EachFrom}
 use Rattle.good_history.specs.Good.{IsGood}
-use Rattle.tlm_model.specs.History.{IsAnswer, IsLegalEntry, IsLegalFrom, IsNumberedFrom, Store, after, opening_store, put, zeros_of}
-use Rattle.tlm_model.specs.Plan.{Plan, Initiator}
+use Rattle.tlm_model.specs.History.{IsAnswer, IsLegalEntry, IsLegalFrom, IsNumberedFrom, Store, after, is_object, opening_store, put, zeros_of}
+use Rattle.tlm_model.specs.Plan.{Plan, Initiator, initiators_of}
 use Rattle.report_model.specs.Report.{operand_in, shown_by}
-use Rattle.tlm_types.specs.Log.{is_access}
+use Rattle.tlm_types.specs.Log.{read_sends}
 use Rattle.tlm_model.specs.Numbers.{added, le_number}
 use Rattle.tlm_model.specs.Requests.{Asked, Transport, DebugRead, Invalidation, Request, got_in, requests_of}
 use Rattle.tlm_model.specs.Route.{Found, Route, into_memory, into_router, into_window, window_has, later, latency_of, before_of, route_of, walk, window_of}
 use Rattle.tlm_model.specs.Scripts.{HasWay, IsAccessOf, IsEntryOf, IsWay, OfRequest}
-use Rattle.tlm_model.specs.Store.{got_by, got_of, is_enabled, place_of, put_from, stored_by, taken_from}
+use Rattle.tlm_model.specs.Store.{got_by, got_of, is_enabled, place_of, put_from, store_after, stored_by, taken_from, zeros}
 use Rattle.tlm_model.specs.Times.{HasTime, decoupled_time}
 use Rattle.tlm_model.proofs.HistoryLemmas.{AllByRecursion-push}
+use Rattle.flow_model.specs.World.{Passage}
+use Rattle.flow_model.specs.Events.{Event, entries, number_in, numbered_from}
+use Rattle.flow_model.specs.Issue.{issue_time}
+use Rattle.flow_model.specs.Platform.{passage_of, world_of}
+use Rattle.flow_model.specs.Points.{InOrderBy, TimedBy}
+use Rattle.flow_model.specs.Traffic.{IsIssuedBy, slots_of}
 use Rattle.generic_payload.proofs.Moves.{length-taken_from}
 use Rattle.platform_model.specs.Bounded.{IsBounded, IsBoundedRouter}
 use Rattle.platform_model.specs.Windows.{window_at}
 use Rattle.traffic_script.specs.Proper.{AreBytes, AreProper}
 use Rattle.route_plan.specs.Shape.{IsServed}
 use Rattle.route_plan.specs.Valid.{IsValid}
+use Rattle.route_plan.specs.Valid.{IsObject as IsObjectOf}
 use Rattle.route_plan.proofs.SinglePaths.{not_none, some_same}
-use Rattle.run_outcome.proofs.PlanLemmas.{blocking_at, initiator_within}
-use Rattle.trace_print.specs.Naming.{AreUsual, HasNumbers, HasUsualBytes, IsObject, IsTellable}
-use Rattle.trace_print.proofs.Accesses.{IsOfAccesses, Replies, Ways, are-accesses}
-use Rattle.trace_print.proofs.FewEntries.{few-entries}
+use Rattle.run_outcome.proofs.PlanLemmas.{initiator_within}
+use Rattle.trace_print.specs.Naming.{AreUsual, HasGate, HasNumbers, HasUsualBytes, IsObject, IsTellable}
+use Rattle.trace_print.proofs.FewEntries.{few-entries, good-objects}
 use Rattle.trace_print.proofs.GoodNames.{all_got}
+use Rattle.trace_print.proofs.EntryKinds.{HaveKinds, IsKind, Replies, Ways, have-kinds, not-direct-at}
 use Rattle.trace_print.proofs.OfRequests.{all-at, at-request, request-of, script-of}
+use Rattle.trace_print.proofs.Passages.{count-hop-words, is-passed}
 use Rattle.trace_print.proofs.Requested.{IsBuffer, IsGotten, IsSentAsUsual, IsToldAsked, IsToldDebugRead, IsToldRequest, IsToldTransport, later-small, le-bytes, requests-few, requests-told, zeros-bytes}
+use Rattle.trace_print.proofs.SmallSlots.{HasSlot, IsSlotBelow, few-slots, have-slots}
+use Rattle.trace_print.proofs.SmallTimes.{HaveSmallTimes, IsSmallTime, debug-small, passed-small}
+use Rattle.trace_print.proofs.Standing.{all-stand}
 
 -- bytes of memories
 
@@ -134,15 +145,44 @@ operand-bytes Write sent h = tt
 operand-bytes Ignore sent h = tt
 operand-bytes FetchAdd sent h = h
 
-usual-bytes : (c : Command) (r : Response) (a : Access) (offset : ℕ) (store got : List ℕ) → IsSentAsUsual c a → got ≡ got_by c r (record a { offset = offset }) store → AreUsual c Blocking (record a { offset = offset }) got
-usual-bytes Read r a offset store got sent e = sent
-usual-bytes Write r a offset store got sent e = e
-usual-bytes Ignore r a offset store got sent e = (sent, e)
-usual-bytes FetchAdd r a offset store got sent e = tt
+-- an access by blocking or non-blocking transport
+abbrev IsTransportWay : Way → Type 0
+IsTransportWay Blocking = Unit {0}
+IsTransportWay FourPhase = Unit {0}
+IsTransportWay way = ⊥
 
--- what is told of an entry at an object, where this is the store before it
-record IsToldWhat (p : Platform) (s : Store) (o : ObjectNo) (w : What) : Type 0 where
-  there : IsObject p o
+no-gate : (way : Way) → IsTransportWay way → HasGate way
+no-gate Blocking is = tt
+no-gate FourPhase is = tt
+no-gate (Direct g) is = absurd is
+no-gate Debug is = tt
+
+got-is : (way : Way) → IsTransportWay way → (status : Response) (a : Access) (store : List ℕ) → got_of way status a store ≡ got_by a.command status a store
+got-is Blocking is status a store = refl
+got-is FourPhase is status a store = refl
+got-is (Direct g) is status a store = absurd is
+got-is Debug is status a store = absurd is
+
+stored-is : (way : Way) → IsTransportWay way → (status : Response) (a : Access) (store : List ℕ) → store_after way status a store ≡ stored_by a.command status a store
+stored-is Blocking is status a store = refl
+stored-is FourPhase is status a store = refl
+stored-is (Direct g) is status a store = absurd is
+stored-is Debug is status a store = absurd is
+
+zeros-sent : (way : Way) → IsTransportWay way → (n : ℕ) → read_sends way n ≡ zeros n
+zeros-sent Blocking is n = refl
+zeros-sent FourPhase is n = refl
+zeros-sent (Direct g) is n = absurd is
+zeros-sent Debug is n = absurd is
+
+usual-bytes : (c : Command) (way : Way) → IsTransportWay way → (r : Response) (a : Access) (offset : ℕ) (store got : List ℕ) → IsSentAsUsual c a → got ≡ got_by c r (record a { offset = offset }) store → AreUsual c way (record a { offset = offset }) got
+usual-bytes Read way is r a offset store got sent e = sent ∙ sym (zeros-sent way is a.length)
+usual-bytes Write way is r a offset store got sent e = e
+usual-bytes Ignore way is r a offset store got sent e = (sent, e)
+usual-bytes FetchAdd way is r a offset store got sent e = tt
+
+-- what is told of an entry, where this is the store before it
+record IsToldWhat (s : Store) (o : ObjectNo) (w : What) : Type 0 where
   numbers : HasNumbers w
   usual : HasUsualBytes w
   gotten : IfSome (got_in w) IsBuffer
@@ -152,27 +192,22 @@ answer-got : (o : Option MemoryRow) (bytes : List ℕ) (way : Way) (a : Access) 
 answer-got None bytes way a status got h = absurd h
 answer-got (Some row) bytes way a status got h = h.1
 
-answer-there : (p : Platform) (m : ℕ) (o : Option MemoryRow) → slice_get p.memories m ≡ o → (bytes : List ℕ) (way : Way) (a : Access) (status : Response) (got : List ℕ) → IsAnswer o bytes way a status got → m < length p.memories
-answer-there p m None is bytes way a status got h = absurd h
-answer-there p m (Some row) is bytes way a status got h = slice_get_within p.memories m row is
-
-transport-told : (p : Platform) (s : Store) → HasStoredBytes s → (m offset : ℕ) → offset < 2 ^ 64 → (a : Access) → IsToldTransport a → (status : Response) (got : List ℕ)
-    → IsLegalEntry p s (memory_object m) (Accessed Blocking (record a { offset = offset }) status got) → IsToldWhat p s (memory_object m) (Accessed Blocking (record a { offset = offset }) status got)
-transport-told p s stored m offset small a told status got legal =
+transport-told : (p : Platform) (s : Store) → HasStoredBytes s → (way : Way) → IsTransportWay way → (m offset : ℕ) → offset < 2 ^ 64 → (a : Access) → IsToldTransport a → (status : Response) (got : List ℕ)
+    → IsLegalEntry p s (memory_object m) (Accessed way (record a { offset = offset }) status got) → IsToldWhat s (memory_object m) (Accessed way (record a { offset = offset }) status got)
+transport-told p s stored way is m offset small a told status got legal =
     let b : Access = record a { offset = offset } in
     let row = slice_get p.memories m in
-    let e : got ≡ got_by a.command status b (s m) = answer-got row (s m) Blocking b status got legal in
+    let e : got ≡ got_by a.command status b (s m) = answer-got row (s m) way b status got legal ∙ got-is way is status b (s m) in
     let buffer = subst IsBuffer (sym e) (got-buffer a.command status b (s m) told.bytes told.few (stored m)) in
     record {
-      there = answer-there p m row refl (s m) Blocking b status got legal;
-      numbers = (tt, small, told.count, told.wide, told.enabled, shown-bytes a.command b got told.bytes buffer.bytes, operand-bytes a.command a.sent told.bytes);
-      usual = usual-bytes a.command status a offset (s m) got told.usual e;
+      numbers = (no-gate way is, small, told.count, told.wide, told.enabled, shown-bytes a.command b got told.bytes buffer.bytes, operand-bytes a.command a.sent told.bytes);
+      usual = usual-bytes a.command way is status a offset (s m) got told.usual e;
       gotten = buffer;
-      stored = put-stored s stored m (stored_by a.command status b (s m)) (stored-bytes a.command status b (s m) told.bytes (stored m));
+      stored = put-stored s stored m (store_after way status b (s m)) (subst AreBytes (sym (stored-is way is status b (s m))) (stored-bytes a.command status b (s m) told.bytes (stored m)));
     }
 
 debug-told : (p : Platform) (s : Store) → HasStoredBytes s → (m offset : ℕ) → offset < 2 ^ 64 → (a : Access) → IsToldDebugRead a → (status : Response) (got : List ℕ)
-    → IsLegalEntry p s (memory_object m) (Accessed Debug (record a { offset = offset }) status got) → IsToldWhat p s (memory_object m) (Accessed Debug (record a { offset = offset }) status got)
+    → IsLegalEntry p s (memory_object m) (Accessed Debug (record a { offset = offset }) status got) → IsToldWhat s (memory_object m) (Accessed Debug (record a { offset = offset }) status got)
 debug-told p s stored m offset small a told status got legal =
     let b : Access = record a { offset = offset } in
     let row = slice_get p.memories m in
@@ -184,35 +219,60 @@ debug-told p s stored m offset small a told status got legal =
     let buffer = subst IsBuffer (sym e) moved in
     let none : AreBytes a.sent = subst AreBytes (sym told.none_sent) tt in
     record {
-      there = answer-there p m row refl (s m) Debug b status got legal;
       numbers = (tt, small, told.count, told.wide, told.enabled, shown-bytes a.command b got none buffer.bytes, operand-bytes a.command a.sent none);
       usual = subst (λ (c : Command). AreUsual c Debug b got) (sym told.reads) told.none_sent;
       gotten = buffer;
       stored = put-stored s stored m (s m) (stored m);
     }
 
-told-access : (p : Platform) (s : Store) → HasStoredBytes s → (route : Option Route) → ((r : Route) → route ≡ Some r → r.offset < 2 ^ 64) → (asked : Asked) → IsToldAsked asked
-    → (o : ObjectNo) (way : Way) (a : Access) (status : Response) (got : List ℕ) → IsAccessOf route asked o a → IsWay blocking_style asked way
-    → IsLegalEntry p s o (Accessed way a status got) → IsToldWhat p s o (Accessed way a status got)
-told-access p s stored None small asked told o way a status got is came legal = absurd is
-told-access p s stored (Some r) small (Transport b) told o way a status got is came legal =
-    let P : ObjectNo × Way × Access → Type 0 = λ x. IsLegalEntry p s x.0 (Accessed x.1 x.2 status got) → IsToldWhat p s x.0 (Accessed x.1 x.2 status got) in
-    let from : ObjectNo × Way × Access = (memory_object r.memory, Blocking, record b { offset = r.offset }) in
-    let to : ObjectNo × Way × Access = (o, way, a) in
-    let same : from ≡ to = λ i. (sym is.0 i, sym came i, sym is.1 i) in
-    subst P same (transport-told p s stored r.memory r.offset (small r refl) b told status got) legal
-told-access p s stored (Some r) small (DebugRead b) told o way a status got is came legal =
-    let P : ObjectNo × Way × Access → Type 0 = λ x. IsLegalEntry p s x.0 (Accessed x.1 x.2 status got) → IsToldWhat p s x.0 (Accessed x.1 x.2 status got) in
+-- the way of an access of an initiator that isn't direct
+way-is : (style : Style) → style ≢ direct_style → (a : Access) (way : Way) → IsWay style (Transport a) way → IsTransportWay way
+way-is blocking_style other a way is = subst IsTransportWay (sym is) tt
+way-is direct_style other a way is = absurd (other refl)
+way-is fourphase_style other a way is = subst IsTransportWay (sym is) tt
+
+debug-way : (style : Style) (a : Access) (way : Way) → IsWay style (DebugRead a) way → Debug ≡ way
+debug-way blocking_style a way is = sym is
+debug-way direct_style a way is = sym is
+debug-way fourphase_style a way is = sym is
+
+no-way : (style : Style) (n : ℕ) (way : Way) → IsWay style (Invalidation n) way → ⊥
+no-way blocking_style n way is = is
+no-way direct_style n way is = is
+no-way fourphase_style n way is = is
+
+told-access : (p : Platform) (s : Store) → HasStoredBytes s → (style : Style) → style ≢ direct_style → (route : Option Route) → ((r : Route) → route ≡ Some r → r.offset < 2 ^ 64) → (asked : Asked) → IsToldAsked asked
+    → (o : ObjectNo) (way : Way) (a : Access) (status : Response) (got : List ℕ) → IsAccessOf route asked o a → IsWay style asked way
+    → IsLegalEntry p s o (Accessed way a status got) → IsToldWhat s o (Accessed way a status got)
+told-access p s stored style other None small asked told o way a status got is came legal = absurd is
+told-access p s stored style other (Some r) small (Transport b) told o way a status got is came legal =
+    let P : ObjectNo × Access → Type 0 = λ x. IsLegalEntry p s x.0 (Accessed way x.1 status got) → IsToldWhat s x.0 (Accessed way x.1 status got) in
+    let from : ObjectNo × Access = (memory_object r.memory, record b { offset = r.offset }) in
+    let to : ObjectNo × Access = (o, a) in
+    let same : from ≡ to = λ i. (sym is.0 i, sym is.1 i) in
+    subst P same (transport-told p s stored way (way-is style other b way came) r.memory r.offset (small r refl) b told status got) legal
+told-access p s stored style other (Some r) small (DebugRead b) told o way a status got is came legal =
+    let P : ObjectNo × Way × Access → Type 0 = λ x. IsLegalEntry p s x.0 (Accessed x.1 x.2 status got) → IsToldWhat s x.0 (Accessed x.1 x.2 status got) in
     let from : ObjectNo × Way × Access = (memory_object r.memory, Debug, record b { offset = r.offset }) in
     let to : ObjectNo × Way × Access = (o, way, a) in
-    let same : from ≡ to = λ i. (sym is.0 i, sym came i, sym is.1 i) in
+    let same : from ≡ to = λ i. (sym is.0 i, debug-way style b way came i, sym is.1 i) in
     subst P same (debug-told p s stored r.memory r.offset (small r refl) b told status got) legal
-told-access p s stored (Some r) small (Invalidation n) told o way a status got is came legal = absurd told
+told-access p s stored style other (Some r) small (Invalidation n) told o way a status got is came legal = absurd (no-way style n way came)
 
-told-what : (p : Platform) (s : Store) → HasStoredBytes s → (route : Option Route) → ((r : Route) → route ≡ Some r → r.offset < 2 ^ 64) → (asked : Asked) → IsToldAsked asked
-    → (o : ObjectNo) (w : What) → is_access w ≡ true → IsEntryOf route asked o w → HasWay blocking_style asked w → IsLegalEntry p s o w → IsToldWhat p s o w
-told-what p s stored route small asked told o (Accessed way a status got) accessed is came legal = told-access p s stored route small asked told o way a status got is came legal
-told-what p s stored route small asked told o w accessed is came legal = absurd (false≢true accessed)
+-- the slot of a move
+abbrev IsSlotSmall : What → Type 0
+IsSlotSmall w = IsSlotBelow (2 ^ 64) w
+
+told-what : (p : Platform) (s : Store) → HasStoredBytes s → (style : Style) → style ≢ direct_style → (route : Option Route) → ((r : Route) → route ≡ Some r → r.offset < 2 ^ 64) → (asked : Asked) → IsToldAsked asked
+    → (o : ObjectNo) (w : What) → IsKind o w → IsSlotSmall w → IsEntryOf route asked o w → HasWay style asked w → IsLegalEntry p s o w → IsToldWhat s o w
+told-what p s stored style other route small asked told (memory_object m) (Accessed way a status got) kind slot is came legal = told-access p s stored style other route small asked told (memory_object m) way a status got is came legal
+told-what p s stored style other route small asked told (memory_object m) w kind slot is came legal = absurd kind
+told-what p s stored style other route small asked told (Hop h) (Call c a) kind slot is came legal = record { numbers = tt; usual = tt; gotten = tt; stored = stored }
+told-what p s stored style other route small asked told (Hop h) w kind slot is came legal = absurd kind
+told-what p s stored style other route small asked told (Pool i) (Take k) kind slot is came legal = record { numbers = slot; usual = tt; gotten = tt; stored = stored }
+told-what p s stored style other route small asked told (Pool i) (Acquire k) kind slot is came legal = record { numbers = slot; usual = tt; gotten = tt; stored = stored }
+told-what p s stored style other route small asked told (Pool i) (Release k f) kind slot is came legal = record { numbers = slot; usual = tt; gotten = tt; stored = stored }
+told-what p s stored style other route small asked told (Pool i) w kind slot is came legal = absurd kind
 
 -- where addresses lead
 
@@ -270,9 +330,37 @@ time-small p i r (Take s) small = small
 time-small p i r (Acquire s) small = small
 time-small p i r (Release s f) small = small
 
+-- an object of the plan is one that can be told
+tellable-object : (p : Platform) (o : ObjectNo) → IsObjectOf p o → IsObject p o
+tellable-object p (memory_object m) there = there
+tellable-object p (Hop h) there = omega (arith, there, count-hop-words p)
+tellable-object p (Pool i) there = there
+
 -- what a good history says of the time of each entry, with those before it
-abbrev Times : Plan → List Entry → Entry → Type 0
+abbrev pub Times : Plan → List Entry → Entry → Type 0
 Times p before e = OfRequest p before e (λ i r. HasTime i.row.style (decoupled_time p.platform i r e.what) e.time)
+
+abbrev Issues : Plan → List Entry → Entry → Type 0
+Issues p before e = OfRequest p before e (λ i r. IsIssuedBy i.row.style e.time (issue_time p before e.txn) e.what)
+
+-- an entry as an event has the points of four-phase traffic, after these
+record IsInTraffic (p : Plan) (be : List Event) (before : List Entry) (e : Entry) (n : ℕ) : Type 0 where
+  same : entries be ≡ before
+  order : InOrderBy (world_of p) be e.txn (passage_of p e.txn) e.object n e.what
+  timed : TimedBy (world_of p) (issue_time p) be e.txn (passage_of p e.txn) e.object e.time n e.what
+
+-- what is known of an entry by itself: what it is, where, and that its slot is small
+record IsKnown (p : Plan) (e : Entry) : Type 0 where
+  kind : IsKind e.object e.what
+  there : IsObjectOf p.platform e.object
+  slot : IsSlotSmall e.what
+
+-- what a good history says of an entry after these
+record IsSaid (p : Plan) (before : List Entry) (e : Entry) : Type 0 where
+  reply : Replies p before e
+  way : Ways p before e
+  time : Times p before e
+  issue : Issues p before e
 
 -- an entry that can be told, and what comes of it
 record IsToldEntry (p : Platform) (s : Store) (e : Entry) : Type 0 where
@@ -280,51 +368,119 @@ record IsToldEntry (p : Platform) (s : Store) (e : Entry) : Type 0 where
   gotten : IsGotten e
   stored : HasStoredBytes (after e.object e.what s)
 
-told-entry : (p : Plan) → IsValid p → IsServed p.platform → (before : List Entry) → AllByRecursion IsGotten before → (s : Store) → HasStoredBytes s → (e : Entry) → e.position < 2 ^ 64 → is_access e.what ≡ true
-    → Replies p before e → Ways p before e → Times p before e → IsLegalEntry p.platform s e.object e.what → IsToldEntry p.platform s e
-told-entry p valid served before got s stored e position accessed reply way time legal =
-    let found = request-of p before e (λ i r. IsEntryOf (route_of p.platform i r.address) r.asked e.object e.what) reply in
-    let i = found.initiator in
-    let r = found.request in
-    let shape = valid.shape in
-    let blocking = blocking_at p served e.txn.initiator i found.of_it in
-    let proper = script-of AreProper 0 e.txn.initiator p.platform.initiators p.scripts i valid.proper found.of_it in
-    let all = requests-told p.platform i before got 0 0 0 (omega arith) i.script proper.each in
-    let told = all-at IsToldRequest (requests_of p.platform i before) all e.txn.seq r found.asked_for in
-    let within = slice_get_within (requests_of p.platform i before) e.txn.seq r found.asked_for in
-    let few = requests-few p.platform i before 0 0 0 i.script in
-    let is = at-request p before e (λ i r. IsEntryOf (route_of p.platform i r.address) r.asked e.object e.what) reply found in
-    let came = subst (λ (style : Style). HasWay style r.asked e.what) blocking (at-request p before e (λ i r. HasWay i.row.style r.asked e.what) way found) in
-    let at : e.time ≡ decoupled_time p.platform i r e.what =
-    subst (λ (style : Style). HasTime style (decoupled_time p.platform i r e.what) e.time) blocking (at-request p before e (λ i r. HasTime i.row.style (decoupled_time p.platform i r e.what) e.time) time found) in
-    let what = told-what p.platform s stored (route_of p.platform i r.address) (λ route leads. offset-small 9 p.platform shape.bounded i.row.bind r.address 0 route told.addressed leads) r.asked told.asks e.object e.what accessed is came legal in
-    record {
-      entry = record {
-        position = position;
-        time = omega (arith, at, time-small p.platform i r e.what told.timed);
-        seq = omega (arith, within, few, proper.few);
-        initiator = initiator_within p e.txn.initiator i found.of_it;
-        object = what.there;
-        numbers = what.numbers;
-        bytes = what.usual;
-      };
-      gotten = record { got = what.gotten };
-      stored = what.stored;
-    }
+module _ (p : Plan) (valid : IsValid p) (served : IsServed p.platform) where
+  -- the time of an entry of a four-phase initiator
+  fourphase-small : (be : List Event) (before : List Entry) (e : Entry) (n : ℕ) → IsInTraffic p be before e n → HaveSmallTimes before → IsKind e.object e.what → (i : Initiator) (r : Request) → slice_get (initiators_of p) e.txn.initiator ≡ Some i
+      → i.row.style ≡ fourphase_style → slice_get (requests_of p.platform i before) e.txn.seq ≡ Some r → IsEntryOf (route_of p.platform i r.address) r.asked e.object e.what → HasWay fourphase_style r.asked e.what
+      → IsIssuedBy fourphase_style e.time (issue_time p before e.txn) e.what → e.time < 2 ^ 64
+  fourphase-small be before e n traffic small kind i r of_it style asked is came issued = by_passage (passage_of p e.txn) refl
+    where
+      all : HaveSmallTimes (entries be)
+      all = subst HaveSmallTimes (sym traffic.same) small
 
-told-from : (p : Plan) → IsValid p → IsServed p.platform → (n : ℕ) (before h : List Entry) → AllByRecursion IsGotten before → (s : Store) → HasStoredBytes s → n + length h ≤ 2 ^ 64 → IsNumberedFrom n h
-    → IsOfAccesses h → IsLegalFrom p.platform s h → EachFrom (Replies p) before h → EachFrom (Ways p) before h → EachFrom (Times p) before h → AllByRecursion (IsTellable p.platform) h
-told-from p valid served n before [] got s stored few numbered plain legal replies ways times = tt
-told-from p valid served n before (e ∷ h) got s stored few numbered plain legal replies ways times =
-    let one = told-entry p valid served before got s stored e (omega (arith, few, numbered.0)) plain.0 replies.0 ways.0 times.0 legal.0 in (
-      one.entry,
-      told-from p valid served (n + 1) (before ++ e ∷ []) h (AllByRecursion-push IsGotten before e got one.gotten) (after e.object e.what s) one.stored (omega (arith, few)) numbered.1 plain.1 legal.1 replies.1 ways.1 times.1,
-    )
+      order_at : (f : Option Passage) → passage_of p e.txn ≡ f → InOrderBy (world_of p) be e.txn f e.object n e.what
+      order_at f at = subst (λ (g : Option Passage). InOrderBy (world_of p) be e.txn g e.object n e.what) at traffic.order
 
-pub good-told : (p : Plan) → IsValid p → IsServed p.platform → (h : List Entry) → IsGood p h → AllByRecursion (IsTellable p.platform) h
-good-told p valid served h good =
-    let plain = are-accesses p valid served h good.sound in
-    let kept = good.sound.requests in
-    let scripts = kept.scripts in
-    let few = few-entries p valid h scripts plain in
-    told-from p valid served 0 [] h tt (opening_store p.platform) (λ m. zeros_of-bytes (slice_get p.platform.memories m)) (omega (arith, few)) kept.numbered plain kept.legal scripts.replies scripts.ways kept.times
+      timed_at : (f : Option Passage) → passage_of p e.txn ≡ f → TimedBy (world_of p) (issue_time p) be e.txn f e.object e.time n e.what
+      timed_at f at = subst (λ (g : Option Passage). TimedBy (world_of p) (issue_time p) be e.txn g e.object e.time n e.what) at traffic.timed
+
+      by_passage : (f : Option Passage) → passage_of p e.txn ≡ f → e.time < 2 ^ 64
+      by_passage None at =
+          debug-small p be all e.txn e.object e.what e.time n i r before kind (order_at None at) of_it style asked at is came
+          (subst (λ (h : List Entry). IsIssuedBy fourphase_style e.time (issue_time p h e.txn) e.what) (sym traffic.same) issued)
+      by_passage (Some pass) at = passed-small p be all e.txn pass (is-passed p valid.shape e.txn pass at) e.object e.what e.time n kind (timed_at (Some pass) at)
+
+  -- and of any one
+  entry-small : (be : List Event) (before : List Entry) (e : Entry) (n : ℕ) → IsInTraffic p be before e n → HaveSmallTimes before → IsKind e.object e.what → (i : Initiator) (r : Request) → slice_get (initiators_of p) e.txn.initiator ≡ Some i
+      → slice_get (requests_of p.platform i before) e.txn.seq ≡ Some r → IsEntryOf (route_of p.platform i r.address) r.asked e.object e.what → HasWay i.row.style r.asked e.what
+      → HasTime i.row.style (decoupled_time p.platform i r e.what) e.time → IsIssuedBy i.row.style e.time (issue_time p before e.txn) e.what → r.time < 2 ^ 64 → e.time < 2 ^ 64
+  entry-small be before e n traffic small kind i r of_it asked is came time issued few = by_style i.row.style refl came time issued
+    where
+      by_style : (s : Style) → i.row.style ≡ s → HasWay s r.asked e.what → HasTime s (decoupled_time p.platform i r e.what) e.time → IsIssuedBy s e.time (issue_time p before e.txn) e.what → e.time < 2 ^ 64
+      by_style blocking_style style came time issued = omega (arith, time, time-small p.platform i r e.what few)
+      by_style direct_style style came time issued = absurd (not-direct-at p served e.txn.initiator i of_it style)
+      by_style fourphase_style style came time issued = fourphase-small be before e n traffic small kind i r of_it style asked is came issued
+
+  told-entry : (be : List Event) (before : List Entry) → AllByRecursion IsGotten before → HaveSmallTimes before → (s : Store) → HasStoredBytes s → (e : Entry) (n : ℕ) → e.position < 2 ^ 64 → IsKnown p e → IsSaid p before e → IsInTraffic p be before e n
+      → IsLegalEntry p.platform s e.object e.what → IsToldEntry p.platform s e
+  told-entry be before got small s stored e n position known said traffic legal =
+      let found = request-of p before e (λ i r. IsEntryOf (route_of p.platform i r.address) r.asked e.object e.what) said.reply in
+      let i = found.initiator in
+      let r = found.request in
+      let shape = valid.shape in
+      let proper = script-of AreProper 0 e.txn.initiator p.platform.initiators p.scripts i valid.proper found.of_it in
+      let all = requests-told p.platform i before got 0 0 0 (omega arith) i.script proper.each in
+      let told = all-at IsToldRequest (requests_of p.platform i before) all e.txn.seq r found.asked_for in
+      let within = slice_get_within (requests_of p.platform i before) e.txn.seq r found.asked_for in
+      let few = requests-few p.platform i before 0 0 0 i.script in
+      let is = at-request p before e (λ i r. IsEntryOf (route_of p.platform i r.address) r.asked e.object e.what) said.reply found in
+      let came = at-request p before e (λ i r. HasWay i.row.style r.asked e.what) said.way found in
+      let time = at-request p before e (λ i r. HasTime i.row.style (decoupled_time p.platform i r e.what) e.time) said.time found in
+      let issued = at-request p before e (λ i r. IsIssuedBy i.row.style e.time (issue_time p before e.txn) e.what) said.issue found in
+      let what = told-what p.platform s stored i.row.style (not-direct-at p served e.txn.initiator i found.of_it) (route_of p.platform i r.address) (λ route leads. offset-small 9 p.platform shape.bounded i.row.bind r.address 0 route told.addressed leads) r.asked told.asks
+      e.object e.what known.kind known.slot is came legal in
+      record {
+        entry = record {
+          position = position;
+          time = entry-small be before e n traffic small known.kind i r found.of_it found.asked_for is came time issued told.timed;
+          seq = omega (arith, within, few, proper.few);
+          initiator = initiator_within p e.txn.initiator i found.of_it;
+          object = tellable-object p.platform e.object known.there;
+          numbers = what.numbers;
+          bytes = what.usual;
+        };
+        gotten = record { got = what.gotten };
+        stored = what.stored;
+      }
+
+  told-from : (n : ℕ) (be : List Event) (before h : List Entry) → entries be ≡ before → AllByRecursion IsGotten before → HaveSmallTimes before → (s : Store) → HasStoredBytes s → n + length h ≤ 2 ^ 64 → IsNumberedFrom n h
+      → AllByRecursion (IsKnown p) h → IsLegalFrom p.platform s h → EachFrom (IsSaid p) before h
+      → EachFrom (λ be e. InOrderBy (world_of p) be e.txn (passage_of p e.txn) e.object e.number e.what) be (numbered_from before h)
+      → EachFrom (λ be e. TimedBy (world_of p) (issue_time p) be e.txn (passage_of p e.txn) e.object e.time e.number e.what) be (numbered_from before h)
+      → AllByRecursion (IsTellable p.platform) h
+  told-from n be before [] same got small s stored few numbered known legal said orders times = tt
+  told-from n be before (e ∷ h) same got small s stored few numbered known legal said orders times =
+      let number = number_in before e.txn e.what in
+      let event : Event = record { entry = e; number = number } in
+      let one = told-entry be before got small s stored e number (omega (arith, few, numbered.0)) known.0 said.0 (record { same = same; order = orders.0; timed = times.0 }) legal.0 in
+      let tellable = one.entry in (
+        tellable,
+        told-from (n + 1) (be ++ event ∷ []) (before ++ e ∷ []) h (map-append (λ (d : Event). d.entry) be (event ∷ []) ∙ ap (λ (l : List Entry). l ++ e ∷ []) same) (AllByRecursion-push IsGotten before e got one.gotten)
+            (AllByRecursion-push IsSmallTime before e small tellable.time) (after e.object e.what s) one.stored (omega (arith, few)) numbered.1 known.1 legal.1 said.1 orders.1 times.1,
+      )
+
+  known-each : (h : List Entry) → HaveKinds h → AllByRecursion (λ (e : Entry). IsObjectOf p.platform e.object) h → AllByRecursion (HasSlot p) h → AllByRecursion (IsKnown p) h
+  known-each [] kinds there slots = tt
+  known-each (e ∷ h) kinds there slots = (record { kind = kinds.0; there = there.0; slot = slot-of e.object e.what kinds.0 slots.0 }, known-each h kinds.1 there.1 slots.1)
+    where
+      slot-of : (o : ObjectNo) (w : What) → IsKind o w → ((i : ℕ) → is_object (Pool i) o ≡ true → IsSlotBelow (slots_of p i) w) → IsSlotSmall w
+      slot-of (memory_object m) (Accessed way a status got) kind f = tt
+      slot-of (memory_object m) w kind f = absurd kind
+      slot-of (Hop o) (Call c a) kind f = tt
+      slot-of (Hop o) w kind f = absurd kind
+      slot-of (Pool i) (Take k) kind f = let shape = valid.shape in omega (arith, f i (eq-eqb i i refl), few-slots p shape.bounded i)
+      slot-of (Pool i) (Acquire k) kind f = let shape = valid.shape in omega (arith, f i (eq-eqb i i refl), few-slots p shape.bounded i)
+      slot-of (Pool i) (Release k g) kind f = let shape = valid.shape in omega (arith, f i (eq-eqb i i refl), few-slots p shape.bounded i)
+      slot-of (Pool i) w kind f = absurd kind
+
+  said-each : (before h : List Entry) → EachFrom (Replies p) before h → EachFrom (Ways p) before h → EachFrom (Times p) before h → EachFrom (Issues p) before h → EachFrom (IsSaid p) before h
+  said-each before [] replies ways times issues = tt
+  said-each before (e ∷ h) replies ways times issues =
+      (record { reply = replies.0; way = ways.0; time = times.0; issue = issues.0 }, said-each (before ++ e ∷ []) h replies.1 ways.1 times.1 issues.1)
+
+  pub good-told : (h : List Entry) → IsGood p h → AllByRecursion (IsTellable p.platform) h
+  good-told h good =
+      let sound = good.sound in
+      let kept = sound.requests in
+      let scripts = kept.scripts in
+      let traffic = sound.traffic in
+      let passes = traffic.passes in
+      let pools = traffic.pools in
+      let times = traffic.times in
+      let kinds = have-kinds p valid served h scripts in
+      let stand = all-stand p [] [] h kinds passes.orders in
+      let there = good-objects p valid h good kinds stand in
+      let few = few-entries p valid h good kinds stand in
+      let known = known-each h kinds there (have-slots p h pools.counts) in
+      let said = said-each [] h scripts.replies scripts.ways kept.times times.others in
+      told-from 0 [] [] h refl tt tt (opening_store p.platform) (λ m. zeros_of-bytes (slice_get p.platform.memories m)) (omega (arith, few)) kept.numbered known kept.legal said passes.orders times.calls

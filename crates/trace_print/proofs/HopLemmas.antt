@@ -51,7 +51,7 @@ start : {X : Type 0} (all : List X) → Continues all 0 all
 start all k = let e : 0 + k ≡ k = omega arith in ap (λ (i : ℕ). slice_get all i) e
 
 -- the words of the hops are those of their ends
-words-of-ends : (p : Platform) → map (hop_word_of p) (ends_of p) ≡ hop_words p
+pub words-of-ends : (p : Platform) → map (hop_word_of p) (ends_of p) ≡ hop_words p
 unfolding ends_of
 words-of-ends p =
     map-append (hop_word_of p) (map binding_ends (enumerate_from 0 p.initiators)) (flat_map router_ends (enumerate_from 0 p.routers))

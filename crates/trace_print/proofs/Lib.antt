@@ -19,6 +19,10 @@ pub mod SameHistories
 pub mod GoodNames
 pub mod Requested
 pub mod OfRequests
-pub mod Accesses
+pub mod EntryKinds
+pub mod Passages
+pub mod Standing
+pub mod SmallSlots
+pub mod SmallTimes
 pub mod FewEntries
 pub mod GoodEntries

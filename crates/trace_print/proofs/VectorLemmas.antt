@@ -1,10 +1,9 @@
 -- Digits of the bytes of a vector.
-use Rattle.std.proofs.Common.{◌≡◌, ℕ, zero, suc, ◌+◌, ◌*◌, ◌-◌, ◌/◌, ◌%◌, ◌<◌, ◌≤◌, ◌^◌, List, [], ◌∷◌, ◌++◌, Bool, true, false, cond, ltb, length, get_or, map, take, drop, replicate, refl, sym, ap, ◌∙◌, arith, w8, take-add}
+use Rattle.std.proofs.Common.{◌≡◌, ℕ, zero, suc, ◌+◌, ◌*◌, ◌-◌, ◌/◌, ◌%◌, ◌<◌, ◌≤◌, List, [], ◌∷◌, ◌++◌, Bool, true, false, cond, ltb, length, get_or, map, take, drop, replicate, refl, sym, ap, ◌∙◌, arith, w8, take-add}
 use Rattle.std.specs.Fmt.{digit_glyph}
-use Rattle.std.specs.Simd.Lanes.{chunk, put_chunk, sel_l, top, zip2}
+use Rattle.std.specs.Simd.Lanes.{put_chunk, sel_l, top, zip2}
 use Rattle.std.proofs.lemmas.Simd.{get_or-replicate, get_or-sel_l, get_or-zip2, length-replicate, length-sel_l, length-zip2, put_chunk_whole, tops_compared}
 use Rattle.std.proofs.lemmas.List.{get_or-append_right, get_or_append_left, length-drop, length-take-le, take-append-le}
-use Rattle.std.proofs.lemmas.Bool.{ltb-false, ltb-true}
 use borrow.Rule.Slice.PartMut.{put_mid}
 use Rattle.std.proofs.Math.Nat.{mod-eq_of_lt}
 use Rattle.std.proofs.Math.Seq.{take-append-add}
