@@ -1,0 +1,13 @@
+pub mod ScriptLemmas
+pub mod KnownLemmas
+pub mod EntryLemmas
+pub mod TellLemmas
+pub mod JobLemmas
+pub mod AccessLemmas
+pub mod DirectLemmas
+pub mod AskLemmas
+pub mod Finding
+pub mod MoveLemmas
+pub mod EndLemmas
+pub mod PassLemmas
+pub mod BeginLemmas

@@ -1,0 +1,6 @@
+pub mod Known
+pub mod Script
+pub mod Job
+pub mod Sent
+pub mod Moves
+pub mod End
