@@ -1,23 +1,23 @@
 // Plans, and rows to compare outcomes with.
-ghost use Rattle.route_plan.specs.Shape.{IsServed};
+ghost use Rattle.route_plan.specs.Shape.{IsBlocking};
 
 use platform_file::read_platform;
-use route_plan::{Plan, plan, served, shape};
+use route_plan::{Plan, is_blocking, plan, shape};
 use run_outcome::{LogReader, Outcome};
 use std::alloc::Global;
 use std::process::Abort;
 use tlm_types::{EndOf, ObjectNo};
 use traffic_script::read_script;
 
-/// The plan of a platform of one initiator with this script, which is served.
+/// The plan of a platform of one blocking initiator with this script.
 pub(crate) fn plan_of(rt: &impl Abort, alloc: Global, platform: &str, script: &str) -> Plan
-    ensures { IsServed result.platform }
+    ensures { IsBlocking result.platform }
 {
     let script = read_script(alloc, script.as_bytes(), 1).expect(rt, "a script");
     let scripts = vec![in alloc; script].expect(rt, "room");
     let platform = read_platform(alloc, platform.as_bytes()).expect(rt, "a platform");
     let shape = shape(alloc, &platform).expect(rt, "a shape");
-    served(alloc, &shape).expect(rt, "a platform that is served");
+    assert!(rt; is_blocking(shape.platform()));
     assert!(rt; scripts.len() == shape.platform().initiators.as_slice().len());
     plan(alloc, shape, scripts.as_slice()).expect(rt, "a plan")
 }

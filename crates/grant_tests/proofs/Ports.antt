@@ -5,7 +5,7 @@ use Rattle.tlm_model.specs.declared.platform.Style.{Style}
 use Rattle.tlm_model.specs.declared.platform.Style.TheVariants.{Blocking, Direct, FourPhase}
 use Rattle.tlm_model.specs.Plan.{Plan, Initiator, initiators_of}
 use Rattle.flow_model.specs.Platform.{addresses_of, passage_by, passage_to}
-use Rattle.flow_plan.proofs.Ways.{initiator_from}
+use Rattle.tlm_model.proofs.InitiatorLemmas.{initiator_from}
 use Rattle.plat_net.specs.Calls.{HasNoPassage}
 use Rattle.grant_tests.specs.Bag.{HasNoPorts}
 

@@ -1,5 +1,2 @@
 pub mod Benches
-pub mod SeatedHops
-pub mod OwnItems
 pub mod ReadyPools
-pub mod SeatedPools

@@ -1,3 +1,1 @@
-pub mod Legs
 pub mod Ready
-pub mod References

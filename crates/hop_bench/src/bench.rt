@@ -11,7 +11,7 @@ use hop_object::{Begun, Hop, HopCall, HopReply, Leg, Responded};
 use shared_object::Object;
 use std::alloc::Global;
 use std::process::Abort;
-use tlm_types::{Memory, Ps, ReqMode, RespMode, TlmSync, TxnId};
+use tlm_types::{Ps, ReqMode, RespMode, TlmSync, TxnId};
 use token_book::Tokens;
 
 /// A step of a row: the number of the transaction, and the time.
@@ -72,20 +72,25 @@ fn state_word(state: LaneState) -> &'static str {
 }
 
 impl Bench {
-    pub fn new(alloc: Global, lanes: u32, req: ReqMode, resp: RespMode) -> Result<Bench, Memory>
+    pub fn new(rt: &impl Abort, alloc: Global, lanes: u32, req: ReqMode, resp: RespMode) -> Bench
         requires { (1 ≤ lanes) × (lanes ≤ 16) }
     {
-        let (tokens, mut books) = Tokens::new(alloc, 1)?;
+        let Ok((tokens, mut books)) = Tokens::new(alloc, 1) else {
+            panic!(rt; "memory");
+        };
         let Some(book) = books.pop() else {
             unreachable!()
         };
-        Ok(Bench {
-            hop: Hop::new(alloc, 7, lanes, req, resp, 80, book)?,
+        let Ok(hop) = Hop::new(alloc, 7, lanes, req, resp, 80, book) else {
+            panic!(rt; "memory");
+        };
+        Bench {
+            hop,
             tokens,
             legs: Vec::new(alloc),
             position: 0,
             left: 80,
-        })
+        }
     }
 
     /// Asks the hop, and tells what it answers. A leg that comes is kept on the bench.

@@ -23,8 +23,7 @@ static ROW: [(Step, Told); 14] = [
 
 #[test]
 fn two_lanes_take_turns(rt: HostRuntime) {
-    let bench = Bench::new(rt.alloc(), 2, ReqMode::Accept, RespMode::Accept);
-    let mut bench = bench.expect(&rt, "memory");
+    let mut bench = Bench::new(&rt, rt.alloc(), 2, ReqMode::Accept, RespMode::Accept);
     for (step, told) in &ROW {
         assert!(rt; bench.ask(&rt, step) == *told, "not {told:?}");
     }

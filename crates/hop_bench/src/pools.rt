@@ -1,13 +1,12 @@
 // A pool by itself: its calls one after another.
-ghost use Rattle.std.specs.Prelude.{◌≡◌, ◌+◌, ◌<◌, ◌≤◌, [], IfOk};
+ghost use Rattle.std.specs.Prelude.{◌≡◌, ◌+◌, ◌<◌, ◌≤◌, []};
 ghost use Rattle.payload_pool.specs.Slots.{acquired_of};
 ghost use Rattle.hop_bench.specs.Ready.{IsReady, IsMine, IsBaton};
 
-use object_bench::two_books;
 use payload_pool::{Baton, Hold, Pool};
 use std::alloc::Global;
 use std::process::Abort;
-use tlm_types::{Memory, Ps, TxnId, What};
+use tlm_types::{Ps, TxnId, What};
 use token_book::Tokens;
 
 // A pool of initiator 3 with the book of owner 1, the position of its next entry, and for how many
@@ -21,32 +20,39 @@ struct Bench {
     ghost ready: { IsReady left tokens position pool },
 }
 
-fn make_pool(alloc: Global, slots: u32, entries: u64) -> Result<(Tokens, Pool), Memory>
+fn make_pool(rt: &impl Abort, alloc: Global, slots: u32, entries: u64) -> (Tokens, Pool)
     requires slots { (1 ≤ slots) × (slots ≤ 16) }
-    ensures table { IfOk result (λ r. r.1.book.table ≡ r.0) }
-    ensures owner { IfOk result (λ r. r.1.book.owner ≡ 1) }
-    ensures bytes { IfOk result (λ r. r.1.room ≡ 16) }
-    ensures log { IfOk result (λ r. r.1.log ≡ record { events = []; room = entries }) }
+    ensures table { result.1.book.table ≡ result.0 }
+    ensures owner { result.1.book.owner ≡ 1 }
+    ensures bytes { result.1.room ≡ 16 }
+    ensures log { result.1.log ≡ record { events = []; room = entries } }
 {
-    let (tokens, _other, book) = two_books(alloc)?;
-    let pool = Pool::new(alloc, 3, slots, 16, entries, book)?;
-    Ok((tokens, pool))
+    let Ok((tokens, mut books)) = Tokens::new(alloc, 2) else {
+        panic!(rt; "memory");
+    };
+    let Some(book) = books.pop() else {
+        unreachable!()
+    };
+    let Ok(pool) = Pool::new(alloc, 3, slots, 16, entries, book) else {
+        panic!(rt; "memory");
+    };
+    (tokens, pool)
 }
 
 #[tactic(auto, using(crate::proofs::ReadyPools::ready_new))]
-fn make_bench(alloc: Global, slots: u32, entries: u64) -> Result<Bench, Memory>
+fn make_bench(rt: &impl Abort, alloc: Global, slots: u32, entries: u64) -> Bench
     requires slots { (1 ≤ slots) × (slots ≤ 16) }
     requires entries { entries < 1000 }
-    ensures left { IfOk result (λ b. b.left ≡ entries) }
-    ensures empty { IfOk result (λ b. b.pool.log.events ≡ []) }
+    ensures left { result.left ≡ entries }
+    ensures empty { result.pool.log.events ≡ [] }
 {
-    let (tokens, pool) = make_pool(alloc, slots, entries)?;
-    Ok(Bench {
+    let (tokens, pool) = make_pool(rt, alloc, slots, entries);
+    Bench {
         tokens,
         pool,
         position: 0,
         left: entries,
-    })
+    }
 }
 
 fn txn(seq: u64) -> TxnId {
@@ -141,9 +147,7 @@ impl Bench {
 
 #[test]
 fn a_slot_is_free_after_its_last_reference(rt: HostRuntime) {
-    let Ok(mut bench) = make_bench(rt.alloc(), 2, 8) else {
-        panic!(rt; "memory");
-    };
+    let mut bench = make_bench(&rt, rt.alloc(), 2, 8);
     let x = bench.take(&rt, 0, 0);
     let y = bench.take(&rt, 1, 0);
     assert!(rt; x.slot() == 0 && x.acquired() == 0 && y.slot() == 1);

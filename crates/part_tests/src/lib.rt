@@ -5,10 +5,11 @@
 //!   `lanes` the masked copies of `lane_copy`, `events` the queue of `event_queue`,
 //!   `generators` the loads of `traffic_gen`.
 //! - `sequences` has rows of four-phase calls by the checks of `flow_check`.
+//! - `laws` has a run by hand that leaves what the law of ended runs wants (`joined_traffic`).
 //! - `boards` has the rounds of `time_board`, `queues` the jobs of `run_queue`: by one thread, and by two at
 //!   once, which meet at their locks.
 //!
-//! There is nothing to call. The tests stand in a crate of their own so that those crates aren't proved
+//! There is nothing to call but that law. The tests stand in a crate of their own so that those crates aren't proved
 //! again with them.
 #![tactic(auto)]
 
@@ -22,6 +23,7 @@ mod events;
 mod generators;
 #[cfg(test)]
 mod lanes;
+pub mod laws;
 #[cfg(test)]
 mod payloads;
 #[cfg(test)]

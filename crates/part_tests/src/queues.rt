@@ -122,13 +122,13 @@ fn who_hands_in_takes_the_next(rt: HostRuntime) {
     let jobs = jobs_of(&rt, rt.alloc(), 2, 1);
     let queue = RunQueue::new(rt.alloc(), jobs, 2).expect(&rt, "memory");
     assert!(rt; told(queue.take(&rt)) == 0);
-    assert!(rt; told(queue.give_back_and_take(&rt, waiting(0), 0)) == 1);
-    assert!(rt; told(queue.give_back_and_take(&rt, waiting(1), 0)) == 0);
+    assert!(rt; told(queue.give_back_and_take(&rt, waiting(0), 0).0) == 1);
+    assert!(rt; told(queue.give_back_and_take(&rt, waiting(1), 0).0) == 0);
     assert!(rt; told(queue.take(&rt)) == 1);
-    assert!(rt; told(queue.give_back_and_take(&rt, waiting(1), 0)) == 1);
-    assert!(rt; told(queue.give_back_and_take(&rt, waiting(0), 0)) == 0);
-    assert!(rt; told(queue.finish_and_take(&rt, finished(1), 0)) == -1);
-    assert!(rt; told(queue.finish_and_take(&rt, finished(0), 0)) == -2);
+    assert!(rt; told(queue.give_back_and_take(&rt, waiting(1), 0).0) == 1);
+    assert!(rt; told(queue.give_back_and_take(&rt, waiting(0), 0).0) == 0);
+    assert!(rt; told(queue.finish_and_take(&rt, finished(1), 0).0) == -1);
+    assert!(rt; told(queue.finish_and_take(&rt, finished(0), 0).0) == -2);
 }
 
 // A parked job comes back into line once a later round was told, and at once where that was told before.
@@ -137,16 +137,38 @@ fn a_parked_job_waits_for_its_round(rt: HostRuntime) {
     let jobs = jobs_of(&rt, rt.alloc(), 3, 1);
     let queue = RunQueue::new(rt.alloc(), jobs, 3).expect(&rt, "memory");
     assert!(rt; told(queue.take(&rt)) == 0);
-    assert!(rt; told(queue.park_and_take(&rt, waiting(0), 4)) == 1);
-    assert!(rt; told(queue.park_and_take(&rt, waiting(1), 4)) == 2);
+    assert!(rt; told(queue.park_and_take(&rt, waiting(0), 4).0) == 1);
+    assert!(rt; told(queue.park_and_take(&rt, waiting(1), 4).0) == 2);
     // Round 4 was told with the jobs themselves: it brings back nobody.
-    assert!(rt; told(queue.give_back_and_take(&rt, waiting(2), 4)) == 2);
-    assert!(rt; told(queue.give_back_and_take(&rt, waiting(2), 5)) == 0);
+    assert!(rt; told(queue.give_back_and_take(&rt, waiting(2), 4).0) == 2);
+    assert!(rt; told(queue.give_back_and_take(&rt, waiting(2), 5).0) == 0);
     assert!(rt; told(queue.take(&rt)) == 1);
-    assert!(rt; told(queue.park_and_take(&rt, waiting(0), 4)) == 2);
-    assert!(rt; told(queue.finish_and_take(&rt, finished(2), 5)) == 0);
-    assert!(rt; told(queue.park_and_take(&rt, waiting(0), 5)) == -1);
-    assert!(rt; told(queue.finish_and_take(&rt, finished(1), 6)) == 0);
+    assert!(rt; told(queue.park_and_take(&rt, waiting(0), 4).0) == 2);
+    assert!(rt; told(queue.finish_and_take(&rt, finished(2), 5).0) == 0);
+    assert!(rt; told(queue.park_and_take(&rt, waiting(0), 5).0) == -1);
+    assert!(rt; told(queue.finish_and_take(&rt, finished(1), 6).0) == 0);
+}
+
+// A job that found nothing to do rests until another one has moved since it was taken. Where nothing else can go on,
+// those that rest are taken once more.
+#[test]
+fn a_resting_job_waits_for_a_move(rt: HostRuntime) {
+    let jobs = jobs_of(&rt, rt.alloc(), 2, 1);
+    let queue = RunQueue::new(rt.alloc(), jobs, 2).expect(&rt, "memory");
+    let (first, seen) = queue.take_and_look(&rt);
+    assert!(rt; told(first) == 0 && seen == 0);
+    // Nobody has moved: 0 rests, and 1 comes back alone.
+    assert!(rt; told(queue.rest_and_take(&rt, waiting(0), 0, false).0) == 1);
+    assert!(rt; told(queue.give_back_and_take(&rt, waiting(1), 0).0) == 1);
+    // 1 has moved: 0 stands in line before it.
+    let (woken, seen) = queue.move_and_take(&rt, waiting(1));
+    assert!(rt; told(woken) == 0 && seen == 1);
+    // 0 has moved as well: it rests, and so does 1, which was taken after that.
+    assert!(rt; told(queue.rest_and_take(&rt, waiting(0), 1, true).0) == 1);
+    assert!(rt; told(queue.rest_and_take(&rt, waiting(1), 2, false).0) == 0);
+    // A move since it was taken was told: it comes back at once, and so does who moved.
+    assert!(rt; told(queue.take(&rt)) == 1);
+    assert!(rt; told(queue.rest_and_take(&rt, waiting(1), 2, false).0) == 1);
 }
 
 // Takes jobs and gives each a turn, until enough have finished. Answers how many turns it gave.
@@ -171,10 +193,10 @@ fn work<R: Wait>(rt: &R, queue: &RunQueue<Countdown>) -> u64 {
 
 fn give_turn<R: Wait>(rt: &R, queue: &RunQueue<Countdown>, mut job: Countdown) -> Taken<Countdown> {
     if job.done() {
-        queue.finish_and_take(rt, job, 0)
+        queue.finish_and_take(rt, job, 0).0
     } else {
         job.left -= 1;
-        queue.give_back_and_take(rt, job, 0)
+        queue.give_back_and_take(rt, job, 0).0
     }
 }
 

@@ -147,10 +147,10 @@ fn style_answer(rt: &impl Abort, alloc: Global, style: &str) -> String {
 }
 
 #[test]
-fn only_blocking_initiators_are_served(rt: HostRuntime) {
+fn all_initiators_but_direct_ones_are_served(rt: HostRuntime) {
     let wanted = "platform refused: not_built initiator[0] style";
     assert!(rt; style_answer(&rt, rt.alloc(), "'direct'").as_str() == wanted);
-    assert!(rt; style_answer(&rt, rt.alloc(), "'fourphase'").as_str() == wanted);
+    assert!(rt; style_answer(&rt, rt.alloc(), "'fourphase'").as_str() == "ok");
     assert!(rt; style_answer(&rt, rt.alloc(), "'blocking'").as_str() == "ok");
 }
 

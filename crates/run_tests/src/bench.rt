@@ -1,8 +1,8 @@
 // Plans.
-ghost use Rattle.route_plan.specs.Shape.{IsServed};
+ghost use Rattle.route_plan.specs.Shape.{IsBlocking, IsServed};
 
 use platform_file::read_platform;
-use route_plan::{Plan, plan, served, shape};
+use route_plan::{Plan, is_blocking, plan, served, shape};
 use std::alloc::Global;
 use std::process::Abort;
 use traffic_script::{Script, read_script};
@@ -26,4 +26,18 @@ pub(crate) fn plan_of(rt: &impl Abort, alloc: Global, platform: &str, scripts: &
     served(alloc, &shape).expect(rt, "a platform that is served");
     assert!(rt; scripts.len() == shape.platform().initiators.as_slice().len());
     plan(alloc, shape, scripts.as_slice()).expect(rt, "a plan")
+}
+
+/// The same, where all initiators are blocking.
+pub(crate) fn blocking_plan(
+    rt: &impl Abort,
+    alloc: Global,
+    platform: &str,
+    scripts: &[&str],
+) -> Plan
+    ensures { IsBlocking result.platform }
+{
+    let plan = plan_of(rt, alloc, platform, scripts);
+    assert!(rt; is_blocking(plan.platform()));
+    plan
 }

@@ -5,6 +5,7 @@
 //! - `nets` has nets that were just built, `transports` accesses by one thread and by two at once.
 //! - `runs` has runs by 1 to 4 workers: that they end, that workers run at once, that rounds hold
 //!   initiators back, and whom the pace is told of. `paces` has the paces that hold initiators and count.
+//! - `phases` has runs of four-phase initiators, some beside blocking ones, by 1, 2, 4 and 16 workers.
 //!
 //! There is nothing to call. The tests stand in a crate of their own so that those crates aren't proved
 //! again with them.
@@ -16,6 +17,8 @@ mod bench;
 mod nets;
 #[cfg(test)]
 mod paces;
+#[cfg(test)]
+mod phases;
 #[cfg(test)]
 mod runs;
 #[cfg(test)]

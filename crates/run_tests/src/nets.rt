@@ -1,9 +1,9 @@
 // Nets that were just built.
 ghost use Rattle.std.specs.Prelude.{◌≡◌};
-ghost use Rattle.route_plan.specs.Shape.{IsServed};
+ghost use Rattle.route_plan.specs.Shape.{IsBlocking};
 ghost use Rattle.plat_net.specs.Objects.{frame_of};
 
-use crate::bench::plan_of;
+use crate::bench::blocking_plan;
 use plat_build::{Built, Opened, Start, build, close_unused};
 use plat_net::TlmLaw;
 use route_plan::Plan;
@@ -38,7 +38,7 @@ fn debug_read<N: Naming<Plan, TlmLaw>, R: Wait + Abort>(
     requires history { (opened.table ≡ N.table) × (opened.frame ≡ N.frame) }
     requires tickets { opened.tokens ≡ N.tokens }
     requires plan { plan.now ≡ N.frame.world }
-    requires served { IsServed plan.now.platform }
+    requires blocking { IsBlocking plan.now.platform }
 {
     assert!(rt; plan.platform().initiators.as_slice().len() == 1);
     let Built { net, mut kept } = build::<N>(alloc, opened, plan).expect(rt, "a net");
@@ -66,7 +66,7 @@ fn debug_read<N: Naming<Plan, TlmLaw>, R: Wait + Abort>(
 
 // The same of a net that was just built.
 fn debug_at<R: Wait + Abort>(rt: &R, alloc: Global, address: u64) -> (Response, u64) {
-    let plan = plan_of(rt, alloc, BUS, &[SCRIPT]);
+    let plan = blocking_plan(rt, alloc, BUS, &[SCRIPT]);
     let opened = Opened::new(alloc, &plan).expect(rt, "a history");
     debug_read::<Brand, R>(rt, alloc, &plan, opened, address)
 }
@@ -100,7 +100,7 @@ fn entries_of_new<N: Naming<Plan, TlmLaw>, R: Wait>(
 
 #[test]
 fn history_of_a_new_net_is_empty(rt: HostRuntime) {
-    let plan = plan_of(&rt, rt.alloc(), BUS, &[SCRIPT]);
+    let plan = blocking_plan(&rt, rt.alloc(), BUS, &[SCRIPT]);
     let opened = Opened::new(rt.alloc(), &plan).expect(&rt, "a history");
     let entries = entries_of_new::<Brand, HostRuntime>(&rt, rt.alloc(), &plan, opened);
     assert!(rt; entries == Ok(0));

@@ -30,7 +30,7 @@ const ONE: &str = "write 0x0 aabb\ncopy 0x0 0x100 2\nread 0x200 2\ndebug 0x100 2
 const TWO: &str = "add 0x8 1\nwait 40\nsync\n";
 
 // What came of a run by so many workers, which is complete; the sealed history has just its entries.
-fn run_of<P: Pace + Sync, R: Threads + Wait + Abort + Sync>(
+pub(crate) fn run_of<P: Pace + Sync, R: Threads + Wait + Abort + Sync>(
     rt: &R,
     alloc: Global,
     plan: &Plan,

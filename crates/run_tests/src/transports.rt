@@ -5,11 +5,11 @@ ghost use Rattle.tlm_types.specs.declared.words.Command.TheVariants.{Read};
 ghost use Rattle.tlm_model.specs.Store.{zeros};
 ghost use Rattle.region_object.specs.Call.{payload_cost};
 ghost use Rattle.tlm_types.specs.declared.words.TxnId.{TxnId as Txn};
-ghost use Rattle.route_plan.specs.Shape.{IsServed};
+ghost use Rattle.route_plan.specs.Shape.{IsBlocking};
 ghost use Rattle.plat_net.specs.Calls.{CanPay, HasNoPassage, route_at};
 ghost use Rattle.run_tests.specs.Bag.{IsBag};
 
-use crate::bench::plan_of;
+use crate::bench::blocking_plan;
 use blocking_path::{b_transport, transport_dbg};
 use generic_payload::Payload;
 use plat_build::{Built, Kept, Opened, Start, build};
@@ -48,9 +48,9 @@ struct Bag {
     at: Ps,
 }
 
-// Nobody passes a hop: no initiator of a plan that is served is of four phases.
+// Nobody passes a hop: no initiator of a blocking platform is of four phases.
 fn none_passes<N: Naming<Plan, TlmLaw>>(net: &Net<N>)
-    requires { IsServed net.now.platform }
+    requires { IsBlocking net.now.platform }
     ensures { (x : Txn) → HasNoPassage net.now x }
 {
     let _ = net;
@@ -91,7 +91,7 @@ fn come_back<N: Naming<Plan, TlmLaw>>(carried: Carried, wallet: Wallet, seq: u64
 // Makes the access of the payload.
 fn access<N: Naming<Plan, TlmLaw>, R: Wait + Abort>(rt: &R, net: &Net<N>, who: u32, bag: Bag) -> Bag
     requires who { who < length net.now.platform.initiators }
-    requires served { IsServed net.now.platform }
+    requires blocking { IsBlocking net.now.platform }
     requires bag { IsBag N.table N.tokens bag.payload bag.note bag.wallet }
     requires buffer { bag.payload.command ≡ Read → bag.payload.bytes ≡ zeros (length bag.payload.bytes) }
     ensures { IsBag N.table N.tokens result.payload result.note result.wallet }
@@ -116,7 +116,7 @@ fn access<N: Naming<Plan, TlmLaw>, R: Wait + Abort>(rt: &R, net: &Net<N>, who: u
 // Makes the debug read of the payload.
 fn look<N: Naming<Plan, TlmLaw>, R: Wait + Abort>(rt: &R, net: &Net<N>, who: u32, bag: Bag) -> Bag
     requires who { who < length net.now.platform.initiators }
-    requires served { IsServed net.now.platform }
+    requires blocking { IsBlocking net.now.platform }
     requires bag { IsBag N.table N.tokens bag.payload bag.note bag.wallet }
     requires read { bag.payload.command ≡ Read }
     ensures { IsBag N.table N.tokens result.payload result.note result.wallet }
@@ -151,7 +151,7 @@ fn write_and_read<N: Naming<Plan, TlmLaw>, R: Wait + Abort>(
     mut bag: Bag,
 ) -> Bag
     requires who { who < length net.now.platform.initiators }
-    requires served { IsServed net.now.platform }
+    requires blocking { IsBlocking net.now.platform }
     requires bag { IsBag N.table N.tokens bag.payload bag.note bag.wallet }
     ensures { IsBag N.table N.tokens result.payload result.note result.wallet }
 {
@@ -173,7 +173,7 @@ fn look_and_miss<N: Naming<Plan, TlmLaw>, R: Wait + Abort>(
     mut bag: Bag,
 ) -> Bag
     requires who { who < length net.now.platform.initiators }
-    requires served { IsServed net.now.platform }
+    requires blocking { IsBlocking net.now.platform }
     requires bag { IsBag N.table N.tokens bag.payload bag.note bag.wallet }
     ensures { IsBag N.table N.tokens result.payload result.note result.wallet }
 {
@@ -190,7 +190,7 @@ fn look_and_miss<N: Naming<Plan, TlmLaw>, R: Wait + Abort>(
 // All four. No ticket is left.
 fn tour<N: Naming<Plan, TlmLaw>, R: Wait + Abort>(rt: &R, net: &Net<N>, who: u32, bag: Bag)
     requires who { who < length net.now.platform.initiators }
-    requires served { IsServed net.now.platform }
+    requires blocking { IsBlocking net.now.platform }
     requires bag { IsBag N.table N.tokens bag.payload bag.note bag.wallet }
 {
     let bag = write_and_read::<N, R>(rt, net, who, bag);
@@ -229,7 +229,7 @@ fn alone<N: Naming<Plan, TlmLaw>, R: Wait + Abort>(
     requires history { (opened.table ≡ N.table) × (opened.frame ≡ N.frame) }
     requires tickets { opened.tokens ≡ N.tokens }
     requires plan { plan.now ≡ N.frame.world }
-    requires served { IsServed plan.now.platform }
+    requires blocking { IsBlocking plan.now.platform }
 {
     assert!(rt; plan.platform().initiators.as_slice().len() == 2);
     let Built { net, mut kept } = build::<N>(alloc, opened, plan).expect(rt, "a net");
@@ -247,7 +247,7 @@ fn both<N: Naming<Plan, TlmLaw> + Send + Sync, R: Threads + Wait + Abort + Sync>
     requires history { (opened.table ≡ N.table) × (opened.frame ≡ N.frame) }
     requires tickets { opened.tokens ≡ N.tokens }
     requires plan { plan.now ≡ N.frame.world }
-    requires served { IsServed plan.now.platform }
+    requires blocking { IsBlocking plan.now.platform }
 {
     assert!(rt; plan.platform().initiators.as_slice().len() == 2);
     let Built { net, mut kept } = build::<N>(alloc, opened, plan).expect(rt, "a net");
@@ -262,14 +262,14 @@ fn both<N: Naming<Plan, TlmLaw> + Send + Sync, R: Threads + Wait + Abort + Sync>
 
 #[test]
 fn an_initiator_makes_its_accesses(rt: HostRuntime) {
-    let plan = plan_of(&rt, rt.alloc(), BUS, &[SCRIPT, SCRIPT]);
+    let plan = blocking_plan(&rt, rt.alloc(), BUS, &[SCRIPT, SCRIPT]);
     let opened = Opened::new(rt.alloc(), &plan).expect(&rt, "a history");
     alone::<Brand, HostRuntime>(&rt, rt.alloc(), &plan, opened);
 }
 
 #[test]
 fn two_threads_transport_at_once(rt: HostRuntime) {
-    let plan = plan_of(&rt, rt.alloc(), BUS, &[SCRIPT, SCRIPT]);
+    let plan = blocking_plan(&rt, rt.alloc(), BUS, &[SCRIPT, SCRIPT]);
     let opened = Opened::new(rt.alloc(), &plan).expect(&rt, "a history");
     both::<Brand, HostRuntime>(&rt, rt.alloc(), &plan, opened);
 }

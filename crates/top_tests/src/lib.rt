@@ -9,9 +9,13 @@ mod bench;
 #[cfg(test)]
 mod faults;
 #[cfg(test)]
+mod fourphase;
+#[cfg(test)]
 mod loads;
 #[cfg(test)]
 mod platforms;
+#[cfg(test)]
+mod refusals;
 #[cfg(test)]
 mod scripts;
 #[cfg(test)]

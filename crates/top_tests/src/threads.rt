@@ -1,5 +1,5 @@
 // Runs by two worker threads.
-use crate::bench::{call, calm, library};
+use crate::bench::{Came, call, calm, library};
 use outside::Pace;
 use std::process::Abort;
 use std::sync::Wait;
@@ -134,10 +134,14 @@ static TWO_FILES: [(&str, &str); 3] = [
     ("two.txt", "write 0x1 bb\nfence\nread 0x0 1\n"),
 ];
 
-// With this initiator held, the other one's first access comes first, and there are four.
-fn expect_first<R: AllocGlobal + Threads + Wait + Abort + Sync>(rt: &R, held: u32, entry: &str) {
+// What comes of two workers with this initiator held, which isn't held in vain.
+fn held_run<R: AllocGlobal + Threads + Wait + Abort + Sync>(
+    rt: &R,
+    files: &[(&str, &str)],
+    held: u32,
+) -> Came {
     let pace = Holding::of(held);
-    let lib = library(rt, rt.alloc(), &TWO_FILES, &[]);
+    let lib = library(rt, rt.alloc(), files, &[]);
     let came = call(
         rt,
         "run p.toml --workers 2",
@@ -146,6 +150,12 @@ fn expect_first<R: AllocGlobal + Threads + Wait + Abort + Sync>(rt: &R, held: u3
         &pace,
     );
     assert!(rt; came.number == 0 && pace.gave_up.load(Ordering::SeqCst) == 0);
+    came
+}
+
+// With this initiator held, the other one's first access comes first, and there are four.
+fn expect_first<R: AllocGlobal + Threads + Wait + Abort + Sync>(rt: &R, held: u32, entry: &str) {
+    let came = held_run(rt, &TWO_FILES, held);
     let report = str::from_utf8(came.out.bytes()).expect(rt, "a text");
     assert!(rt; report.lines().nth(1) == Some(entry));
     assert!(rt; report.ends_with("\nend 4\n"));
@@ -156,4 +166,52 @@ fn expect_first<R: AllocGlobal + Threads + Wait + Abort + Sync>(rt: &R, held: u3
 fn two_at_once(rt: HostRuntime) {
     expect_first(&rt, 0, "0 0 two.0 ram blocking write 0x1 1 be=- sw=1 bb ok");
     expect_first(&rt, 1, "0 0 one.0 ram blocking write 0x0 1 be=- sw=1 aa ok");
+}
+
+// The same two, of which the second has four phases.
+const MIXED: &str = "version = 1
+quantum = 1000000
+[[initiator]]
+name = 'one'
+style = 'blocking'
+script = 'one.txt'
+bind = 'ram'
+[[initiator]]
+name = 'two'
+style = 'fourphase'
+script = 'two.txt'
+bind = 'ram'
+[[memory]]
+name = 'ram'
+size = 16
+";
+
+static MIXED_FILES: [(&str, &str); 3] = [
+    ("p.toml", MIXED),
+    ("one.txt", "write 0x0 aa\nfence\nread 0x1 1\n"),
+    ("two.txt", "write 0x1 bb\nfence\nread 0x0 1\n"),
+];
+
+// With this initiator held, these accesses come in this order, among 2 entries of the one and 18 of the other.
+fn expect_accesses<R: AllocGlobal + Threads + Wait + Abort + Sync>(
+    rt: &R,
+    held: u32,
+    first: &str,
+    second: &str,
+) {
+    let came = held_run(rt, &MIXED_FILES, held);
+    let report = str::from_utf8(came.out.bytes()).expect(rt, "a text");
+    let mut lines = report.lines();
+    assert!(rt; lines.any(|line| line.contains(first)));
+    assert!(rt; lines.any(|line| line.contains(second)));
+    assert!(rt; report.ends_with("\nend 20\n"));
+}
+
+// With two workers, a blocking initiator can be held while a four-phase one goes on, and the other way round.
+#[test]
+fn two_styles_at_once(rt: HostRuntime) {
+    let blocking = " one.0 ram blocking write 0x0 1 ";
+    let fourphase = " two.0 ram fourphase write 0x1 1 ";
+    expect_accesses(&rt, 0, fourphase, blocking);
+    expect_accesses(&rt, 1, blocking, fourphase);
 }

@@ -1,5 +1,6 @@
-use Rattle.plat_run.proofs.PathLemmas.{none_pass}
+use Rattle.flow_plan.proofs.Decoupled.{no_passage}
+use Rattle.run_outcome.proofs.PlanLemmas.{no_fourphase}
 use Rattle.run_tests.proofs.transports.none_passes.Goals as goal
 
 pub returns : goal.returns
-returns g c = λ x. none_pass c.args.net.now c.requires x
+returns g c = λ x. no_passage c.args.net.now (no_fourphase c.args.net.now c.requires) x
