@@ -4,7 +4,7 @@
 all: tlmrun
 
 tlmrun: crates.txt $(shell find crates -name '*.rt' -o -name '*.antt')
-	@echo "The first build proves each of the program's libraries: some 65 minutes of processor time, about half an hour on four processors. If it is stopped, the next one goes on."
+	@echo "The first build proves each of the program's libraries: more than an hour of processor time, half an hour or more on four processors. If it is stopped, the next one goes on."
 	@tools/prove tlm_top
 	@cd crates/tlmrun && rt run -- script data/a.txt >../../build.log 2>&1 || { cat ../../build.log; exit 1; }
 	@cp crates/tlmrun/out/tlmrun tlmrun
