@@ -1,66 +1,60 @@
 -- A response is joined with the first transaction that it is of.
-use Rattle.std.proofs.Common.{◌≡◌, ℕ, suc, ◌+◌, ◌<◌, List, [], ◌∷◌, ◌++◌, length, take, drop, Option, Some, None, refl, sym, ap, subst, ◌∙◌, append_assoc, arith}
-use Rattle.std.proofs.lemmas.List.{append-nil}
-use Rattle.router_node.specs.Joins.{HasJoined, HasJoinedLeft, HasJoinedOne, IsOther, JoinsFirst}
+use Rattle.std.proofs.Common.{◌≡◌, ℕ, suc, ◌+◌, ◌<◌, List, [], ◌∷◌, ◌++◌, length, take, drop, set, get_or, Option, Some, None, refl, sym, ap, subst, ◌∙◌, arith}
+use Rattle.std.specs.List.{AllByRecursion}
+use Rattle.router_node.specs.Joins.{HasJoined, HasJoinedOne, IsFirstOf, IsOther, IsTheOne}
+use Rattle.router_node.specs.Places.{StandsAt}
 use Rattle.router_node.specs.declared.finds.Found.{Found}
 use Rattle.router_node.specs.declared.stage.Stage.{Stage}
-use Rattle.router_node.proofs.Holds.{all_push}
-use Rattle.router_node.proofs.Sweeps.{drop_past, same_first, same_rest, split_at, take_past}
+use Rattle.router_node.specs.declared.stage.Stage.TheVariants.{Down, Below, Up, Sent}
+use Rattle.router_node.proofs.Holds.{all_next}
+use Rattle.router_node.proofs.Places.{as_many, same_there, set_again, split, take_next}
+use Rattle.router_node.proofs.Sweeps.{take_past}
 
 one_on : (i : ℕ) → suc i ≡ i + 1
 one_on i = omega arith
 
 module _ (f : Found) where
-  -- one more was tried
-  joined_more : (xs ys : List Stage) (o q : Option Found) (s t : Stage) → HasJoinedOne f xs ys o → HasJoinedLeft s o t q → HasJoinedOne f (xs ++ s ∷ []) (ys ++ t ∷ []) q
-  joined_more xs ys None q s t j h =
-      subst (λ (o : Option Found). HasJoinedOne f (xs ++ s ∷ []) (ys ++ t ∷ []) o) (sym h.1) (record {
-        before = j.before;
-        stage = j.stage;
-        after = j.after ++ s ∷ [];
-        joined = j.joined;
-        others = j.others;
-        was = ap (λ (l : List Stage). l ++ s ∷ []) j.was ∙ append_assoc j.before (j.stage ∷ j.after) (s ∷ []);
-        is = ap (λ (x : Stage). ys ++ x ∷ []) h.0 ∙ (ap (λ (l : List Stage). l ++ s ∷ []) j.is ∙ append_assoc j.before (j.joined ∷ j.after) (s ∷ []));
-        joins = j.joins;
-      })
-  joined_more xs ys (Some g) q s t j h = go q (subst (λ (x : Found). HasJoined s x t q) j.1 h)
-    where
-      go : (k : Option Found) → HasJoined s f t k → HasJoinedOne f (xs ++ s ∷ []) (ys ++ t ∷ []) k
-      go None i = record { before = xs; stage = s; after = []; joined = t; others = j.2; was = refl; is = ap (λ (l : List Stage). l ++ t ∷ []) j.0; joins = i }
-      go (Some k) i = (ap (λ (l : List Stage). l ++ t ∷ []) j.0 ∙ ap (λ (x : Stage). xs ++ x ∷ []) i.0, i.1, all_push (IsOther f) xs s j.2 i.2)
+  -- a response is a transaction's, or it isn't
+  other : (s : Stage) → (IsTheOne f s → ⊥) → IsOther f s
+  other (Down d) n = tt
+  other (Below h) n = n
+  other (Up r rest) n = tt
+  other (Sent a) n = tt
 
-  -- The first i of these transactions were tried: those that are still to come stand in front.
-  pub record IsPartJoined (old : List Stage) (i : ℕ) (now : List Stage) (o : Option Found) : Type 0 where
-    pub done : List Stage
-    pub line : now ≡ drop i old ++ done
-    pub joined : HasJoinedOne f (take i old) done o
+  not_both : (s : Stage) → IsTheOne f s → IsOther f s → ⊥
+  not_both (Down d) one isnt = one
+  not_both (Below h) one isnt = isnt one
+  not_both (Up r rest) one isnt = one
+  not_both (Sent a) one isnt = one
 
-  pub join_start : (old : List Stage) → IsPartJoined old 0 old (Some f)
-  join_start old = record { done = []; line = sym (append-nil old); joined = (refl, refl, tt) }
+  -- the transactions before a place were looked at
+  pub others_more : (xs : List Stage) (i : ℕ) (s : Stage) → i < length xs → s ≡ get_or xs i s → AllByRecursion (IsOther f) (take i xs) → (IsTheOne f s → ⊥) → AllByRecursion (IsOther f) (take (i + 1) xs)
+  others_more xs i s below is all n =
+      subst (λ (k : ℕ). AllByRecursion (IsOther f) (take k xs)) (one_on i) (all_next (IsOther f) (take i xs) (take (suc i) xs) s (take_next xs i s below is) all (other s n))
 
-  pub join_more : (old : List Stage) (i : ℕ) (now new : List Stage) (o q : Option Found) → i < length old → IsPartJoined old i now o → JoinsFirst now o new q → IsPartJoined old (i + 1) new q
-  join_more old i now new o q below p m =
-      let at = split_at old i below in
-      let both : at.0 ∷ (drop (suc i) old ++ p.done) ≡ m.first ∷ m.rest = sym (p.line ∙ ap (λ (l : List Stage). l ++ p.done) at.1) ∙ m.was_first in
-      let head = same_first at.0 m.first (drop (suc i) old ++ p.done) m.rest both in
-      let rest = same_rest at.0 m.first (drop (suc i) old ++ p.done) m.rest both in
-      subst (λ (n : ℕ). IsPartJoined old n new q) (one_on i) (record {
-        done = p.done ++ m.after ∷ [];
-        line = m.line ∙ (ap (λ (l : List Stage). l ++ m.after ∷ []) (sym rest) ∙ append_assoc (drop (suc i) old) p.done (m.after ∷ []));
-        joined = subst (λ (l : List Stage). HasJoinedOne f l (p.done ++ m.after ∷ []) q) (sym at.2) (joined_more (take i old) p.done o q at.0 m.after p.joined (subst (λ (s : Stage). HasJoinedLeft s o m.after q) (sym head) m.joined));
-      })
+  pub others_all : (xs : List Stage) (i : ℕ) → (i < length xs → ⊥) → AllByRecursion (IsOther f) (take i xs) → AllByRecursion (IsOther f) xs
+  others_all xs i past all = subst (λ (l : List Stage). AllByRecursion (IsOther f) l) (take_past xs i past) all
 
-  pub join_some : (old : List Stage) (i : ℕ) (now : List Stage) (o : Option Found) → i < length old → IsPartJoined old i now o → 0 < length now
-  join_some old i now o below p =
-      let at = split_at old i below in
-      let l : length now ≡ suc (length (drop (suc i) old ++ p.done)) = ap (λ (l : List Stage). length l) (p.line ∙ ap (λ (l : List Stage). l ++ p.done) at.1) in
-      omega (arith, l)
+  pub is_first : (xs : List Stage) (i : ℕ) (s : Stage) → i < length xs → s ≡ get_or xs i s → AllByRecursion (IsOther f) (take i xs) → IsTheOne f s → IsFirstOf f xs i
+  is_first xs i s below is all one = record { stage = s; stands = record { before = take i xs; rest = drop (suc i) xs; line = split xs i s below is; place = as_many xs i below }; others = all; one = one }
 
-  pub join_end : (old : List Stage) (i : ℕ) (now : List Stage) (o : Option Found) → (i < length old → ⊥) → IsPartJoined old i now o → HasJoinedOne f old now o
-  join_end old i now o past p =
-      let line : now ≡ p.done = p.line ∙ ap (λ (l : List Stage). l ++ p.done) (drop_past old i past) in
-      subst (λ (l : List Stage). HasJoinedOne f old l o) (sym line) (subst (λ (l : List Stage). HasJoinedOne f l p.done o) (take_past old i past) p.joined)
+  -- it is joined where it stands
+  pub joined_there : (old new : List Stage) (at : ℕ) (s gap t : Stage) (o : Option Found) → IsFirstOf f old at → StandsAt old at s → new ≡ set (set old at gap) at t → HasJoined s f t o → HasJoinedOne f old new o
+  joined_there old new at s gap t None first there put joins =
+      let same = same_there old at s first.stage there first.stands in
+      let st = first.stands in
+      record {
+        before = st.before;
+        stage = first.stage;
+        after = st.rest;
+        joined = t;
+        others = first.others;
+        was = st.line;
+        is = put ∙ set_again old at first.stage gap t st;
+        joins = subst (λ (x : Stage). HasJoined x f t None) same joins;
+      }
+  joined_there old new at s gap t (Some g) first there put joins =
+      absurd (not_both first.stage first.one (subst (λ (x : Stage). IsOther f x) (same_there old at s first.stage there first.stands) joins.2))
 
   -- as many are held as before
   pub joined_count : (xs ys : List Stage) (o : Option Found) → HasJoinedOne f xs ys o → length ys ≡ length xs

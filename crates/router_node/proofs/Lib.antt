@@ -12,6 +12,8 @@ pub mod Staged
 pub mod Looks
 pub mod Joined
 pub mod Holds
+pub mod Places
+pub mod Moving
 pub mod Sweeps
 pub mod JoinsOne
 pub mod Pumps

@@ -7,10 +7,11 @@ use Rattle.one_history.specs.declared.view.Frame.{Frame}
 use Rattle.one_history.specs.declared.view.View.{View}
 use Rattle.tlm_types.specs.declared.entry.Content.{Content}
 use Rattle.tlm_model.specs.Plan.{Plan}
-use Rattle.router_node.specs.Node.{MovesFirst, Sweeps, left, vain_steps}
+use Rattle.router_node.specs.Node.{MovesAt, Sweeps, left, vain_steps}
 use Rattle.router_node.specs.Stages.{HasStepped, Standing, standing, vain}
 use Rattle.router_node.specs.declared.stage.Stage.{Stage}
 use Rattle.router_node.specs.declared.stage.Step.{Step}
+use Rattle.router_node.proofs.Places.{same_line}
 
 -- flags
 pub or_none : (a : Bool) → (a || false) ≡ a
@@ -50,12 +51,6 @@ take_past [] (suc i) past = refl
 take_past (x ∷ xs) zero past = absurd (past (omega arith))
 take_past (x ∷ xs) (suc i) past = ap (λ (l : List _). x ∷ l) (take_past xs i (λ l. past (omega (arith, l))))
 
-pub same_first : {A : Type 0} (x y : A) (xs ys : List A) → x ∷ xs ≡ y ∷ ys → x ≡ y
-same_first x y xs ys q = cc
-
-pub same_rest : {A : Type 0} (x y : A) (xs ys : List A) → x ∷ xs ≡ y ∷ ys → xs ≡ ys
-same_rest x y xs ys q = cc
-
 few_left : (o : Option Stage) → length (left o) ≤ 1
 few_left None = omega arith
 few_left (Some s) = omega arith
@@ -74,39 +69,42 @@ module _ (frame : Frame Plan) (w : Step) where
       let r = sweeps_more ss sw.1 sw.2 b c sw.4 did s o sw.7 more st in
       (sw.0, sw.1 ++ left o, sw.2, sw.3, (sw.4 || did), sw.5, (λ e has. more e (sw.6 e has)), r, ap (λ (l : List Stage). l ++ left o) sw.8 ∙ append_assoc (left sw.0) sw.1 (left o), ap (λ (f : Bool). f || did) sw.9 ∙ or_next sw.3 sw.4 did)
 
-  -- The step was made with the first i of these transactions: those that are still to come stand in front.
-  pub record IsPartSwept (old : List Stage) (i : ℕ) (now : List Stage) (was is : View Content Plan) (moved : Bool) : Type 0 where
+  -- The step was made with the first i of these transactions: what is left of them stands in front, up to this place.
+  pub record IsPartSwept (old : List Stage) (i at : ℕ) (now : List Stage) (was is : View Content Plan) (moved : Bool) : Type 0 where
     pub done : List Stage
-    pub line : now ≡ drop i old ++ done
+    pub line : now ≡ done ++ drop i old
+    pub place : at ≡ length done
     pub swept : Sweeps frame w (take i old) done was is moved
 
-  pub part_start : (old : List Stage) (was : View Content Plan) → IsPartSwept old 0 old was was false
-  part_start old was = record { done = []; line = sym (append-nil old); swept = (refl, refl, refl) }
+  pub part_start : (old : List Stage) (was : View Content Plan) → IsPartSwept old 0 0 old was was false
+  part_start old was = record { done = []; line = refl; place = refl; swept = (refl, refl, refl) }
 
-  part_more : (old : List Stage) (i : ℕ) (now new : List Stage) (was mid is : View Content Plan) (moved did : Bool) → i < length old → IsPartSwept old i now was mid moved → Within mid.known is.known → MovesFirst frame w now new mid is did → IsPartSwept old (i + 1) new was is (moved || did)
-  part_more old i now new was mid is moved did below p more m =
-      let at = split_at old i below in
-      let both : at.0 ∷ (drop (suc i) old ++ p.done) ≡ m.first ∷ m.rest = sym (p.line ∙ ap (λ (l : List Stage). l ++ p.done) at.1) ∙ m.was_first in
-      let head = same_first at.0 m.first (drop (suc i) old ++ p.done) m.rest both in
-      let rest = same_rest at.0 m.first (drop (suc i) old ++ p.done) m.rest both in
-      subst (λ (n : ℕ). IsPartSwept old n new was is (moved || did)) (one_on i) (record {
+  part_more : (old : List Stage) (i at next : ℕ) (now new : List Stage) (was mid is : View Content Plan) (moved did : Bool) → i < length old → IsPartSwept old i at now was mid moved → Within mid.known is.known → MovesAt frame w at now new mid is next did → IsPartSwept old (i + 1) next new was is (moved || did)
+  part_more old i at next now new was mid is moved did below p more m =
+      let s = split_at old i below in
+      let t = m.stands in
+      let both : p.done ++ s.0 ∷ drop (suc i) old ≡ t.before ++ m.stage ∷ t.rest = sym (p.line ∙ ap (λ (l : List Stage). p.done ++ l) s.1) ∙ t.line in
+      let same = same_line p.done t.before s.0 m.stage (drop (suc i) old) t.rest (sym p.place ∙ t.place) both in
+      subst (λ (n : ℕ). IsPartSwept old n next new was is (moved || did)) (one_on i) (record {
         done = p.done ++ left m.after;
-        line = m.line ∙ (ap (λ (l : List Stage). l ++ left m.after) (sym rest) ∙ append_assoc (drop (suc i) old) p.done (left m.after));
-        swept = subst (λ (l : List Stage). Sweeps frame w l (p.done ++ left m.after) was is (moved || did)) (sym at.2) (sweeps_more (take i old) p.done was mid is moved did at.0 m.after p.swept more (subst (λ (s : Stage). HasStepped frame w s mid is did m.after) (sym head) m.stepped));
+        line = m.line ∙ (ap (λ (l : List Stage). l ++ (left m.after ++ t.rest)) (sym same.before) ∙ (ap (λ (l : List Stage). p.done ++ (left m.after ++ l)) (sym same.rest) ∙ sym (append_assoc p.done (left m.after) (drop (suc i) old))));
+        place = m.next_is ∙ (ap (λ (k : ℕ). k + length (left m.after)) p.place ∙ sym (length-append p.done (left m.after)));
+        swept = subst (λ (l : List Stage). Sweeps frame w l (p.done ++ left m.after) was is (moved || did)) (sym s.2) (sweeps_more (take i old) p.done was mid is moved did s.0 m.after p.swept more (subst (λ (x : Stage). HasStepped frame w x mid is did m.after) (sym same.here) m.stepped));
       })
 
-  pub part_next : (old : List Stage) (i : ℕ) (now new : List Stage) (was mid is : View Content Plan) (moved did flag : Bool) → flag ≡ (moved || did) → i < length old → IsPartSwept old i now was mid moved → Within mid.known is.known → MovesFirst frame w now new mid is did → IsPartSwept old (i + 1) new was is flag
-  part_next old i now new was mid is moved did flag q below p more m = subst (λ (b : Bool). IsPartSwept old (i + 1) new was is b) (sym q) (part_more old i now new was mid is moved did below p more m)
+  pub part_next : (old : List Stage) (i at next : ℕ) (now new : List Stage) (was mid is : View Content Plan) (moved did flag : Bool) → flag ≡ (moved || did) → i < length old → IsPartSwept old i at now was mid moved → Within mid.known is.known → MovesAt frame w at now new mid is next did → IsPartSwept old (i + 1) next new was is flag
+  part_next old i at next now new was mid is moved did flag q below p more m = subst (λ (b : Bool). IsPartSwept old (i + 1) next new was is b) (sym q) (part_more old i at next now new was mid is moved did below p more m)
 
-  pub part_some : (old : List Stage) (i : ℕ) (now : List Stage) (was is : View Content Plan) (moved : Bool) → i < length old → IsPartSwept old i now was is moved → 0 < length now
-  part_some old i now was is moved below p =
-      let at = split_at old i below in
-      let l : length now ≡ suc (length (drop (suc i) old ++ p.done)) = ap (λ (l : List Stage). length l) (p.line ∙ ap (λ (l : List Stage). l ++ p.done) at.1) in
-      omega (arith, l)
+  pub part_here : (old : List Stage) (i at : ℕ) (now : List Stage) (was is : View Content Plan) (moved : Bool) → i < length old → IsPartSwept old i at now was is moved → at < length now
+  part_here old i at now was is moved below p =
+      let s = split_at old i below in
+      let l : length now ≡ length p.done + suc (length (drop (suc i) old)) = ap (λ (l : List Stage). length l) (p.line ∙ ap (λ (l : List Stage). p.done ++ l) s.1) ∙ length-append p.done (s.0 ∷ drop (suc i) old) in
+      let e = p.place in
+      omega (arith, l, e)
 
-  pub part_end : (old : List Stage) (i : ℕ) (now : List Stage) (was is : View Content Plan) (moved : Bool) → (i < length old → ⊥) → IsPartSwept old i now was is moved → Sweeps frame w old now was is moved
-  part_end old i now was is moved past p =
-      let line : now ≡ p.done = p.line ∙ ap (λ (l : List Stage). l ++ p.done) (drop_past old i past) in
+  pub part_end : (old : List Stage) (i at : ℕ) (now : List Stage) (was is : View Content Plan) (moved : Bool) → (i < length old → ⊥) → IsPartSwept old i at now was is moved → Sweeps frame w old now was is moved
+  part_end old i at now was is moved past p =
+      let line : now ≡ p.done = p.line ∙ (ap (λ (l : List Stage). p.done ++ l) (drop_past old i past) ∙ append-nil p.done) in
       subst (λ (l : List Stage). Sweeps frame w old l was is moved) (sym line) (subst (λ (l : List Stage). Sweeps frame w l p.done was is moved) (take_past old i past) p.swept)
 
   -- no more are held than before

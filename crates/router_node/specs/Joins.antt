@@ -1,6 +1,7 @@
 -- A response from below and the transaction that it belongs to.
-use Rattle.std.specs.Prelude.{◌≡◌, List, [], ◌∷◌, ◌++◌, Option, Some, None}
+use Rattle.std.specs.Prelude.{ℕ, ◌≡◌, List, ◌∷◌, ◌++◌, Option, Some, None}
 use Rattle.std.specs.List.{AllByRecursion}
+use Rattle.router_node.specs.Places.{StandsAt}
 use Rattle.router_node.specs.declared.finds.Found.{Found}
 use Rattle.router_node.specs.declared.items.Held.{Held}
 use Rattle.router_node.specs.declared.stage.Stage.{Stage}
@@ -10,7 +11,12 @@ use Rattle.router_node.specs.declared.stage.Stage.TheVariants.{Below, Up}
 abbrev pub IsOf : Held → Found → Type 0
 IsOf h f = (h.txn ≡ f.fetched.txn) × (h.below ≡ f.hop)
 
--- the response isn't this transaction's
+-- the response is this transaction's
+abbrev pub IsTheOne : Found → Stage → Type 0
+IsTheOne f (Below h) = IsOf h f
+IsTheOne f s = ⊥
+
+-- or it isn't
 abbrev pub IsOther : Found → Stage → Type 0
 IsOther f (Below h) = IsOf h f → ⊥
 IsOther f s = Unit {0}
@@ -21,19 +27,17 @@ HasJoined s f t (Some g) = (t ≡ s) × (g ≡ f) × IsOther f s
 HasJoined (Below h) f (Up r rest) None = IsOf h f × (r.hop ≡ h.above)
 HasJoined s f t None = ⊥
 
--- the same, where there may be no response left
-abbrev pub HasJoinedLeft : Stage → Option Found → Stage → Option Found → Type 0
-HasJoinedLeft s (Some f) t o = HasJoined s f t o
-HasJoinedLeft s None t o = (t ≡ s) × (o ≡ None)
+-- This transaction is the first of these that it is of, and stands at this place.
+pub record IsFirstOf (f : Found) (xs : List Stage) (at : ℕ) : Type 0 where
+  pub stage : Stage
+  pub stands : StandsAt xs at stage
+  pub others : AllByRecursion (IsOther f) stands.before
+  pub one : IsTheOne f stage
 
--- The first of these transactions was tried, and stands behind the others now.
-pub record JoinsFirst (old : List Stage) (f : Option Found) (new : List Stage) (o : Option Found) : Type 0 where
-  pub first : Stage
-  pub rest : List Stage
-  pub after : Stage
-  pub was_first : old ≡ first ∷ rest
-  pub joined : HasJoinedLeft first f after o
-  pub line : new ≡ rest ++ after ∷ []
+-- the place of the first transaction that it is of; or it is of none
+abbrev pub IsPlaceOf : Found → List Stage → Option ℕ → Type 0
+IsPlaceOf f xs None = AllByRecursion (IsOther f) xs
+IsPlaceOf f xs (Some at) = IsFirstOf f xs at
 
 -- It was joined with the first of these transactions that it is of, and the others are as they were.
 pub record JoinsOne (f : Found) (old new : List Stage) : Type 0 where

@@ -1,5 +1,5 @@
 -- A router with the transactions that it holds, and what it does in a pump.
-use Rattle.std.specs.Prelude.{ℕ, ◌≡◌, ◌<◌, ◌≤◌, ◌||◌, Bool, true, false, List, [], ◌∷◌, ◌++◌, length, map, Option, Some, None, IfSome, if◌then◌else◌, nat_lt, slice_get}
+use Rattle.std.specs.Prelude.{ℕ, ◌≡◌, ◌+◌, ◌<◌, ◌≤◌, ◌||◌, Bool, true, false, List, [], ◌∷◌, ◌++◌, length, map, Option, Some, None, IfSome, if◌then◌else◌, nat_lt, slice_get}
 use Rattle.std.specs.List.{AllByRecursion}
 use Rattle.std.specs.VecDeque.{deque_capacity}
 use Rattle.atomic_table.specs.Seated.{TableId}
@@ -15,6 +15,7 @@ use Rattle.tlm_model.specs.Route.{window_hop}
 use Rattle.router_node.specs.Items.{IsRequest, is_accepting}
 use Rattle.router_node.specs.Finds.{IsFirst, IsFound, IsHopAbove, IsHopBelow, vain_looks}
 use Rattle.router_node.specs.Joins.{HasJoinedOne}
+use Rattle.router_node.specs.Places.{StandsAt}
 use Rattle.router_node.specs.Stages.{HasStepped, IsStage, Standing, standing, vain}
 use Rattle.router_node.specs.Turns.{HasTurned}
 use Rattle.router_node.specs.declared.choice.Turned.{Turned}
@@ -24,8 +25,9 @@ use Rattle.router_node.specs.declared.items.Request.{Request}
 use Rattle.router_node.specs.declared.node.Pumped.{Pumped}
 use Rattle.router_node.specs.declared.node.Pumped.TheVariants.{Did, Nothing}
 use Rattle.router_node.specs.declared.node.RouterNode.{RouterNode}
+use Rattle.router_node.specs.declared.stage.Away.{Away}
 use Rattle.router_node.specs.declared.stage.Stage.{Stage}
-use Rattle.router_node.specs.declared.stage.Stage.TheVariants.{Down, Up}
+use Rattle.router_node.specs.declared.stage.Stage.TheVariants.{Down, Sent, Up}
 use Rattle.router_node.specs.declared.stage.Step.{Step}
 use Rattle.router_node.specs.declared.stage.Step.TheVariants.{End, Send, Pass}
 
@@ -63,14 +65,22 @@ abbrev pub left : Option Stage → List Stage
 left None = []
 left (Some s) = s ∷ []
 
--- A step was made with the first of these transactions, which stands behind the others now, if it isn't forgotten.
-pub record MovesFirst (frame : Frame Plan) (w : Step) (old new : List Stage) (was is : View Content Plan) (moved : Bool) : Type 0 where
-  pub first : Stage
-  pub rest : List Stage
+-- what stands at the place of a transaction while a step is made with it
+abbrev pub gap : Stage
+gap = Sent (record { txn = record { initiator = 0; seq = 0 }; above = 0; at = 0; ended = false; rest = None })
+
+-- a response that was sent stands at this place
+abbrev pub IsSentAt : List Stage → ℕ → Type 0
+IsSentAt held at = (a : Away) × StandsAt held at (Sent a)
+
+-- A step was made with the transaction at this place. The next one stands behind what is left of it, and the others are as they were.
+pub record MovesAt (frame : Frame Plan) (w : Step) (at : ℕ) (old new : List Stage) (was is : View Content Plan) (next : ℕ) (moved : Bool) : Type 0 where
+  pub stage : Stage
+  pub stands : StandsAt old at stage
   pub after : Option Stage
-  pub was_first : old ≡ first ∷ rest
-  pub stepped : HasStepped frame w first was is moved after
-  pub line : new ≡ rest ++ left after
+  pub stepped : HasStepped frame w stage was is moved after
+  pub line : new ≡ stands.before ++ (left after ++ stands.rest)
+  pub next_is : next ≡ at + length (left after)
 
 -- A step was made with each of these transactions, in order, and what was known in between is known. Whether one was moved.
 abbrev pub Sweeps : Frame Plan → Step → List Stage → List Stage → View Content Plan → View Content Plan → Bool → Type 0

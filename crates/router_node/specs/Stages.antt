@@ -71,6 +71,13 @@ look_of End = 5
 look_of Send = 4
 look_of Pass = 3
 
+-- whether a step is one for a transaction
+abbrev pub is_about : Step → Stage → Bool
+is_about End (Sent a) = true
+is_about Send (Up r rest) = true
+is_about Pass (Down d) = true
+is_about w s = false
+
 -- Where a transaction stands: all that it is but its payload. A try in vain leaves it as it was.
 pub data Standing : Type 0 where
   ToGoDown : Held → ℕ → Standing

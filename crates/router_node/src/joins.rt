@@ -1,7 +1,7 @@
 // A response from below and the transaction that it belongs to.
 ghost use Rattle.std.specs.Prelude.{◌↔◌, IfSome, IsTrue};
 ghost use Rattle.router_node.specs.Finds.{IsFound};
-ghost use Rattle.router_node.specs.Joins.{HasJoined, HasJoinedLeft, IsOf};
+ghost use Rattle.router_node.specs.Joins.{HasJoined, IsOf, IsTheOne};
 ghost use Rattle.router_node.specs.Stages.{IsStage};
 
 use crate::finds::Found;
@@ -17,6 +17,16 @@ fn is_of(held: &Held, found: &Found) -> bool
     ensures { IsTrue result ↔ IsOf held.now found.now }
 {
     held.txn == found.fetched.txn && held.below == found.hop
+}
+
+// Whether a response from below is that of a transaction that the router holds.
+pub(crate) fn is_joined(stage: &Stage, found: &Found) -> bool
+    ensures { IsTrue result ↔ IsTheOne found.now stage.now }
+{
+    match stage {
+        Stage::Below(held) => is_of(held, found),
+        _ => false,
+    }
 }
 
 /// Joins a response from below with a transaction that the router holds, if it is that one's: it is to go up
@@ -42,24 +52,5 @@ pub fn join<N: Naming<Plan, TlmLaw>>(
             (Stage::Up(response, Some(rest)), None)
         }
         stage => (stage, Some(found)),
-    }
-}
-
-// Joins a response, where one is left, with a transaction that the router holds, if it is that one's.
-pub(crate) fn join_left<N: Naming<Plan, TlmLaw>>(
-    net: &Net<N>,
-    note: &PlatNote,
-    stage: Stage,
-    found: Option<Found>,
-) -> (Stage, Option<Found>)
-    requires stage { IsStage N.frame N.tokens note.now.knows.known stage }
-    requires found { IfSome found (IsFound N.frame N.tokens note.now.knows.known) }
-    ensures stage { IsStage N.frame N.tokens note.now.knows.known result.0 }
-    ensures found { IfSome result.1 (IsFound N.frame N.tokens note.now.knows.known) }
-    ensures joined { HasJoinedLeft stage found result.0 result.1 }
-{
-    match found {
-        Some(found) => join(net, note, stage, found),
-        None => (stage, None),
     }
 }

@@ -1,25 +1,29 @@
 // A router.
-ghost use Rattle.std.specs.Prelude.{◌≡◌, ◌<◌, ◌++◌, ◌∷◌, [], ◌||◌, length, None, IfSome};
-ghost use Rattle.std.specs.List.{AllByRecursion};
+ghost use Rattle.std.specs.Prelude.{◌≡◌, ◌≢◌, ◌<◌, [], ◌||◌, length, None, IfSome, slice_set};
+ghost use Rattle.std.specs.List.{AllByRecursion, remove};
 ghost use Rattle.std.specs.VecDeque.{deque_capacity};
 ghost use Rattle.view_lists.specs.Lists.{Within};
 ghost use Rattle.one_history.specs.Lists.{StandBelow};
 ghost use Rattle.shared_object.specs.Steps.{IsNote};
 ghost use Rattle.router_node.specs.Finds.{IsFound};
-ghost use Rattle.router_node.specs.Joins.{HasJoinedOne, JoinsFirst};
-ghost use Rattle.router_node.specs.Node.{HasPumped, HasSwept, HasTakenBack, HasTakenIn, IsRouter, MovesFirst, Sweeps, left, pumped_by, stage_of};
+ghost use Rattle.router_node.specs.Joins.{HasJoinedOne, IsPlaceOf};
+ghost use Rattle.router_node.specs.Node.{HasPumped, HasSwept, HasTakenBack, HasTakenIn, IsRouter, IsSentAt, MovesAt, Sweeps, gap, pumped_by, stage_of};
+ghost use Rattle.router_node.specs.Places.{StandsAt};
 ghost use Rattle.router_node.specs.Stages.{IsStage};
+ghost use Rattle.router_node.specs.declared.stage.Stage.TheVariants as Stages;
+ghost use Rattle.router_node.specs.declared.stage.Step.TheVariants as Steps;
 
 use crate::choice::{Turned, turn};
 use crate::finds::{Found, find_back, find_request};
-use crate::joins::join_left;
-use crate::stage::{Stage, Step, move_on};
+use crate::joins::{is_joined, join};
+use crate::stage::{Away, Stage, Step, finish_away, is_about, look_for_end, move_on};
 use plat_net::{Net, PlatNote, TlmLaw};
 use route_plan::Plan;
 use shared_object::Naming;
 use std::collections::VecDeque;
+use std::mem::replace;
 use std::sync::Wait;
-use tlm_types::Ps;
+use tlm_types::{Ps, TxnId};
 
 /// A router with its hops above and those of its windows, in order, and with the transactions that it
 /// holds, in order of arrival.
@@ -61,46 +65,147 @@ fn pumped_by(moved: bool) -> Pumped
     if moved { Pumped::Did } else { Pumped::Nothing }
 }
 
-// Puts a transaction behind the others, unless it is forgotten.
-fn push_left(held: &mut VecDeque<Stage>, stage: Option<Stage>)
-    requires { length held.old.items < deque_capacity held.old }
-    ensures items { held.new.items ≡ held.old.items ++ left stage }
+// What stands at a place while a step is made with the transaction that stands there.
+fn gap() -> Stage
+    ensures { result ≡ gap }
+{
+    let txn = TxnId {
+        initiator: 0,
+        seq: 0,
+    };
+    Stage::Sent(Away {
+        txn,
+        above: 0,
+        at: 0,
+        ended: false,
+        rest: None,
+    })
+}
+
+// Takes out the transaction at a place, and leaves a gap there.
+fn take_out(held: &mut VecDeque<Stage>, at: usize) -> Stage
+    requires { at < length held.old.items }
+    ensures was { StandsAt held.old.items at result }
+    ensures items { held.new.items ≡ slice_set held.old.items at gap }
     ensures capacity { deque_capacity held.new ≡ deque_capacity held.old }
 {
-    if let Some(stage) = stage {
-        held.push_back_reserved(stage);
+    replace(&mut held[at], gap())
+}
+
+// Puts a transaction where there was a gap.
+fn put_back(held: &mut VecDeque<Stage>, at: usize, stage: Stage)
+    requires { at < length held.old.items }
+    ensures items { held.new.items ≡ slice_set held.old.items at stage }
+    ensures capacity { deque_capacity held.new ≡ deque_capacity held.old }
+{
+    held[at] = stage;
+}
+
+// Takes out the response that was sent and stands at a place. What stands behind it closes up.
+fn take_sent(held: &mut VecDeque<Stage>, at: usize) -> Away
+    requires { IsSentAt held.old.items at }
+    ensures was { StandsAt held.old.items at (Stages.Sent result) }
+    ensures items { held.new.items ≡ remove held.old.items at }
+    ensures capacity { deque_capacity held.new ≡ deque_capacity held.old }
+{
+    match held.remove(at) {
+        Some(Stage::Sent(away)) => away,
+        _ => unreachable!(),
     }
 }
 
-// Makes a step with the transaction that stands first, and puts it behind the others, unless it is
-// forgotten. Whether it was moved.
-fn move_first<N: Naming<Plan, TlmLaw>, R: Wait>(
+// Ends below the response at a place, if one that was sent stands there and has ended above. It is forgotten
+// then. The place of the next transaction, and whether this one was moved.
+fn end_at<N: Naming<Plan, TlmLaw>, R: Wait>(
+    net: &Net<N>,
+    rt: &R,
+    note: PlatNote,
+    held: &mut VecDeque<Stage>,
+    at: usize,
+) -> (usize, bool, PlatNote)
+    requires there { at < length held.old.items }
+    requires note { IsNote N.table note }
+    requires below { StandBelow note.knows.known note.knows.seen }
+    requires held { AllByRecursion (IsStage N.frame N.tokens note.knows.known) held.old.items }
+    ensures note { IsNote N.table result.2 }
+    ensures knew { Within note.knows.known result.2.knows.known }
+    ensures below { StandBelow result.2.knows.known result.2.knows.seen }
+    ensures held { AllByRecursion (IsStage N.frame N.tokens result.2.knows.known) held.new.items }
+    ensures capacity { deque_capacity held.new ≡ deque_capacity held.old }
+    ensures moved { MovesAt N.frame Steps.End at held.old.items held.new.items note.knows result.2.knows result.0 result.1 }
+{
+    let Stage::Sent(away) = &held[at] else {
+        return (at + 1, false, note);
+    };
+    let (ended, note) = look_for_end(net, rt, note, away);
+    if !ended {
+        return (at + 1, false, note);
+    }
+    let away = take_sent(held, at);
+    let note = finish_away(net, rt, note, away);
+    (at, true, note)
+}
+
+// Makes a step that is a try with the transaction at a place, if it is one for it. What it makes of it stands
+// there then. The place of the next transaction, and whether this one was moved.
+fn try_at<N: Naming<Plan, TlmLaw>, R: Wait>(
     net: &Net<N>,
     rt: &R,
     what: Step,
     note: PlatNote,
     held: &mut VecDeque<Stage>,
-) -> (bool, PlatNote)
-    requires some { 0 < length held.old.items }
+    at: usize,
+) -> (usize, bool, PlatNote)
+    requires tries { what ≢ Steps.End }
+    requires there { at < length held.old.items }
     requires note { IsNote N.table note }
     requires below { StandBelow note.knows.known note.knows.seen }
     requires held { AllByRecursion (IsStage N.frame N.tokens note.knows.known) held.old.items }
-    ensures note { IsNote N.table result.1 }
-    ensures knew { Within note.knows.known result.1.knows.known }
-    ensures below { StandBelow result.1.knows.known result.1.knows.seen }
-    ensures held { AllByRecursion (IsStage N.frame N.tokens result.1.knows.known) held.new.items }
+    ensures note { IsNote N.table result.2 }
+    ensures knew { Within note.knows.known result.2.knows.known }
+    ensures below { StandBelow result.2.knows.known result.2.knows.seen }
+    ensures held { AllByRecursion (IsStage N.frame N.tokens result.2.knows.known) held.new.items }
     ensures capacity { deque_capacity held.new ≡ deque_capacity held.old }
-    ensures moved { MovesFirst N.frame what held.old.items held.new.items note.knows result.1.knows result.0 }
+    ensures moved { MovesAt N.frame what at held.old.items held.new.items note.knows result.2.knows result.0 result.1 }
 {
-    let Some(stage) = held.pop_front() else {
-        unreachable!()
-    };
+    if !is_about(what, &held[at]) {
+        return (at + 1, false, note);
+    }
+    let stage = take_out(held, at);
     let (stage, moved, note) = move_on(net, rt, what, note, stage);
-    push_left(held, stage);
-    (moved, note)
+    let Some(stage) = stage else { unreachable!() };
+    put_back(held, at, stage);
+    (at + 1, moved, note)
 }
 
-// Makes a step with each transaction that is held, in order. Whether one was moved.
+// Makes a step with the transaction at a place. The place of the next one, and whether this one was moved.
+fn move_at<N: Naming<Plan, TlmLaw>, R: Wait>(
+    net: &Net<N>,
+    rt: &R,
+    what: Step,
+    note: PlatNote,
+    held: &mut VecDeque<Stage>,
+    at: usize,
+) -> (usize, bool, PlatNote)
+    requires there { at < length held.old.items }
+    requires note { IsNote N.table note }
+    requires below { StandBelow note.knows.known note.knows.seen }
+    requires held { AllByRecursion (IsStage N.frame N.tokens note.knows.known) held.old.items }
+    ensures note { IsNote N.table result.2 }
+    ensures knew { Within note.knows.known result.2.knows.known }
+    ensures below { StandBelow result.2.knows.known result.2.knows.seen }
+    ensures held { AllByRecursion (IsStage N.frame N.tokens result.2.knows.known) held.new.items }
+    ensures capacity { deque_capacity held.new ≡ deque_capacity held.old }
+    ensures moved { MovesAt N.frame what at held.old.items held.new.items note.knows result.2.knows result.0 result.1 }
+{
+    match what {
+        Step::End => end_at(net, rt, note, held, at),
+        _ => try_at(net, rt, what, note, held, at),
+    }
+}
+
+// Makes a step with each transaction that is held, in order. Those that it isn't one for are looked at alone.
+// Whether one was moved.
 fn sweep<N: Naming<Plan, TlmLaw>, R: Wait>(
     net: &Net<N>,
     rt: &R,
@@ -120,36 +225,26 @@ fn sweep<N: Naming<Plan, TlmLaw>, R: Wait>(
 {
     let mut note = note;
     let mut moved = false;
+    let mut at = 0;
     for _k in 0..held.len() {
-        let (did, back) = move_first(net, rt, what, note, held);
+        let (next, did, back) = move_at(net, rt, what, note, held, at);
+        at = next;
         note = back;
         moved = either(moved, did);
     }
     (moved, note)
 }
 
-// Joins a response, where one is left, with the transaction that stands first, if it is that one's, and puts
-// the transaction behind the others.
-fn join_first<N: Naming<Plan, TlmLaw>>(
-    net: &Net<N>,
-    note: &PlatNote,
-    held: &mut VecDeque<Stage>,
-    found: Option<Found>,
-) -> Option<Found>
-    requires some { 0 < length held.old.items }
-    requires held { AllByRecursion (IsStage N.frame N.tokens note.now.knows.known) held.old.items }
-    requires found { IfSome found (IsFound N.frame N.tokens note.now.knows.known) }
-    ensures held { AllByRecursion (IsStage N.frame N.tokens note.now.knows.known) held.new.items }
-    ensures capacity { deque_capacity held.new ≡ deque_capacity held.old }
-    ensures found { IfSome result (IsFound N.frame N.tokens note.now.knows.known) }
-    ensures joined { JoinsFirst held.old.items found held.new.items result }
+// The place of the first transaction that a response from below is of; none where it is of none.
+fn place_of(held: &VecDeque<Stage>, found: &Found) -> Option<usize>
+    ensures { IsPlaceOf found.now held.now.items result }
 {
-    let Some(stage) = held.pop_front() else {
-        unreachable!()
-    };
-    let (stage, found) = join_left(net, note, stage, found);
-    held.push_back_reserved(stage);
-    found
+    for at in 0..held.len() {
+        if is_joined(&held[at], found) {
+            return Some(at);
+        }
+    }
+    None
 }
 
 // Joins a response from below with the first transaction that it is of. It comes back where it is of none.
@@ -166,10 +261,12 @@ fn join_one<N: Naming<Plan, TlmLaw>>(
     ensures found { IfSome result (IsFound N.frame N.tokens note.now.knows.known) }
     ensures joined { HasJoinedOne found held.old.items held.new.items result }
 {
-    let mut left = Some(found);
-    for _k in 0..held.len() {
-        left = join_first(net, note, held, left);
-    }
+    let Some(at) = place_of(held, &found) else {
+        return Some(found);
+    };
+    let stage = take_out(held, at);
+    let (stage, left) = join(net, note, stage, found);
+    put_back(held, at, stage);
     left
 }
 

@@ -4,12 +4,15 @@ ghost use Rattle.view_lists.specs.Lists.{Within};
 ghost use Rattle.one_history.specs.Lists.{StandBelow};
 ghost use Rattle.shared_object.specs.Steps.{IsNote};
 ghost use Rattle.tlm_model.specs.declared.platform.Target.TheVariants as targets;
+ghost use Rattle.flow_model.specs.Events.{Finds};
+ghost use Rattle.flow_model.specs.Numbers.{IsEnder};
+ghost use Rattle.cargo_model.specs.Known.{Known};
 ghost use Rattle.route_plan.specs.Shape.{IsShape};
 ghost use Rattle.route_plan.specs.Valid.{hop_count};
 ghost use Rattle.plat_net.specs.Places.{LeadsTo};
 ghost use Rattle.router_node.specs.Items.{HasGone, IsBegun, IsDown, latency_of};
 ghost use Rattle.router_node.specs.Moves.{HasEndedAbove};
-ghost use Rattle.router_node.specs.Stages.{HasLookedForEnd, HasSettled, HasStepped, IsAway, IsServed, IsSettled, IsStage, IsUp, WasReleased};
+ghost use Rattle.router_node.specs.Stages.{HasEnded, HasLookedForEnd, HasSettled, HasStepped, IsAway, IsServed, IsSettled, IsStage, IsUp, WasReleased, is_about};
 ghost use Rattle.router_node.specs.declared.stage.Stage.TheVariants as Stages;
 ghost use Rattle.router_node.specs.declared.stage.Step.TheVariants as Steps;
 
@@ -82,8 +85,32 @@ fn finish_below<N: Naming<Plan, TlmLaw>, R: Wait>(
     }
 }
 
+// Makes what is left to be made below for a response that was sent and has ended above, if it came from
+// there.
+pub(crate) fn finish_away<N: Naming<Plan, TlmLaw>, R: Wait>(
+    net: &Net<N>,
+    rt: &R,
+    note: PlatNote,
+    away: Away,
+) -> PlatNote
+    requires note { IsNote N.table note }
+    requires below { StandBelow note.knows.known note.knows.seen }
+    requires away { IsAway N.frame N.tokens note.knows.known away }
+    requires ended { Finds (Known N.frame.world.platform note.knows.known) (IsEnder away.txn away.above) }
+    ensures note { IsNote N.table result }
+    ensures knew { Within note.knows.known result.knows.known }
+    ensures below { StandBelow result.knows.known result.knows.seen }
+    ensures ended { HasEnded N.frame result.knows.known away }
+{
+    let Away { at, rest, .. } = away;
+    let Some(rest) = rest else {
+        return note;
+    };
+    finish_below(net, rt, note, rest, at)
+}
+
 // Looks whether a response that was sent has ended above; by its answer it may have.
-fn look_for_end<N: Naming<Plan, TlmLaw>, R: Wait>(
+pub(crate) fn look_for_end<N: Naming<Plan, TlmLaw>, R: Wait>(
     net: &Net<N>,
     rt: &R,
     note: PlatNote,
@@ -124,11 +151,7 @@ pub fn end_away<N: Naming<Plan, TlmLaw>, R: Wait>(
     if !ended {
         return (Some(Stage::Sent(away)), false, note);
     }
-    let Away { at, rest, .. } = away;
-    let Some(rest) = rest else {
-        return (None, true, note);
-    };
-    let note = finish_below(net, rt, note, rest, at);
+    let note = finish_away(net, rt, note, away);
     (None, true, note)
 }
 
@@ -274,6 +297,18 @@ fn pass<N: Naming<Plan, TlmLaw>, R: Wait>(
             let (stage, note) = serve(net, rt, note, held, begun);
             (stage, true, note)
         }
+    }
+}
+
+// Whether a step is one for a transaction.
+pub(crate) fn is_about(what: Step, stage: &Stage) -> bool
+    ensures { result ≡ is_about what stage.now }
+{
+    match stage {
+        Stage::Sent(_) => matches!(what, Step::End),
+        Stage::Up(_, _) => matches!(what, Step::Send),
+        Stage::Down(_) => matches!(what, Step::Pass),
+        Stage::Below(_) => false,
     }
 }
 

@@ -1,22 +1,36 @@
-use Rattle.std.proofs.Common.{◌<◌, length, ◌∙◌, arith}
-use Rattle.router_node.proofs.JoinsOne.{join_end, join_more}
+use Rattle.std.proofs.Common.{◌≡◌, ℕ, List, Option, set, sym, ap, subst, ◌∙◌}
+use Rattle.std.specs.List.{AllByRecursion}
+use Rattle.router_node.specs.Joins.{IsFirstOf, IsPlaceOf}
+use Rattle.router_node.specs.Node.{gap}
+use Rattle.router_node.specs.Stages.{IsStage}
+use Rattle.router_node.specs.declared.stage.Stage.{Stage}
+use Rattle.router_node.proofs.JoinsOne.{joined_there}
+use Rattle.router_node.proofs.Places.{is_within, that_one, with_another}
 use Rattle.router_node.proofs.node.join_one.Goals as goal
 
-pub loop-k-preserved : goal.loop-k-preserved
-loop-k-preserved g c =
-    let i = c.loop-k.invariant in
-    let e = c.join_first-left.ensures in
-    let old = c.args.held.now.items in
-    let below : c.loop-k._k < length old = omega (arith, c.loop-k-test.true, c.len-k-end.ensures, c.args.held.now.ok.0) in
-    record {
-      held = e.held;
-      found = e.found;
-      capacity = e.capacity ∙ i.capacity;
-      joined = join_more c.args.found old c.loop-k._k c.loop-k.held.items c.join_first-left.new.held.items c.loop-k.left c.join_first-left.result below i.joined e.joined;
-    }
+pub take_out-stage-requires : goal.take_out-stage-requires
+take_out-stage-requires g c =
+    let items = c.args.held.now.items in
+    let first : IsFirstOf c.args.found items c.in-Some.at = subst (λ (o : Option ℕ). IsPlaceOf c.args.found items o) c.in-Some.is c.place_of.ensures in
+    is_within items c.in-Some.at first.stage first.stands
+
+pub join-stage-requires-clause-stage : goal.join-stage-requires-clause-stage
+join-stage-requires-clause-stage g c = that_one (IsStage g.N.Naming.frame g.N.Naming.tokens c.args.note.now.knows.known) c.args.held.now.items c.in-Some.at c.take_out-stage.result c.take_out-stage.ensures.was c.requires.held
+
+pub returns-clause-held : goal.returns-clause-held
+returns-clause-held g c =
+    let items = c.args.held.now.items in
+    let at = c.in-Some.at in
+    let t = c.join-stage.result.0 in
+    let known = IsStage g.N.Naming.frame g.N.Naming.tokens c.args.note.now.knows.known in
+    let put : c.put_back.new.held.items ≡ set (set items at gap) at t = c.put_back.ensures.items ∙ ap (λ (l : List Stage). set l at t) c.take_out-stage.ensures.items in
+    subst (λ (l : List Stage). AllByRecursion known l) (sym {A = List Stage} put) (with_another known items at c.take_out-stage.result c.take_out-stage.ensures.was c.requires.held gap t c.join-stage.ensures.stage)
 
 pub returns-clause-joined : goal.returns-clause-joined
 returns-clause-joined g c =
-    let old = c.args.held.now.items in
-    let past : c.loop-k._k < length old → ⊥ = λ l. absurd (omega (arith, l, c.loop-k-test.false, c.len-k-end.ensures, c.args.held.now.ok.0)) in
-    join_end c.args.found old c.loop-k._k c.loop-k.held.items c.loop-k.left past c.loop-k.invariant.joined
+    let items = c.args.held.now.items in
+    let at = c.in-Some.at in
+    let t = c.join-stage.result.0 in
+    let first : IsFirstOf c.args.found items at = subst (λ (o : Option ℕ). IsPlaceOf c.args.found items o) c.in-Some.is c.place_of.ensures in
+    let put : c.put_back.new.held.items ≡ set (set items at gap) at t = c.put_back.ensures.items ∙ ap (λ (l : List Stage). set l at t) c.take_out-stage.ensures.items in
+    joined_there c.args.found items c.put_back.new.held.items at c.take_out-stage.result gap t c.join-stage.result.1 first c.take_out-stage.ensures.was put c.join-stage.ensures.joined

@@ -1,0 +1,86 @@
+use Rattle.std.proofs.Common.{◌≡◌, ℕ, Bool, List, sym, subst}
+use Rattle.std.specs.List.{AllByRecursion, remove}
+use Rattle.flow_model.specs.Events.{Finds}
+use Rattle.flow_model.specs.Numbers.{IsEnder}
+use Rattle.cargo_model.specs.Known.{Known}
+use Rattle.router_node.specs.Places.{StandsAt}
+use Rattle.router_node.specs.Stages.{HasLookedForEnd, IsStage}
+use Rattle.router_node.specs.declared.stage.Away.{Away}
+use Rattle.router_node.specs.declared.stage.Stage.{Stage}
+use Rattle.router_node.specs.declared.stage.Stage.TheVariants.{Sent}
+use Rattle.router_node.proofs.Holds.{all_more}
+use Rattle.router_node.proofs.Moving.{goes, passed_by, same_sent, waits}
+use Rattle.router_node.proofs.Places.{stands, that_one, without}
+use Rattle.router_node.proofs.Staged.{away_more}
+use Rattle.router_node.proofs.node.end_at.Goals as goal
+
+-- who stands at a place, by name
+named : (items : List Stage) (at : ℕ) (s : Stage) (a : Away) → StandsAt items at s → s ≡ Sent a → StandsAt items at (Sent a)
+named items at s a there is = subst (λ (x : Stage). StandsAt items at x) is there
+
+pub look_for_end-ended-requires-clause-away : goal.look_for_end-ended-requires-clause-away
+look_for_end-ended-requires-clause-away g c =
+    let items = c.args.held.now.items in
+    let at = c.args.at in
+    let there = named items at c.index.result.now c.in-Sent.away (stands items at c.index.result.now c.requires.there c.index.ensures) c.in-Sent.is in
+    that_one (IsStage g.N.Naming.frame g.N.Naming.tokens c.args.note.knows.known) items at (Sent c.in-Sent.away) there c.requires.held
+
+pub returns-in_default-clause-moved : goal.returns-in_default-clause-moved
+returns-in_default-clause-moved g c =
+    let items = c.args.held.now.items in
+    passed_by g.N.Naming.frame c.args.at items c.index.result.now c.args.note.knows (stands items c.args.at c.index.result.now c.requires.there c.index.ensures) c.in_default.not-Sent
+
+pub returns-then-not-ended-clause-held : goal.returns-then-not-ended-clause-held
+returns-then-not-ended-clause-held g c = all_more g.N.Naming.frame g.N.Naming.tokens c.args.note.knows.known c.look_for_end-ended.result.1.knows.known c.look_for_end-ended.ensures.knew c.args.held.now.items c.requires.held
+
+pub returns-then-not-ended-clause-moved : goal.returns-then-not-ended-clause-moved
+returns-then-not-ended-clause-moved g c =
+    let items = c.args.held.now.items in
+    let at = c.args.at in
+    let a = c.in-Sent.away in
+    let was = c.args.note.knows in
+    let is = c.look_for_end-ended.result.1.knows in
+    let there = named items at c.index.result.now a (stands items at c.index.result.now c.requires.there c.index.ensures) c.in-Sent.is in
+    waits g.N.Naming.frame at items a was is there (subst (λ (b : Bool). HasLookedForEnd g.N.Naming.frame a was is b) c.if-not-ended.true c.look_for_end-ended.ensures.ended)
+
+pub take_sent-away-requires : goal.take_sent-away-requires
+take_sent-away-requires g c =
+    let items = c.args.held.now.items in
+    (c.in-Sent.away, named items c.args.at c.index.result.now c.in-Sent.away (stands items c.args.at c.index.result.now c.requires.there c.index.ensures) c.in-Sent.is)
+
+pub finish_away-note-requires-clause-away : goal.finish_away-note-requires-clause-away
+finish_away-note-requires-clause-away g c =
+    let frame = g.N.Naming.frame in
+    let tokens = g.N.Naming.tokens in
+    let a = c.take_sent-away.result in
+    let known = c.args.note.knows.known in
+    away_more frame tokens known c.look_for_end-ended.result.1.knows.known c.look_for_end-ended.ensures.knew a (that_one (IsStage frame tokens known) c.args.held.now.items c.args.at (Sent a) c.take_sent-away.ensures.was c.requires.held)
+
+pub finish_away-note-requires-clause-ended : goal.finish_away-note-requires-clause-ended
+finish_away-note-requires-clause-ended g c =
+    let frame = g.N.Naming.frame in
+    let items = c.args.held.now.items in
+    let at = c.args.at in
+    let was = c.args.note.knows in
+    let is = c.look_for_end-ended.result.1.knows in
+    let there = named items at c.index.result.now c.in-Sent.away (stands items at c.index.result.now c.requires.there c.index.ensures) c.in-Sent.is in
+    let same = same_sent items at c.in-Sent.away c.take_sent-away.result there c.take_sent-away.ensures.was in
+    let end = subst (λ (b : Bool). HasLookedForEnd frame c.in-Sent.away was is b) c.if-not-ended.false c.look_for_end-ended.ensures.ended in
+    subst (λ (a : Away). Finds (Known frame.world.platform is.known) (IsEnder a.txn a.above)) same end
+
+pub returns-clause-held : goal.returns-clause-held
+returns-clause-held g c =
+    let frame = g.N.Naming.frame in
+    let tokens = g.N.Naming.tokens in
+    let items = c.args.held.now.items in
+    let at = c.args.at in
+    let known = c.args.note.knows.known in
+    let mid = c.look_for_end-ended.result.1.knows.known in
+    let more = c.finish_away-note.result.knows.known in
+    let rest = without (IsStage frame tokens known) items at (Sent c.take_sent-away.result) c.take_sent-away.ensures.was c.requires.held in
+    subst (λ (l : List Stage). AllByRecursion (IsStage frame tokens more) l) (sym {A = List Stage} c.take_sent-away.ensures.items)
+    (all_more frame tokens mid more c.finish_away-note.ensures.knew (remove items at) (all_more frame tokens known mid c.look_for_end-ended.ensures.knew (remove items at) rest))
+
+pub returns-clause-moved : goal.returns-clause-moved
+returns-clause-moved g c =
+    goes g.N.Naming.frame c.args.at c.args.held.now.items c.take_sent-away.new.held.items c.take_sent-away.result c.args.note.knows c.finish_away-note.result.knows c.take_sent-away.ensures.was c.take_sent-away.ensures.items c.finish_away-note.ensures.ended
