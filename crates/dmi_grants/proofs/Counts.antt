@@ -43,3 +43,12 @@ some_left s g (suc n) k from below open_ = ⊎_elim
     (λ (same : g ≡ k). let here = no_more (s g) (ap s same ∙ open_) in omega (arith, here))
     (λ (other : g ≡ k → ⊥). let rest = some_left s (g + 1) n k (omega arith) (omega arith) open_ in omega (arith, rest))
     (cases_eq g k)
+
+-- no more gates are counted than there are
+pub count_most : (test : ℕ → Bool) (g n : ℕ) → count_without test g n ≤ n
+count_most test g zero = omega arith
+count_most test g (suc n) = let rest = count_most test (g + 1) n in let here = one (test g) in omega (arith, rest, here)
+  where
+    one : (b : Bool) → (if b then 0 else 1) ≤ 1
+    one true = omega arith
+    one false = omega arith

@@ -1,5 +1,6 @@
 pub mod Lists
 pub mod Known
+pub mod Reading
 pub mod Counts
 pub mod Tickets
 pub mod GateNumbers
@@ -8,3 +9,5 @@ pub mod Endings
 pub mod Lifting
 pub mod OnlyWay
 pub mod Asks
+pub mod Telling
+pub mod Points

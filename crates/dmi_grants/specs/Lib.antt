@@ -4,3 +4,5 @@ pub mod Made
 pub mod Ranges
 pub mod Table
 pub mod Using
+pub mod Known
+pub mod Telling

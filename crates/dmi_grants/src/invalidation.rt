@@ -1,5 +1,5 @@
 // Invalidation.
-ghost use Rattle.std.specs.Prelude.{◌≡◌, ◌<◌, ◌≤◌, true, false, length, IsTrue, List, Some, None};
+ghost use Rattle.std.specs.Prelude.{◌≡◌, ◌<◌, ◌≤◌, ℕ, true, false, length, IsTrue, List, Some, None};
 ghost use Rattle.one_history.specs.Gates.{IsRevoked, total_gates};
 ghost use Rattle.one_history.specs.Lists.{StandBelow};
 ghost use Rattle.shared_object.specs.Steps.{IsNote};
@@ -53,6 +53,7 @@ pub fn invalidate<N: Naming<Plan, TlmLaw>, R: Wait>(
     ensures note { IsNote N.table result }
     ensures wallet { IsOf N.tokens wallet.new }
     ensures room { IsRoomyFor memory wallet.new }
+    ensures rooms { (m : ℕ) → IsRoomyFor m wallet.old → IsRoomyFor m wallet.new }
 {
     let (position, note) = tell(net, rt, memory, first, last, note, wallet, txn, at);
     end_all(
@@ -82,6 +83,7 @@ fn tell<N: Naming<Plan, TlmLaw>, R: Wait>(
     ensures note { IsNote N.table result.1 }
     ensures wallet { IsOf N.tokens wallet.new }
     ensures room { IsRoomyFor memory wallet.new }
+    ensures rooms { (m : ℕ) → IsRoomyFor m wallet.old → IsRoomyFor m wallet.new }
     ensures spent { HasSpent memory 1 wallet.old wallet.new }
 {
     let call = RegionCall::Invalidate {
@@ -121,6 +123,7 @@ fn end_all<N: Naming<Plan, TlmLaw>, R: Wait>(
     ensures note { IsNote N.table result }
     ensures wallet { IsOf N.tokens wallet.new }
     ensures room { IsRoomyFor memory wallet.new }
+    ensures rooms { (m : ℕ) → IsRoomyFor m wallet.old → IsRoomyFor m wallet.new }
 {
     for _ in rt.forever() {
         let (ended, next) = end_next(
@@ -160,6 +163,7 @@ fn end_next<N: Naming<Plan, TlmLaw>, R: Wait>(
     ensures note { IsNote N.table result.1 }
     ensures wallet { IsOf N.tokens wallet.new }
     ensures room { IsRoomyFor memory wallet.new }
+    ensures rooms { (m : ℕ) → IsRoomyFor m wallet.old → IsRoomyFor m wallet.new }
 {
     let (open, note) = least_open(net, rt, memory, first, last, position, note);
     match open {
@@ -194,6 +198,7 @@ fn end<N: Naming<Plan, TlmLaw>, R: Wait>(
     ensures note { IsNote N.table result }
     ensures wallet { IsOf N.tokens wallet.new }
     ensures room { IsRoomyFor memory wallet.new }
+    ensures rooms { (m : ℕ) → IsRoomyFor m wallet.old → IsRoomyFor m wallet.new }
 {
     let history = net.history();
     history.mark(&mut note, gate);

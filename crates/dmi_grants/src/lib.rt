@@ -7,7 +7,8 @@
 //!   of a grant, or finds the grant stale and drops it.
 //! - `invalidate` tells an invalidation and ends the grants that it overlaps: it marks each gate, waits
 //!   until nobody is inside, and closes it.
-//! - `grants_stay_known` is the law that a grant stays usable as a note learns more.
+//! - `grants_stay_known` is the law that a grant stays usable as a note learns more, and
+//!   `invalidations_add_own_entries` what an invalidation adds to the own entries of its initiator.
 //!
 //! Promises: a grant is held with just the range that the memory gave, translated up and cut to the windows
 //! on the way. A direct access is one entry, after its grant and before any closing of its gate, with status
@@ -27,5 +28,5 @@ mod table;
 pub use access::UseOf;
 pub use ask::Asked;
 pub use invalidation::invalidate;
-pub use laws::grants_stay_known;
+pub use laws::{grants_stay_known, invalidations_add_own_entries};
 pub use table::{GrantTable, Held};

@@ -15,6 +15,7 @@ use Rattle.net_end.specs.Closed.{events_in}
 use Rattle.net_end.specs.Laws.{HasGatesOf}
 use Rattle.net_end.proofs.Leaving.{memories_leave_gates, objects_leave}
 use Rattle.grant_end.specs.Laws.{ClosedHasGrants}
+use Rattle.grant_end.proofs.Places.{are_in_place, closes_last}
 use Rattle.grant_end.proofs.Wholes.{done_has_grants}
 
 -- the entries at a memory are those of it
@@ -29,8 +30,9 @@ gate_log p m None log at own nothing = subst (KeepsGateLog p) (sym nothing) (rec
 gate_log p m (Some row) log at own has = keep_logs p m row has.first log at own has.granted
 
 pub closed_has_grants : ClosedHasGrants
-closed_has_grants table frame seats notes all left end acyclic none planned closed are back finished =
+closed_has_grants table frame seats notes all left end acyclic planned closed last are back finished =
     let p = frame.world in
     let h = events_in p.platform all in
-    done_has_grants p h left end acyclic none (objects_leave table frame seats notes all left planned closed are back) finished
+    done_has_grants p h left end acyclic (objects_leave table frame seats notes all left planned closed are back) finished
     (λ m. gate_log p m (slice_get p.platform.memories m) (entries_at (Memory m) (entries h)) refl (own_entries m (entries h)) (memories_leave_gates table frame seats notes all left planned closed are back m))
+    (are_in_place table frame seats notes all planned closed are) (closes_last table frame seats notes all planned closed are last)

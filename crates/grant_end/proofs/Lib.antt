@@ -1,3 +1,3 @@
-pub mod Quiet
 pub mod Wholes
+pub mod Places
 pub mod Closing

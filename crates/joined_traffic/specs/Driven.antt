@@ -7,6 +7,7 @@ use Rattle.tlm_types.specs.declared.words.TxnId.{TxnId}
 use Rattle.tlm_types.specs.declared.entry.Entry.{Entry}
 use Rattle.tlm_model.specs.History.{entries_at}
 use Rattle.tlm_model.specs.Plan.{Plan, Initiator}
+use Rattle.tlm_model.specs.Scripts.{is_answer}
 use Rattle.flow_model.specs.World.{World, Passage, hop_at, hop_count}
 use Rattle.flow_model.specs.Events.{Among, Event, FindsAt, IsTake, entries}
 use Rattle.flow_model.specs.Called.{HasCalled}
@@ -34,10 +35,11 @@ pub record HasPaid (p : Plan) (h : List Event) (calls : TxnId → ℕ → ℕ) (
   pub own : (e : Entry) → Has mine e → e.txn.initiator ≡ k
   pub paid : (o : ObjectNo) → share_at p k o ≤ spent_at p calls mine k o + left o
 
--- It is a four-phase initiator: it has driven its accesses, of which each with a route has one entry at a memory, and the others none.
+-- It is a four-phase initiator: it has driven its accesses. A request has one answer at a memory at most, and an access without a route has no
+-- entry there.
 pub record HasDriven (p : Plan) (h : List Event) (issued : TxnId → ℕ) (calls : TxnId → ℕ → ℕ) (k : ℕ) (mine : List Entry) : Type 0 where
   pub driven : (x : TxnId) (pass : Passage) → passage_of p x ≡ Some pass → x.initiator ≡ k → IsDriven (world_of p) (Among h) x pass (issued x) (calls x)
-  pub once : (e f : Entry) → Has mine e → Has mine f → e.txn ≡ f.txn → e ≡ f
+  pub once : (e f : Entry) → Has mine e → Has mine f → e.txn ≡ f.txn → IsTrue (is_answer e.what) → IsTrue (is_answer f.what) → e ≡ f
   pub routed : (x : TxnId) (pass : Passage) (e : Entry) → passage_of p x ≡ Some pass → Has mine e → e.txn ≡ x → IsTrue pass.routed
 
 -- Another initiator: its own entries, in order, run its script, by which all that it asks for is settled.

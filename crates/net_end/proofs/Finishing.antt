@@ -44,7 +44,10 @@ use Rattle.port_model.specs.Stages.Stage.{Ahead}
 use Rattle.port_model.proofs.HandingIn.{ports_hand_in}
 use Rattle.port_model.proofs.OwnReplies.{ends_are_theirs, replies_are_own}
 use Rattle.net_end.specs.Finished.{HasEndedWhole, IsDone, IsPortDone, IsRunDone}
-use Rattle.net_end.specs.Laws.{InitiatorsEnd}
+use Rattle.joined_grants.specs.Parts.{EndsOwnGrants, KeepsOwnGrants}
+use Rattle.port_model.specs.Closings.{HasAllOf}
+use Rattle.net_end.specs.Laws.{InitiatorsEnd, PortsTellGrants}
+use Rattle.net_end.proofs.PortGrants.{port_ends, port_keeps}
 
 -- entries whose positions rise differ
 apart : (l : List Entry) → IsRising (λ (e : Entry). e.position) l → AreDistinct l
@@ -356,8 +359,42 @@ module _ (p : Plan) (h : List Event) (left : ℕ → ObjectNo → ℕ) (end : �
       let premises = ended_has_premises p h issued calls mine left acyclic have_ended in
       subst (λ (m : ℕ). own m (entries h) ≡ mine m) same (own_mine p h issued ends calls mine left have_ended have_issued premises j here other rising) ∙ handed
 
+  -- a port tells of grants what a history of grants asks of it
+  pub port_tells : (k : ℕ) (b : k < n) → cases_lt k n ≡ inl b → (four : (done k b).initiator.row.style ≡ FourPhase) (port : IsPortDone p (done k b).initiator h (left k) (end k)) → (done k b).by_style ≡ inl (four, port)
+      → HasAllOf h (entries h) → KeepsOwnGrants p (entries h) (own k (entries h)) × EndsOwnGrants p (entries h) k (own k (entries h))
+  port_tells k b q four port is whole =
+      let j : Initiator = (done k b).initiator in
+      let same : j.number ≡ k = number k b q in
+      let here : slice_get (initiators_of p) j.number ≡ Some j = ap (slice_get (initiators_of p)) same ∙ (done k b).at in
+      let handed : mine j.number ≡ port.under_way.mine = ap mine same ∙ mine_is k b q (inl (four, port)) is in
+      let premises = ended_has_premises p h issued calls mine left acyclic have_ended in
+      subst (λ (m : ℕ). KeepsOwnGrants p (entries h) (own m (entries h)) × EndsOwnGrants p (entries h) m (own m (entries h))) same (
+        port_keeps p h issued ends calls mine left have_ended have_issued premises j here four port.port port.known port.seen (left k) port.under_way port.ended handed port.told whole,
+        port_ends p h issued ends calls mine left have_ended have_issued premises j here four port.port port.known port.seen (left k) port.under_way port.ended handed port.told whole,
+      )
+
   pub ended_whole : HasEndedWhole p h left end
   ended_whole = record { issued = issued; ends = ends; calls = calls; mine = mine; ended = have_ended; was_issued = have_issued; ends_are = end_is }
 
 pub initiators_end : InitiatorsEnd
 initiators_end p h left end acyclic objects done = ended_whole p h left end acyclic objects done
+
+pub ports_tell_grants : PortsTellGrants
+ports_tell_grants p h left end acyclic objects done whole k i at four = by (cases_lt k (length (initiators_of p))) refl
+  where
+    within : (l : List Initiator) (k : ℕ) (j : Initiator) → slice_get l k ≡ Some j → k < length l
+    within [] k j q = cc
+    within (z ∷ l) zero j q = omega arith
+    within (z ∷ l) (suc k) j q = let r = within l k j q in omega arith
+
+    same : (x y : Initiator) → Some x ≡ Some y → x ≡ y
+    same x y q = cc
+
+    by : (c : (k < length (initiators_of p)) ⊎ (length (initiators_of p) ≤ k)) → cases_lt k (length (initiators_of p)) ≡ c → KeepsOwnGrants p (entries h) (own k (entries h)) × EndsOwnGrants p (entries h) k (own k (entries h))
+    by (inr past) q = let less = within (initiators_of p) k i at in absurd (omega arith)
+    by (inl b) q = by_style (done k b).by_style refl
+      where
+        by_style : (v : (((done k b).initiator.row.style ≡ FourPhase) × IsPortDone p (done k b).initiator h (left k) (end k)) ⊎ (((done k b).initiator.row.style ≡ FourPhase → ⊥) × IsRunDone p (done k b).initiator h (left k) (end k))) → (done k b).by_style ≡ v
+            → KeepsOwnGrants p (entries h) (own k (entries h)) × EndsOwnGrants p (entries h) k (own k (entries h))
+        by_style (inl port) is = port_tells p h left end acyclic objects done k b q port.0 port.1 is whole
+        by_style (inr run) is = absurd (run.0 (ap (λ (j : Initiator). j.row.style) (same (done k b).initiator i (sym (done k b).at ∙ at)) ∙ four))

@@ -1,3 +1,4 @@
 pub mod Reading
 pub mod Leaving
+pub mod PortGrants
 pub mod Finishing

@@ -11,11 +11,15 @@ use Rattle.tlm_types.specs.declared.words.ObjectNo.TheVariants.{Memory}
 use Rattle.tlm_types.specs.declared.ends.EndOf.{EndOf}
 use Rattle.tlm_model.specs.declared.platform.MemoryRow.{MemoryRow}
 use Rattle.tlm_model.specs.History.{entries_at}
-use Rattle.tlm_model.specs.Plan.{Plan, initiators_of}
+use Rattle.tlm_model.specs.declared.platform.Style.TheVariants.{FourPhase}
+use Rattle.tlm_model.specs.Plan.{Plan, Initiator, initiators_of}
 use Rattle.region_object.specs.Grants.{IsGrantLog}
 use Rattle.flow_model.specs.Events.{Event, entries}
 use Rattle.flow_plan.specs.Valid.{HasNoCycle}
+use Rattle.joined_grants.specs.Parts.{EndsOwnGrants, KeepsOwnGrants}
+use Rattle.joined_runs.specs.Own.{own}
 use Rattle.joined_traffic.specs.Ended.{HaveLeft}
+use Rattle.port_model.specs.Closings.{HasAllOf}
 use Rattle.net_end.specs.Finished.{HasEndedWhole, IsDone}
 use Rattle.net_end.specs.Closed.{AreHandedBack, AreLeft, IsClosed, IsPlanned, events_in}
 
@@ -39,6 +43,14 @@ abbrev pub MemoriesLeaveGates : Type 0
 MemoriesLeaveGates = (table : TableId) (frame : Frame Plan) (seats notes : List (Held Content Plan)) (all : List (HistoryEntry Content)) (left : ℕ → ObjectNo → ℕ)
     → IsPlanned frame → IsClosed frame seats notes all → AreLeft table frame seats → AreHandedBack frame seats left
     → (m : ℕ) → HasGatesOf (slice_get frame.world.platform.memories m) (entries_at (Memory m) (entries (events_in frame.world.platform all)))
+
+-- Where all initiators have finished and all objects are done with, and the history is numbered, gives each gate in order and has each entry in its
+-- place, a four-phase initiator has kept what a history of grants asks of its entries, at the end too, also with invalidations.
+abbrev pub PortsTellGrants : Type 0
+PortsTellGrants = (p : Plan) (h : List Event) (left : ℕ → ObjectNo → ℕ) (end : ℕ → EndOf)
+    → HasNoCycle p.platform → HaveLeft p h left → ((k : ℕ) → k < length (initiators_of p) → IsDone p h k (left k) (end k)) → HasAllOf h (entries h)
+    → (k : ℕ) (i : Initiator) → slice_get (initiators_of p) k ≡ Some i → i.row.style ≡ FourPhase
+    → KeepsOwnGrants p (entries h) (own k (entries h)) × EndsOwnGrants p (entries h) k (own k (entries h))
 
 -- Where all initiators have finished and all objects are done with, the whole run has ended.
 abbrev pub InitiatorsEnd : Type 0

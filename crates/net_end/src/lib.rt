@@ -8,7 +8,7 @@
 //! Nothing here runs: each function carries a law.
 #![tactic(auto)]
 
-ghost use Rattle.net_end.specs.Laws.{InitiatorsEnd, MemoriesLeaveGates, ObjectsLeave};
+ghost use Rattle.net_end.specs.Laws.{InitiatorsEnd, MemoriesLeaveGates, ObjectsLeave, PortsTellGrants};
 
 /// The objects of a net, whose history is closed, have left what the law of ended runs wants of them: each
 /// entry is backed, each hop made its steps, all slots are free, and the tickets are counted.
@@ -19,6 +19,12 @@ pub fn objects_leave_what_is_wanted()
 /// Of the gates of each memory of a net, whose history is closed, the history has what the memory wrote.
 pub fn memories_leave_gates()
     ensures { MemoriesLeaveGates }
+{}
+
+/// Where all have, and each entry stands in its place, a four-phase initiator has kept what a history of grants asks
+/// of its entries (IEEE 1666-2011, clause 11.2), also with invalidations.
+pub fn ports_tell_grants()
+    ensures { PortsTellGrants }
 {}
 
 /// Where all initiators have finished, by their styles, and all objects are done with, the run has ended whole,

@@ -40,6 +40,7 @@ use Rattle.cargo_model.proofs.Up.{arrives, ends}
 use Rattle.joined_traffic.specs.Accesses.{chosen, entries_of, txn_of, visits}
 use Rattle.flow_model.specs.Called.{HasCalled}
 use Rattle.joined_traffic.specs.Issued.{IsReplyOf}
+use Rattle.joined_traffic.proofs.ScriptLemmas.{made_for}
 use Rattle.joined_traffic.proofs.MemoryLemmas.{among_has, has_among}
 use Rattle.cargo_end.specs.Arrival.{AreReplies, Replies, calls_by, given_at, route, spent_by}
 use Rattle.cargo_end.proofs.Arrival.{calls_left, paid, replied}
@@ -304,8 +305,9 @@ module _ (s : Case) (i : Initiator) (port : Port) (known : List Event) (seen : �
           stand = λ e m. finds_more (world_of s.p) (knows s) (Among more) also_known s.x _ (a.asked.known e m);
           request = a.asked.request;
           asked = subst (λ (x : TxnId). slice_get (requests_of s.p.platform i a.asked.replies) x.seq ≡ Some a.asked.request) (sym (f.is.txn ∙ its)) asked;
-          is = subst (λ (j : Initiator). IsReplyOf s.p j f.event.entry a.asked.request) own f.is.reply;
+          is = made_for s.p i f.event.entry a.asked.request (subst (λ (j : Initiator). IsReplyOf s.p j f.event.entry a.asked.request) own f.is.reply);
         };
+        access = f.is.reply.access;
       }
 
 pub finished : FinishedArrives

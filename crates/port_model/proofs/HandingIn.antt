@@ -7,6 +7,7 @@ use Rattle.std.proofs.lemmas.Option.{slice_get_within}
 use Rattle.view_lists.specs.Lists.{Has}
 use Rattle.tlm_types.specs.declared.words.ObjectNo.{ObjectNo}
 use Rattle.tlm_types.specs.declared.words.TxnId.{TxnId}
+use Rattle.tlm_types.specs.declared.entry.Access.{Access}
 use Rattle.tlm_types.specs.declared.entry.Entry.{Entry}
 use Rattle.tlm_model.specs.History.{entries_at, is_object}
 use Rattle.tlm_model.specs.Plan.{Plan, Initiator}
@@ -47,15 +48,16 @@ use Rattle.tlm_types.specs.declared.ends.EndOf.{EndOf}
 use Rattle.tlm_types.specs.declared.words.ObjectNo.TheVariants.{Memory, Hop, Pool}
 use Rattle.tlm_types.specs.declared.entry.What.{What}
 use Rattle.tlm_types.specs.declared.entry.What.TheVariants.{Access as Accessed, Granted, Invalidated, Closed, Call, Take, Acquire, Release}
+use Rattle.tlm_model.specs.declared.platform.Style.{Style}
 use Rattle.tlm_model.specs.declared.platform.Style.TheVariants.{FourPhase}
 use Rattle.tlm_model.specs.declared.platform.Platform.{Platform}
 use Rattle.tlm_model.specs.declared.operation.Operation.{Operation}
 use Rattle.script_engine.specs.State.{Due, op_at}
 use Rattle.port_model.specs.Issues.{current_after}
 use Rattle.tlm_model.specs.Plan.{initiators_of}
-use Rattle.tlm_model.specs.Requests.{Asked, DebugRead, Invalidation, got_in, is_txn}
+use Rattle.tlm_model.specs.Requests.{Asked, DebugRead, Invalidation, is_txn}
 use Rattle.tlm_model.specs.Route.{Route}
-use Rattle.tlm_model.specs.Scripts.{IsEntryOf, IsPlaced, has_answer, is_answer, is_settled}
+use Rattle.tlm_model.specs.Scripts.{HasWay, IsEntryOf, IsPlaced, has_answer, is_settled}
 use Rattle.flow_model.specs.Events.{entries}
 use Rattle.joined_traffic.specs.Accesses.{accesses_at, accesses_below, chosen, entries_of, numbers_by, visits}
 use Rattle.flow_model.specs.Called.{HasCalled}
@@ -94,52 +96,27 @@ get_some (x ∷ rs) (suc j) l = get_some rs j (omega arith)
 one_request : (q r : Request) (o : Option Request) → o ≡ Some q → o ≡ Some r → q ≡ r
 one_request q r o a b = cc
 
--- an access stands at a memory
-placed : (p : Platform) (n : ℕ) (o : ObjectNo) (w : What) → IsSome (got_in w) → IsPlaced p n o w → (m : ℕ) × (o ≡ Memory m)
-placed p n (Memory m) w some is = (m, refl)
-placed p n (Hop h) (Accessed way access status got) some is = absurd is
-placed p n (Hop h) (Granted g f l k) some is = absurd is
-placed p n (Hop h) (Invalidated f l) some is = absurd is
-placed p n (Hop h) (Closed g) some is = absurd is
-placed p n (Hop h) (Call c a) some is = cc
-placed p n (Hop h) (Take s) some is = absurd is
-placed p n (Hop h) (Acquire s) some is = absurd is
-placed p n (Hop h) (Release s f) some is = absurd is
-placed p n (Pool k) (Accessed way access status got) some is = absurd is
-placed p n (Pool k) (Granted g f l j) some is = absurd is
-placed p n (Pool k) (Invalidated f l) some is = absurd is
-placed p n (Pool k) (Closed g) some is = absurd is
-placed p n (Pool k) (Call c a) some is = absurd is
-placed p n (Pool k) (Take s) some is = cc
-placed p n (Pool k) (Acquire s) some is = cc
-placed p n (Pool k) (Release s f) some is = cc
-
-access_answers : (w : What) → IsSome (got_in w) → is_answer w ≡ true
-access_answers (Accessed way access status got) s = refl
-access_answers (Granted g f l k) s = cc
-access_answers (Invalidated f l) s = cc
-access_answers (Closed g) s = cc
-access_answers (Call c a) s = cc
-access_answers (Take n) s = cc
-access_answers (Acquire n) s = cc
-access_answers (Release n f) s = cc
-
--- an access has a route
-entry_routed : (o : Option Route) (a : Asked) (m : ObjectNo) (w : What) → IsSome (got_in w) → IsEntryOf o a m w → is_some o ≡ true
-entry_routed (Some r) a m w s e = refl
-entry_routed None a m (Accessed way access status got) s e = absurd e
-entry_routed None a m (Granted g f l k) s e = cc
-entry_routed None a m (Invalidated f l) s e = cc
-entry_routed None a m (Closed g) s e = cc
-entry_routed None a m (Call c b) s e = cc
-entry_routed None a m (Take n) s e = cc
-entry_routed None a m (Acquire n) s e = cc
-entry_routed None a m (Release n f) s e = cc
+-- what is made at a memory for an access has a route
+entry_routed : (p : Platform) (i : ℕ) (o : Option Route) (access : Access) (m : ℕ) (w : What) → IsPlaced p i (Memory m) w → HasWay FourPhase (Transport access) w → IsEntryOf o (Transport access) (Memory m) w → is_some o ≡ true
+entry_routed p i (Some r) access m w place way_is e = refl
+entry_routed p i None access m (Accessed way a status got) place way_is e = absurd e
+entry_routed p i None access m (Granted g f l k) place way_is e = absurd way_is
+entry_routed p i None access m (Invalidated f l) place way_is e = absurd e
+entry_routed p i None access m (Closed g) place way_is e = absurd way_is
+entry_routed p i None access m (Call c b) place way_is e = absurd place
+entry_routed p i None access m (Take n) place way_is e = absurd place
+entry_routed p i None access m (Acquire n) place way_is e = absurd place
+entry_routed p i None access m (Release n f) place way_is e = absurd place
 
 routed_address : (asked : Asked) (a b : ℕ) → ◌≡◌ {A = Option (Option ℕ)} (Some (address_by asked a)) (Some (Some b)) → a ≡ b
 routed_address (Transport d) a b e = cc
 routed_address (DebugRead d) a b e = cc
 routed_address (Invalidation n) a b e = cc
+
+routed_transport : (asked : Asked) (a b : ℕ) → ◌≡◌ {A = Option (Option ℕ)} (Some (address_by asked a)) (Some (Some b)) → (access : Access) × (asked ≡ Transport access)
+routed_transport (Transport d) a b e = (d, refl)
+routed_transport (DebugRead d) a b e = cc
+routed_transport (Invalidation n) a b e = cc
 
 none_at : (o : ObjectNo) (l : List Entry) → ((e : Entry) → Has l e → is_object o e.object ≡ false) → length (entries_at o l) ≡ 0
 none_at o [] f = refl
@@ -228,7 +205,7 @@ module _ (p : Plan) (i : Initiator) (port : Port) (known : List Event) (seen : �
   agrees s b = of.of_ends s
 
   grown : Grows known h u.made u.made u.mine u.mine u.stage u.stage (top port.waiting u.step)
-  grown = record { knows = knows; kept = λ j r q. q; new = λ j r q. inl q; has = λ e m. m; back = λ s b. refl; low = u.asking.low }
+  grown = record { knows = knows; kept = λ j r q. q; new = λ j r q. inl q; has = λ e m. m; back = λ s b. refl; low = u.asking.low; cut = λ y m is. inl m }
 
   -- what the index of a request says is what its number says
   waited : (g n : ℕ) → HasWaitedFor p i known u.made u.mine u.stage g n → HasWaited p h i u.mine end g n
@@ -279,7 +256,7 @@ module _ (p : Plan) (i : Initiator) (port : Port) (known : List Event) (seen : �
   reply_of e m = u.has.served e m
 
   memory_of : (e : Entry) → Has u.mine e → (m : ℕ) × (e.object ≡ Memory m)
-  memory_of e m = let r = (u.has.served e m).is in placed p.platform e.txn.initiator e.object e.what r.access r.place
+  memory_of e m = let r = (u.has.served e m).is in (r.memory, r.stands)
 
   drives : HasDriven p h issued calls i.number u.mine
   drives = record {
@@ -291,8 +268,14 @@ module _ (p : Plan) (i : Initiator) (port : Port) (known : List Event) (seen : �
         let own : e.txn.initiator ≡ i.number = u.has.own e m in
         let here : passage_of p (txn_of i.number e.txn.seq) ≡ Some pass = ap (passage_of p) (same_txn e.txn own) ∙ (ap (passage_of p) q ∙ passes) in
         let a = has_address p i is e.txn.seq pass here in
-        let same : r.request.address ≡ a.address = routed_address r.request.asked r.request.address a.address (sym (origin p.platform i r.replies r.request e.txn.seq r.asked) ∙ a.is) in
-        subst IsTrue (sym (ap (λ (d : Passage). d.routed) a.way ∙ (ap (λ (n : ℕ). is_some (route_of p.platform i n)) (sym same) ∙ entry_routed (route_of p.platform i r.request.address) r.request.asked e.object e.what r.is.access r.is.entry))) is_true);
+        let from = sym (origin p.platform i r.replies r.request e.txn.seq r.asked) ∙ a.is in
+        let same : r.request.address ≡ a.address = routed_address r.request.asked r.request.address a.address from in
+        let t = routed_transport r.request.asked r.request.address a.address from in
+        let routes = entry_routed p.platform e.txn.initiator (route_of p.platform i r.request.address) t.0 r.is.memory e.what
+        (subst (λ (o : ObjectNo). IsPlaced p.platform e.txn.initiator o e.what) r.is.stands r.is.place)
+        (subst (λ (d : Asked). HasWay FourPhase d e.what) t.1 (subst (λ (y : Style). HasWay y r.request.asked e.what) style r.is.way))
+        (subst (λ (o : ObjectNo). IsEntryOf (route_of p.platform i r.request.address) (Transport t.0) o e.what) r.is.stands (subst (λ (d : Asked). IsEntryOf (route_of p.platform i r.request.address) d e.object e.what) t.1 r.is.entry)) in
+        subst IsTrue (sym (ap (λ (d : Passage). d.routed) a.way ∙ (ap (λ (n : ℕ). is_some (route_of p.platform i n)) (sym same) ∙ routes))) is_true);
   }
     where
       is_true : IsTrue true
@@ -348,7 +331,7 @@ module _ (p : Plan) (i : Initiator) (port : Port) (known : List Event) (seen : �
           let n : r.seq ≡ j = number_of p.platform i u.mine j r (ap (λ (l : List Request). slice_get l j) asked ∙ q) in
           let t : is_txn i.number r.seq f.entry.txn ≡ true = is_txn_of i.number r.seq f.entry.txn (f.of ∙ ap (txn_of i.number) (sym n)) in
           ap (λ (o : Option Route). is_none o || has_answer i.number r.seq u.mine) e
-          ∙ has_answer_of i.number r.seq u.mine f.entry (has_among u.mine f.entry f.has) t (access_answers f.entry.what (u.has.served f.entry f.has).is.access)
+          ∙ has_answer_of i.number r.seq u.mine f.entry (has_among u.mine f.entry f.has) t f.answers
 
   issued_access : (s : ℕ) (pass : Passage) → passage_of p (txn_of i.number s) ≡ Some pass → IsIssued p h i u.mine end (txn_of i.number s)
   issued_access s pass passes =

@@ -39,7 +39,7 @@ head_after : (p : Platform) (i : Initiator) (h : List Entry) (s t g : ℕ) (due 
     slice_get (requests_after p i h s t g due ops) 0 ≡ Some (request_for x (payload_at 4096 due ops) t g)
 head_after p i h s t g due ops x next_is = grind (arith, common_steps, zeros_long)
 
-get_after : (rs ms : List Request) (r : Request) → slice_get ms 0 ≡ Some r → slice_get (rs ++ ms) (length rs) ≡ Some r
+pub get_after : (rs ms : List Request) (r : Request) → slice_get ms 0 ≡ Some r → slice_get (rs ++ ms) (length rs) ≡ Some r
 get_after [] ms r q = q
 get_after (x ∷ rs) ms r q = get_after rs ms r q
 

@@ -1,5 +1,5 @@
 -- What answers the requests of a four-phase initiator in the whole history is what it knows.
-use Rattle.std.proofs.Common.{◌≡◌, ℕ, ◌<◌, true, MatchOption, List, length, map, Option, Some, None, refl, sym, ap, ◌∙◌, subst, inl, inr, ◌⊎◌, arith, get_or}
+use Rattle.std.proofs.Common.{◌≡◌, ℕ, ◌<◌, true, IsTrue, MatchOption, List, length, map, Option, Some, None, refl, sym, ap, ◌∙◌, subst, inl, inr, ◌⊎◌, arith, get_or}
 use Rattle.std.specs.Prelude.{slice_get}
 use Rattle.std.specs.List.{filter}
 use Rattle.std.proofs.lemmas.Option.{slice_get_within}
@@ -15,6 +15,7 @@ use Rattle.tlm_model.specs.declared.platform.Style.TheVariants.{FourPhase}
 use Rattle.tlm_model.specs.Plan.{Plan, Initiator, initiators_of}
 use Rattle.tlm_model.specs.Requests.{Request, answered, buffer_by, buffer_of, got_in, is_txn, requests_of, has_no_route, refused_of}
 use Rattle.tlm_model.specs.Route.{Route, hops_of, route_of}
+use Rattle.tlm_model.specs.Scripts.{is_answer}
 use Rattle.tlm_model.proofs.RequestLemmas.{same_requests}
 use Rattle.flow_model.specs.World.{Passage, hop_count}
 use Rattle.flow_model.specs.Ends.{end_by}
@@ -32,8 +33,9 @@ use Rattle.report_model.proofs.Ending.{ends_by_accesses}
 use Rattle.joined_traffic.specs.Accesses.{txn_of}
 use Rattle.joined_traffic.specs.Ended.{HaveEnded}
 use Rattle.joined_traffic.specs.Driven.{HasDriven}
-use Rattle.joined_traffic.specs.Issued.{IsReplyOf}
+use Rattle.joined_traffic.specs.Issued.{IsMadeFor}
 use Rattle.joined_traffic.proofs.AccessLemmas.{entry_among}
+use Rattle.joined_traffic.proofs.AskedLemmas.{got_answers}
 use Rattle.joined_traffic.proofs.BeginningLemmas.{end_there}
 use Rattle.joined_traffic.proofs.HopEnds.{InLog, entry_fits, entry_from}
 use Rattle.joined_traffic.proofs.MemoryLemmas.{among_has, has_among, known_there}
@@ -111,14 +113,14 @@ module _ (p : Plan) (h : List Event) (issued : TxnId → ℕ) (calls : TxnId →
         let k = known_there p h issued calls mine left ended place.0 f (among_has (entries h) f m) (sym (ap (λ (d : Entry). d.object) e.is) ∙ place.1) in
         subst (λ (n : ℕ). Has (mine n) f) own k.1
 
-    only_in : (l : List Entry) → ((f : Entry) → Among l f → Among (entries h) f) → (s : ℕ) (e : Entry) → Has (mine i.number) e → e.txn ≡ txn_of i.number s → (f : Entry) → Among l f → is_txn i.number s f.txn ≡ true → (got_in f.what ≡ None) ⊎ (f ≡ e)
-    only_in l within s e has txn f m t = go (got_in f.what) refl
+    only_in : (l : List Entry) → ((f : Entry) → Among l f → Among (entries h) f) → (s : ℕ) (e : Entry) → Has (mine i.number) e → e.txn ≡ txn_of i.number s → IsTrue (is_answer e.what) → (f : Entry) → Among l f → is_txn i.number s f.txn ≡ true → (got_in f.what ≡ None) ⊎ (f ≡ e)
+    only_in l within s e has txn answers f m t = go (got_in f.what) refl
       where
         go : (x : Option (List ℕ)) → got_in f.what ≡ x → (got_in f.what ≡ None) ⊎ (f ≡ e)
         go None q = inl q
         go (Some got) q =
             let same : f.txn ≡ txn_of i.number s = same_txn (txn_of i.number s) f.txn t in
-            inr (drives.once f e (answer_mine f (within f m) (ap (λ (x : TxnId). x.initiator) same) got q) has (same ∙ sym txn))
+            inr (drives.once f e (answer_mine f (within f m) (ap (λ (x : TxnId). x.initiator) same) got q) has (same ∙ sym txn) (got_answers f.what got q) answers)
 
     mine_within : (f : Entry) → Among (mine i.number) f → Among (entries h) f
     mine_within f m = has_among (entries h) f ((ended.initiators i.number below).paid.within f (among_has (mine i.number) f m))
@@ -130,7 +132,7 @@ module _ (p : Plan) (h : List Event) (issued : TxnId → ℕ) (calls : TxnId →
         let a = answered_by i.number s l got e in
         let same : a.entry.txn ≡ txn_of i.number s = same_txn (txn_of i.number s) a.entry.txn a.txn in
         let m = answer_mine a.entry (first a.entry a.among) (ap (λ (x : TxnId). x.initiator) same) got a.got_is in
-        only_any i.number s a.entry k (only_in k second s a.entry m same) a.txn (all a.entry m) ∙ a.got_is
+        only_any i.number s a.entry k (only_in k second s a.entry m same (got_answers a.entry.what got a.got_is)) a.txn (all a.entry m) ∙ a.got_is
 
     in_mine : (f : Entry) → Has (mine i.number) f → Among (mine i.number) f
     in_mine f m = has_among (mine i.number) f m
@@ -143,13 +145,13 @@ module _ (p : Plan) (h : List Event) (issued : TxnId → ℕ) (calls : TxnId →
         go None (Some got) q r = told_by_others (mine i.number) (entries h) mine_within (λ f m. m) (λ f m. mine_within f (in_mine f m)) s got r ∙ sym r
         go None None q r = q ∙ sym r
 
-    served_own : (ends : TxnId → ℕ) → HasIssuedSo p h issued ends i (mine i.number) → (e : Entry) → Has (mine i.number) e → MatchOption (slice_get (requests_of p.platform i (mine i.number)) e.txn.seq) ⊥ (λ r. IsReplyOf p i e r)
+    served_own : (ends : TxnId → ℕ) → HasIssuedSo p h issued ends i (mine i.number) → (e : Entry) → Has (mine i.number) e → MatchOption (slice_get (requests_of p.platform i (mine i.number)) e.txn.seq) ⊥ (λ r. IsMadeFor p i e r)
     served_own ends so e m =
         let r = so.replies e m in
         let within : (f : Entry) → Among r.replies f → Among (entries h) f = λ f k. (let g = r.stand f k in subst (Among (entries h)) g.is (entry_among h g.event g.known)) in
         let q : slice_get (requests_of p.platform i (mine i.number)) e.txn.seq ≡ Some r.request =
         requests_kept p.platform i r.replies (mine i.number) (λ s got a. told_by_others r.replies (mine i.number) within mine_within in_mine s got a) e.txn.seq r.request r.asked in
-        subst (λ (o : Option Request). MatchOption o ⊥ (λ d. IsReplyOf p i e d)) (sym q) r.is
+        subst (λ (o : Option Request). MatchOption o ⊥ (λ d. IsMadeFor p i e d)) (sym q) r.is
 
 pub replies_are_own : RepliesAreOwn
 replies_are_own p h issued ends calls mine left ended i is style so = record {

@@ -1,5 +1,5 @@
 -- A port begins, settles its time, and passes what is no access.
-use Rattle.std.proofs.Common.{subst, ◌≡◌, ◌⊎◌, ℕ, zero, suc, ◌+◌, ◌<◌, ◌≤◌, Bool, false, cond, max, List, [], ◌∷◌, ◌++◌, length, Option, Some, None, refl, sym, ap, ◌∙◌, inl, inr, arith, get_or}
+use Rattle.std.proofs.Common.{subst, ◌≡◌, ◌⊎◌, ℕ, zero, suc, ◌+◌, ◌<◌, ◌≤◌, Bool, true, false, ◌&&◌, ◌*◌, IsTrue, cond, max, List, [], ◌∷◌, ◌++◌, length, Option, Some, None, refl, sym, ap, ◌∙◌, inl, inr, arith, get_or}
 use Rattle.std.specs.Prelude.{slice_get}
 use Rattle.std.proofs.lemmas.List.{append-nil, length-map}
 use Rattle.std.proofs.lemmas.Option.{slice_get_within}
@@ -32,18 +32,23 @@ use Rattle.view_lists.proofs.Members.{has_none}
 use Rattle.route_plan.specs.Counted.{share_at}
 use Rattle.port_model.proofs.PlainTakes.{false_is_true, true_false}
 use Rattle.std.specs.Prelude.{sum_by}
-use Rattle.std.specs.List.{flat_map}
+use Rattle.std.specs.List.{flat_map, list_any}
 use Rattle.std.proofs.lemmas.List.Sums.{sum_by-cons}
 use Rattle.std.proofs.lemmas.Option.{slice_get_past}
 use Rattle.tlm_types.specs.declared.words.ObjectNo.TheVariants.{Memory, Hop, Pool}
 use Rattle.tlm_model.specs.declared.operation.Operation.{Operation}
+use Rattle.tlm_model.specs.declared.platform.MemoryRow.{MemoryRow}
+use Rattle.tlm_model.specs.declared.platform.Target.TheVariants as Target
+use Rattle.tlm_model.specs.Scripts.{first_gate}
+use Rattle.route_plan.specs.Paths.{has_path, once}
+use Rattle.port_model.specs.Closings.{count_open, gates_given_by, invalidates_at, is_closed_at, open_gates}
 use Rattle.tlm_model.specs.Actions.{asks_of}
 use Rattle.tlm_model.specs.Plan.{initiators_of}
 use Rattle.tlm_model.specs.Requests.{numbers_in}
 use Rattle.tlm_model.proofs.RequestLemmas.{numbers_in_asks}
 use Rattle.flow_model.specs.Platform.{accessed, addresses_of}
 use Rattle.route_plan.specs.Counted.{share_by}
-use Rattle.route_plan.specs.Planned.{asks_in, share_of}
+use Rattle.route_plan.specs.Planned.{asks_in, at_gates, gates_by, invalidates, is_direct, share_of}
 use Rattle.script_engine.specs.State.{begun_engine}
 use Rattle.script_engine.proofs.Steps.{begins}
 use Rattle.port_model.specs.Stages.{price_by}
@@ -72,6 +77,8 @@ module _ (p : Plan) (i : Initiator) (port : Port) (known : List Event) (seen : �
     has = u.has;
     accesses = u.accesses;
     tickets = u.tickets;
+    returned = u.returned;
+    closes = u.closes;
     refused = u.refused;
   }
 
@@ -156,6 +163,8 @@ module _ (p : Plan) (i : Initiator) (port : Port) (known : List Event) (seen : �
     has = u.has;
     accesses = u.accesses;
     tickets = u.tickets;
+    returned = u.returned;
+    closes = u.closes;
     refused = u.refused;
   }
 
@@ -209,7 +218,45 @@ not_less s l = omega arith
 ahead_back : (end : ℕ) (calls : ℕ → ℕ) → Ahead ≡ Back end calls → ⊥
 ahead_back end calls q = cc
 
+-- at most all gates are open
+opens : (closed : ℕ → Bool) (g n : ℕ) → count_open closed g n ≤ n
+opens closed g zero = omega arith
+opens closed g (suc n) = by (closed g) (opens closed (g + 1) n)
+  where
+    by : (b : Bool) → count_open closed (g + 1) n ≤ n → (cond b 0 1) + count_open closed (g + 1) n ≤ suc n
+    by true l = omega arith
+    by false l = omega arith
+
+by_mul : (g c : ℕ) → g ≤ g * (c + 1)
+by_mul g c = let e : g * (c + 1) ≡ g * c + g = grind arith in omega arith
+
+-- who has an invalidation that is routed to a memory has the tickets of a closing for each of its gates
+closing_tickets : (p : Plan) (i : Initiator) (m : ℕ) → invalidates_at p i m ≡ true → gates_given_by (slice_get p.platform.memories m) ≤ at_gates p i m
+closing_tickets p i m is = by (slice_get p.platform.memories m)
+  where
+    by_dmi : (row : MemoryRow) (b : Bool) → cond b row.traits.gates 0 ≤ cond b (row.traits.gates * (once (is_direct i.row.style && has_path p.platform i.row (Target.Memory m)) + once (list_any (invalidates p i m) (asks_in i)))) 0
+    by_dmi row false = omega arith
+    by_dmi row true =
+        subst (λ (n : ℕ). row.traits.gates ≤ row.traits.gates * (once (is_direct i.row.style && has_path p.platform i.row (Target.Memory m)) + n)) (sym (ap once is))
+        (by_mul row.traits.gates (once (is_direct i.row.style && has_path p.platform i.row (Target.Memory m))))
+
+    by : (o : Option MemoryRow) → gates_given_by o ≤ gates_by p i m o
+    by None = omega arith
+    by (Some row) = by_dmi row row.traits.dmi
+
+share_closes : (p : Plan) (i : Initiator) (m : ℕ) → invalidates_at p i m ≡ true → sum_below (λ s. price p i (Memory m) s) (count_of i) + gates_given_by (slice_get p.platform.memories m) ≤ share_of p i (Memory m)
+unfolding share_of
+share_closes p i m is = let q = prices p i (Memory m) in let l = closing_tickets p i m is in omega arith
+
 module _ (p : Plan) (i : Initiator) (left : ObjectNo → ℕ) (whole : (o : ObjectNo) → left o ≡ share_at p i.number o) (is : slice_get (initiators_of p) i.number ≡ Some i) where
+  begun_closes : (m : ℕ) → IsTrue (invalidates_at p i m) → sum_below (λ s. ahead p i (Memory m) s Ahead) (count_of i) + open_gates p m [] ≤ left (Memory m)
+  begun_closes m is_routed =
+      let w = whole (Memory m) in
+      let s : share_at p i.number (Memory m) ≡ share_of p i (Memory m) = ap (share_by p (Memory m)) is in
+      let l = share_closes p i m is_routed in
+      let g = opens (is_closed_at m []) (first_gate p.platform m) (gates_given_by (slice_get p.platform.memories m)) in
+      omega arith
+
   begins_p : IsUnderWay p i (record { engine = begun_engine i.number i.script; waiting = false; time = 0; latest = 0; away = []; refused = [] }) [] 0 left
   begins_p = record {
     made = [];
@@ -246,10 +293,11 @@ module _ (p : Plan) (i : Initiator) (left : ObjectNo → ℕ) (whole : (o : Obje
       within = λ e m. absurd (has_none e m);
       distinct = tt;
       own = λ e m. absurd (has_none e m);
-      once = λ e f m n q. absurd (has_none e m);
+      once = λ e f m n q a b. absurd (has_none e m);
       back = λ e m. absurd (has_none e m);
       served = λ e m. absurd (has_none e m);
       reads = λ e m n. absurd (has_none e m);
+      closings = λ e m. absurd (has_none e m);
     };
     accesses = record {
       begun = λ s pass l q. absurd (not_less s l);
@@ -257,6 +305,8 @@ module _ (p : Plan) (i : Initiator) (left : ObjectNo → ℕ) (whole : (o : Obje
       no_end = λ s n. refl;
       replied = λ s r e b some. absurd b;
     };
+    returned = λ n all y m. absurd (has_none y m);
+    closes = λ m is_routed. begun_closes m is_routed;
     tickets = record {
       paid = λ o. (let w = whole o in omega arith);
       enough = λ o. (

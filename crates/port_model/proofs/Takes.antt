@@ -1,11 +1,12 @@
 -- A port takes an access.
-use Rattle.std.proofs.Common.{◌≡◌, ◌⊎◌, ℕ, suc, ◌+◌, ◌<◌, ◌≤◌, Bool, true, false, cond, nat_eq, eq-eqb, List, [], ◌∷◌, ◌++◌, length, length-append, Some, refl, sym, ap, ◌∙◌, subst, inl, inr, arith, get_or, map}
+use Rattle.std.proofs.Common.{◌≡◌, ◌⊎◌, ℕ, suc, ◌+◌, ◌<◌, ◌≤◌, IsTrue, Bool, true, false, cond, nat_eq, eq-eqb, List, [], ◌∷◌, ◌++◌, length, length-append, Some, refl, sym, ap, ◌∙◌, subst, inl, inr, arith, get_or, map}
 use Rattle.std.specs.Prelude.{slice_get}
 use Rattle.std.specs.List.{filter}
 use Rattle.std.proofs.lemmas.List.{map-append, append-nil}
 use Rattle.std.proofs.lemmas.List.Elements.{filter-append}
 use Rattle.tlm_types.specs.declared.ends.RefusedItem.{RefusedItem}
 use Rattle.tlm_types.specs.declared.words.ObjectNo.{ObjectNo}
+use Rattle.tlm_types.specs.declared.words.ObjectNo.TheVariants.{Memory}
 use Rattle.tlm_types.specs.declared.entry.Entry.{Entry}
 use Rattle.tlm_model.specs.Plan.{Plan, Initiator}
 use Rattle.tlm_model.specs.Requests.{Request, has_no_route}
@@ -28,6 +29,8 @@ use Rattle.port_model.proofs.Kept.{Grows, agrees_less, get_kept, get_last, get_n
 use Rattle.port_model.proofs.Sums.{more_differs, moved_here, moved_other, part, same_or_not, settled_same, sum_moved}
 use Rattle.port_model.proofs.Ops.{IsAccessKind, more_numbers, refused_same, seq_of, transports}
 use Rattle.port_model.proofs.Begins.{entries_more, old_accesses}
+use Rattle.port_model.specs.Closings.{HaveReturned, invalidates_at, open_gates}
+use Rattle.port_model.proofs.ClosingLemmas.{all_less, open_less}
 
 back_ahead : (v : Stage) → v ≡ Ahead → IsBack v → ⊥
 back_ahead Ahead q b = b
@@ -39,9 +42,6 @@ under_ahead q = cc
 
 under_back : (end : ℕ) (calls : ℕ → ℕ) → Under ≡ Back end calls → ⊥
 under_back end calls q = cc
-
-pub under_none : (v : Stage) → v ≡ Under → under_by v ≡ 1
-under_none v q = ap under_by q
 
 -- what is not ahead and not under way is back
 pub is_back : (v : Stage) → (v ≡ Ahead → ⊥) → under_by v ≡ 0 → IsBack v
@@ -70,7 +70,7 @@ module _ (p : Plan) (i : Initiator) (port : Port) (known : List Event) (seen : �
       let f = u.has.within r.entry r.has in
       let b = u.below f.event f.known in
       let q : f.event.position ≡ r.entry.position = ap (λ (e : Entry). e.position) f.is in
-      record { entry = r.entry; has = r.has; of = r.of; early = omega arith }
+      record { entry = r.entry; has = r.has; of = r.of; answers = r.answers; early = omega arith }
 
   -- at a position after all that was seen, what is back was waited for
   pub waited_at : (g n : ℕ) → seen ≤ n → ((j : ℕ) (r : Request) → slice_get u.made j ≡ Some r → r.stage < g → IsBack (u.stage j)) → HasWaitedFor p i known u.made u.mine u.stage g n
@@ -152,6 +152,7 @@ module _ (p : Plan) (i : Initiator) (port : Port) (known more : List Event) (see
       has = λ e m. m;
       back = back_kept;
       low = low_made p i port known seen left u quiet;
+      cut = λ y m is. inl m;
     }
 
     less_agrees : (end : ℕ → ℕ) → Agrees stage2 end → Agrees u.stage end
@@ -186,7 +187,29 @@ module _ (p : Plan) (i : Initiator) (port : Port) (known more : List Event) (see
               | inr b ↦ absurd (let c : q.stage ≡ r.stage = ap (λ (d : Request). d.stage) b.1 in omega arith)
             ];
           });
+      returned = λ y m is less h all. u.returned t.take.event.position (λ e k. (let b = u.below e k in let l = t.later in omega arith)) y m is (let c = count in omega arith) h (all_less known more h knows all);
     }
+
+    -- its invalidations have returned, and the tickets for closings are there
+    pub returned2 : (n : ℕ) → ((e : Event) → Among more e → e.position < n) → HaveReturned more u.mine (length made2) n
+    returned2 n all y m is less h has =
+        let b = u.has.back y m in
+        u.returned n (λ e k. all e (knows e k)) y m is (below_made y.txn.seq b) h (all_less known more h knows has)
+      where
+        below_made : (k : ℕ) → IsBack (u.stage k) → k < length u.made
+        below_made k b = elim (under_or_past k (length u.made)) [ inl l ↦ l | inr l ↦ absurd (back_ahead (u.stage k) (u.staged.ahead k l) b) ]
+          where
+            under_or_past : (a b : ℕ) → (a < b) ⊎ (b ≤ a)
+            under_or_past a b = grind arith
+
+    pub closes2 : (m : ℕ) → IsTrue (invalidates_at p i m) → sum_below (λ k. ahead p i (Memory m) k (stage2 k)) (count_of i) + open_gates p m more ≤ rest (Memory m)
+    closes2 m is =
+        let moves : sum_below (λ k. ahead p i (Memory m) k (stage2 k)) (count_of i) + ahead p i (Memory m) s (u.stage s) ≡ sum_below (λ k. ahead p i (Memory m) k (u.stage k)) (count_of i) + 0 = sum_moved (λ k v. ahead p i (Memory m) k v) u.stage s Under (count_of i) within in
+        let z : ahead p i (Memory m) s (u.stage s) ≡ price p i (Memory m) s = ap (ahead p i (Memory m) s) ahead_now in
+        let old = u.closes m is in
+        let pay = t.pays (Memory m) in
+        let l = open_less p m known more knows in
+        omega arith
 
     not_back : (end : ℕ) (calls : ℕ → ℕ) → stage2 s ≡ Back end calls → ⊥
     not_back end calls e = under_back end calls (sym (moved_here u.stage s Under) ∙ e)

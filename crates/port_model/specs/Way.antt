@@ -1,29 +1,32 @@
 -- What a four-phase initiator knows and holds between any two of its moves.
-use Rattle.std.specs.Prelude.{ℕ, ◌≡◌, ◌+◌, ◌<◌, ◌≤◌, Bool, true, false, List, [], ◌++◌, length, map, Some, None, IsSome, get_or, slice_get}
+use Rattle.std.specs.Prelude.{ℕ, ◌≡◌, ◌+◌, ◌<◌, ◌≤◌, IsTrue, Bool, true, false, List, [], ◌++◌, length, map, Some, None, IsSome, get_or, slice_get}
 use Rattle.std.specs.List.{filter}
 use Rattle.view_lists.specs.Lists.{AreDistinct, Has}
 use Rattle.tlm_types.specs.declared.ends.RefusedItem.{RefusedItem}
 use Rattle.tlm_types.specs.declared.words.ObjectNo.{ObjectNo}
+use Rattle.tlm_types.specs.declared.words.ObjectNo.TheVariants.{Memory}
 use Rattle.tlm_types.specs.declared.words.TxnId.{TxnId}
 use Rattle.tlm_types.specs.declared.entry.Access.{Access}
 use Rattle.tlm_types.specs.declared.entry.Entry.{Entry}
 use Rattle.tlm_model.specs.Plan.{Plan, Initiator}
 use Rattle.tlm_model.specs.Requests.{Transport, Request, requests_of, has_no_route}
 use Rattle.tlm_model.specs.Route.{route_of}
+use Rattle.tlm_model.specs.Scripts.{is_answer}
 use Rattle.flow_model.specs.World.{Passage, hop_at, hop_count}
 use Rattle.flow_model.specs.Events.{Among, Event, Finds, FindsAt, IsTake}
 use Rattle.flow_model.specs.Issue.{current_from, issues_from, settled}
 use Rattle.flow_model.specs.Numbers.{EndIs, IsEnder}
 use Rattle.flow_model.specs.Platform.{passage_of, world_of}
 use Rattle.report_model.specs.Ends.{refused_at}
-use Rattle.joined_traffic.specs.Accesses.{txn_of}
+use Rattle.joined_traffic.specs.Accesses.{sum_below, txn_of}
 use Rattle.flow_model.specs.Called.{HasCalled}
-use Rattle.joined_traffic.specs.Issued.{EndsBefore, HasReply, IsReplyOf}
+use Rattle.joined_traffic.specs.Issued.{EndsBefore, HasReply, IsMadeFor}
 use Rattle.script_engine.specs.State.{State, is_fenced, op_of, payload_of}
 use Rattle.script_engine.specs.Asking.{asked_by, numbers_at, requests_at}
-use Rattle.port_model.specs.Stages.{HasTickets, IsBack, Stage, count_of, end_by, outstanding_by}
+use Rattle.port_model.specs.Stages.{HasTickets, IsBack, Stage, ahead, count_of, end_by, outstanding_by}
 use Rattle.port_model.specs.Stages.Stage.{Ahead, Under, Back}
 use Rattle.port_model.specs.Issues.{current_at, issues_at}
+use Rattle.port_model.specs.Closings.{HaveReturned, IsClosingOf, invalidates_at, open_gates}
 
 -- What a port has in hand: where its script stands, and whether the access that the engine waits for is under way; the current time, the
 -- greatest end so far, the numbers of the accesses that are outstanding, and what had no route.
@@ -58,6 +61,7 @@ pub record Replied (mine : List Entry) (x : TxnId) : Type 0 where
   pub entry : Entry
   pub has : Has mine entry
   pub of : entry.txn ≡ x
+  pub answers : IsTrue (is_answer entry.what)
 
 module _ (p : Plan) (i : Initiator) where
   -- before position n all requests of stages below g have come back
@@ -77,6 +81,7 @@ module _ (p : Plan) (i : Initiator) where
     pub is_issued : IsTimeOf i stage s issued
     pub take : FindsAt (Among known) (IsTake (txn_of i.number s)) issued
     pub waited : HasWaitedFor known made mine stage request.stage take.event.position
+    pub returned : HaveReturned known mine s take.event.position
 
   -- an access that has come back: its calls, and its end on the first hop
   pub record HasReturned (known : List Event) (s : ℕ) (pass : Passage) (end : ℕ) (calls : ℕ → ℕ) : Type 0 where
@@ -114,31 +119,33 @@ module _ (p : Plan) (i : Initiator) where
     pub under : (s : ℕ) → Among port.away s → stage s ≡ Under
     pub outstanding : length port.away ≡ outstanding_by i stage
 
-  -- a debug read, at its time, once all was back for which the initiator waits
+  -- an entry of a debug read or an invalidation, at its time, once all was back for which the initiator waits
   pub record IsReading (known : List Event) (made : List Request) (mine : List Entry) (stage : ℕ → Stage) (e : Entry) : Type 0 where
     pub request : Request
     pub asked : slice_get made e.txn.seq ≡ Some request
     pub is_issued : IsTimeOf i stage e.txn.seq e.time
     pub waited : HasWaitedFor known made mine stage request.stage e.position
+    pub returned : HaveReturned known mine e.txn.seq e.position
 
-  -- An entry is the reply to a request that the initiator has, by replies that are known. They need not be its own entries: that no other
+  -- An entry was made for a request that the initiator has, by replies that are known. They need not be its own entries: that no other
   -- entries answer its requests is known at the end alone.
   pub record IsReply (known : List Event) (e : Entry) : Type 0 where
     pub replies : List Entry
     pub stand : (f : Entry) → Among replies f → Finds (Among known) (λ g. g.entry ≡ f)
     pub request : Request
     pub asked : slice_get (requests_of p.platform i replies) e.txn.seq ≡ Some request
-    pub is : IsReplyOf p i e request
+    pub is : IsMadeFor p i e request
 
-  -- its entries at memories: those of accesses that have come back, and of debug reads
+  -- its entries at memories: those of accesses that have come back, of debug reads and of invalidations, with the closings that these have brought
   pub record HasEntries (known : List Event) (made : List Request) (mine : List Entry) (stage : ℕ → Stage) : Type 0 where
     pub within : (e : Entry) → Has mine e → Finds (Among known) (λ f. f.entry ≡ e)
     pub distinct : AreDistinct mine
     pub own : (e : Entry) → Has mine e → e.txn.initiator ≡ i.number
-    pub once : (e f : Entry) → Has mine e → Has mine f → e.txn ≡ f.txn → e ≡ f
+    pub once : (e f : Entry) → Has mine e → Has mine f → e.txn ≡ f.txn → IsTrue (is_answer e.what) → IsTrue (is_answer f.what) → e ≡ f
     pub back : (e : Entry) → Has mine e → IsBack (stage e.txn.seq)
     pub served : (e : Entry) → Has mine e → IsReply known e
     pub reads : (e : Entry) → Has mine e → passage_of p e.txn ≡ None → IsReading known made mine stage e
+    pub closings : (e : Entry) → Has mine e → IsClosingOf known mine e
 
   -- its accesses
   pub record HasAccesses (known : List Event) (made : List Request) (mine : List Entry) (stage : ℕ → Stage) : Type 0 where
@@ -163,4 +170,7 @@ module _ (p : Plan) (i : Initiator) where
     pub has : HasEntries known made mine stage
     pub accesses : HasAccesses known made mine stage
     pub tickets : HasTickets p i stage mine left
+    -- its invalidations have returned, and it has a ticket for each gate that those which are to come may have to close
+    pub returned : (n : ℕ) → ((e : Event) → Among known e → e.position < n) → HaveReturned known mine (length made) n
+    pub closes : (m : ℕ) → IsTrue (invalidates_at p i m) → sum_below (λ s. ahead p i (Memory m) s (stage s)) (count_of i) + open_gates p m known ≤ left (Memory m)
     pub refused : (end : ℕ → ℕ) → Agrees stage end → port.refused ≡ refused_in end made

@@ -1,7 +1,8 @@
 //! What a four-phase initiator knows and holds between any two of its moves, and what it hands in once it has finished.
 //!
 //! - `specs/Stages`: how far each request has come, and what it has taken from the wallet; `specs/Issues`: times of issue of what
-//!   an engine is still to ask for; `specs/Way`: the state of a port under way.
+//!   an engine is still to ask for; `specs/Closings`: what it tells of the grants that its invalidations end; `specs/Way`: the
+//!   state of a port under way.
 //! - `specs/Laws`: what each move keeps; `specs/Ends`: what a port that has finished hands in, and how its initiator ended.
 //!
 //! Nothing here runs: each function carries a law.
@@ -9,7 +10,7 @@
 
 ghost use Rattle.port_model.specs.Issues.{IssuesInOrder};
 ghost use Rattle.port_model.specs.Ends.{EndsAreTheirs, PortsHandIn, RepliesAreOwn};
-ghost use Rattle.port_model.specs.Laws.{Begins, HasPlanned, IsPriced, KeepsStray, KnowsMore, PassesItsWay, PassesPause, ReadsDebug, RepliesAnswer, ReturnsFenced, ReturnsPlain, Settles, TakesFenced, TakesPlain};
+ghost use Rattle.port_model.specs.Laws.{Begins, HasPlanned, IsPriced, KeepsStray, KnowsMore, PassesInvalidation, PassesItsWay, PassesPause, ReadsDebug, RepliesAnswer, ReturnsFenced, ReturnsPlain, Settles, TakesFenced, TakesPlain};
 
 /// Issue times go through the script as the engine does.
 pub fn issues_go_in_order()
@@ -79,6 +80,11 @@ pub fn replies_are_their_own()
 /// How a port's initiator ended is what the whole history says.
 pub fn ends_are_those_of_the_history()
     ensures { EndsAreTheirs }
+{}
+
+/// An invalidation is made and passed, with the closings that it has brought, or without a route.
+pub fn invalidations_are_passed()
+    ensures { PassesInvalidation }
 {}
 
 /// A debug read is made and passed, with a route or without.

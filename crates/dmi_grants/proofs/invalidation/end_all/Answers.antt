@@ -13,6 +13,7 @@ loop-init g c = record {
   told = c.requires.told;
   wallet = c.requires.wallet;
   room = c.requires.room;
+  rooms = λ k room. room;
   tickets = c.requires.tickets;
   ended = ([], ended_none g.N.Naming.frame c.args.memory c.args.txn c.args.at c.args.first c.args.last c.args.position c.args.note.knows c.args.wallet.now);
 }
@@ -31,6 +32,7 @@ loop-preserved g c =
       told = told_more (written_at m c.loop.note.knows.known) (written_at m e.result.1.knows.known) c.args.first c.args.last c.args.position (known_more m c.loop.note.knows.known e.result.1.knows.known one.1.keeps) i.told;
       wallet = e.ensures.wallet;
       room = e.ensures.room;
+      rooms = λ k room. e.ensures.rooms k (i.rooms k room);
       tickets = (let f = one.1.fewer in let h = one.1.wallet.here in let t = i.tickets in omega arith);
       ended = (i.ended.0 ++ one.0, all);
     }

@@ -1,4 +1,4 @@
-use Rattle.std.proofs.Common.{◌≤◌, List}
+use Rattle.std.proofs.Common.{◌≤◌, ℕ, List}
 use Rattle.shared_object.specs.Steps.{IsNote}
 use Rattle.shared_object.specs.Written.{Written, written_at}
 use Rattle.token_book.specs.Purse.{IsOf, left_of}
@@ -14,6 +14,7 @@ invariant-loop g l = record {
   told : IsToldIn (written_at l.memory l.note.knows.known) l.first l.last l.position;
   wallet : IsOf g.N.Naming.tokens l.wallet;
   room : IsRoomyFor l.memory l.wallet;
+  rooms : (m : ℕ) → IsRoomyFor m l.initial.wallet → IsRoomyFor m l.wallet;
   tickets : unclosed g.N.Naming.frame.world l.memory (written_at l.memory l.note.knows.known) ≤ left_of l.wallet l.memory;
   ended : (own : List Written) × HasEnded g.N.Naming.frame l.memory l.txn l.at l.first l.last l.position own l.initial.note.knows l.note.knows l.initial.wallet l.wallet;
 }
