@@ -1,4 +1,4 @@
--- A direct initiator after a blocking access or a debug read.
+-- An initiator after a blocking access or a debug read.
 use Rattle.std.proofs.Common.{◌≡◌, ℕ, suc, ◌+◌, ◌<◌, ◌≤◌, ◌&&◌, Bool, true, false, cond, List, [], ◌∷◌, ◌++◌, length, map, min, nat_lt, not, Option, Some, None, slice_get, refl, ap, sym, subst, ◌∙◌, arith}
 use Rattle.std.specs.Prelude.{IsTrue, IsSomeAnd, MatchOption, ◌==◌}
 use Rattle.std.specs.Option.{option_or}
@@ -24,7 +24,7 @@ use Rattle.tlm_types.specs.declared.words.TxnId.{TxnId}
 use Rattle.tlm_types.specs.declared.words.Way.TheVariants.{Blocking}
 use Rattle.tlm_model.specs.declared.platform.MemoryRow.{MemoryRow}
 use Rattle.tlm_model.specs.declared.platform.Style.{Style}
-use Rattle.tlm_model.specs.declared.platform.Style.TheVariants.{Direct}
+use Rattle.tlm_model.specs.declared.platform.Style.TheVariants.{Blocking as blocking_style, Direct, FourPhase as fourphase_style}
 use Rattle.tlm_model.specs.Log.{log_bytes}
 use Rattle.tlm_model.specs.Plan.{Plan, Initiator, initiators_of}
 use Rattle.tlm_model.specs.Requests.{Asked, DebugRead, Invalidation, Request, Transport, requests_of}
@@ -33,7 +33,7 @@ use Rattle.tlm_model.specs.Scripts.{IsGrantee}
 use Rattle.tlm_model.specs.Store.{checked, is_allowed, span_of, status_by, status_of}
 use Rattle.grant_model.specs.Grants.{asks, dmi_of, has_dmi, is_hinting, is_ok, last_of, plain_of}
 use Rattle.grant_model.specs.Kept.{is_direct_way}
-use Rattle.grant_model.specs.Plain.{is_direct, is_plain_at, may_go_direct}
+use Rattle.grant_model.specs.Plain.{is_direct, may_go_direct}
 use Rattle.joined_runs.specs.Joined.{KeepsOwn}
 use Rattle.joined_grants.specs.Growing.{TellsNext}
 use Rattle.joined_grants.specs.Parts.{KnowsAllGiven}
@@ -182,9 +182,11 @@ at_row : (P : MemoryTraits → Type 0) (o : Option MemoryRow) (t : MemoryTraits)
 at_row P None t is holds = absurd is
 at_row P (Some row) t is holds = subst P is holds
 
--- whether a direct initiator's next access may go direct
-pub may_go : (i : Initiator) (s : ℕ) (plain : Bool) → i.row.style ≡ Direct → is_plain_at i.script s ≡ plain → may_go_direct i s ≡ plain
-may_go i s plain direct is = ap (λ (style : Style). is_direct style && is_plain_at i.script s) direct ∙ is
+-- the style of those that go direct
+pub direct_by : (s : Style) → is_direct s ≡ true → s ≡ Direct
+direct_by blocking_style is = absurd (let wrong : false ≡ true = is in cc)
+direct_by Direct is = refl
+direct_by fourphase_style is = absurd (let wrong : false ≡ true = is in cc)
 
 abbrev route_with : ℕ → ℕ → RouteOfModel → Route
 route_with before latency end = record { memory = end.memory; offset = end.offset; before = before; latency = latency }
@@ -233,9 +235,9 @@ module _ (frame : Frame Plan) (r : Run) (x : Transfer) (route : Route) (note : V
   route_found_at : (a : ℕ) → a ≡ x.address → route_at p (i).number a ≡ Some route
   route_found_at a is = route_found (i).number a (number frame r note note old t job) is
 
-  -- it may go direct where it is plain
-  pub may_go_next : may_go_direct i r.engine.seq ≡ is_plain_kind x.kind
-  may_go_next = may_go i r.engine.seq (is_plain_kind x.kind) job.direct (plain_next i r.engine x job.made.stands reached.next)
+  -- that of a direct initiator may go direct where it is plain
+  pub may_go_next : may_go_direct i r.engine.seq ≡ (is_direct (i).row.style && is_plain_kind x.kind)
+  may_go_next = ap (λ (b : Bool). is_direct (i).row.style && b) (plain_next i r.engine x job.made.stands reached.next)
 
   abbrev filled : PayloadView
   filled = payload_of r.engine 4096
@@ -286,14 +288,14 @@ module _ (frame : Frame Plan) (r : Run) (x : Transfer) (route : Route) (note : V
     numbered = own_number frame r note back old t job
 
     is_for : IsFor p i job.mine q e
-    is_for = next_is_for p i job.mine r x route numbered job.direct reached.next route_of_next job.made.come e txn_is
+    is_for = next_is_for p i job.mine r x route numbered job.decoupled reached.next route_of_next job.made.come e txn_is
 
     pub keeps : KeepsOwn p (job.mine ++ e ∷ [])
     keeps =
         let bytes = log_bytes (m).traits (m).log.entries in
         let same = entry_is p i r x m route called.position job.made.come.stage reached.next route_of_next called.number own in
         keeps_more p i job.mine q e is_for
-        (subst (IsDoneFor p i job.mine q) (sym same) (done_by_way p i job.mine r x route numbered job.direct reached.next route_of_next job.made.come (way_of (q).asked) (m).traits bytes called.position (way_allowed x filled (current_time r.keeper) job.made.come.stage)))
+        (subst (IsDoneFor p i job.mine q) (sym same) (done_by_way p i job.mine r x route numbered job.decoupled reached.next route_of_next job.made.come (way_of (q).asked) (m).traits bytes called.position (way_allowed (i).row.style x filled (current_time r.keeper) job.made.come.stage job.decoupled)))
         job.made.keeps
 
     sized : length (filled).bytes ≡ x.length
@@ -308,7 +310,7 @@ module _ (frame : Frame Plan) (r : Run) (x : Transfer) (route : Route) (note : V
     -- no grant that is held covers it
     uncovered : IsTrue (may_go_direct i (q).seq) → (0 < (the_access).length) × ((y : Held) → Has t.held y → covers (q).address (the_access).length (the_access).command y ≡ false)
     uncovered may =
-        let plain : is_plain_kind x.kind ≡ true = sym may_go_next ∙ (ap (may_go_direct i) (sym seq) ∙ may) in
+        let plain : is_plain_kind x.kind ≡ true = (and_parts (is_direct (i).row.style) (is_plain_kind x.kind) (sym may_go_next ∙ (ap (may_go_direct i) (sym seq) ∙ may))).1 in
         let asked = plain_asked x.kind x.length filled plain in
         let length_is : (the_access).length ≡ x.length = ap (λ (a : Asked). (access_at (model_route route) a).length) asked ∙ sized in
         let command_is : (the_access).command ≡ command_in x.kind = ap (λ (a : Asked). (access_at (model_route route) a).command) asked ∙ commanded in
@@ -331,31 +333,37 @@ module _ (frame : Frame Plan) (r : Run) (x : Transfer) (route : Route) (note : V
     last_is : last_of (i).number (job.mine ++ e ∷ []) ≡ Some e
     last_is = last_push (i).number job.mine e own
 
-    -- it asks for a grant where it is plain and has the hint
-    asks_is : asks p e ≡ (is_plain_kind x.kind && payload.hint)
-    asks_is = by (is_plain_kind x.kind) refl
+    -- a direct initiator asks for a grant where it is plain and has the hint
+    abbrev goes : Bool
+    goes = is_direct (i).row.style && is_plain_kind x.kind
+
+    asks_is : asks p e ≡ (goes && payload.hint)
+    asks_is = by goes refl
       where
-        plain_is : plain_of (slice_get (initiators_of p) (e).txn.initiator) (e).txn.seq ≡ is_plain_kind x.kind
+        plain_is : plain_of (slice_get (initiators_of p) (e).txn.initiator) (e).txn.seq ≡ goes
         plain_is = ap (λ (o : Option Initiator). plain_of o r.engine.seq) job.is ∙ may_go_next
 
-        by : (b : Bool) → is_plain_kind x.kind ≡ b → asks p e ≡ (is_plain_kind x.kind && payload.hint)
+        by : (b : Bool) → goes ≡ b → asks p e ≡ (goes && payload.hint)
         by false unplain =
             ap (λ (b : Bool). b && (is_hinting (e).what && has_dmi p.platform (e).object)) (plain_is ∙ unplain) ∙ ap (λ (b : Bool). b && payload.hint) (sym unplain)
-        by true plain =
+        by true going =
+            let plain : is_plain_kind x.kind ≡ true = (and_parts (is_direct (i).row.style) (is_plain_kind x.kind) going).1 in
             let hint : (is_hinting (e).what && (m).traits.dmi) ≡ payload.hint = hint_back m route (record { initiator = r.engine.initiator; seq = r.engine.seq }) (current_time r.keeper) route.before x.length x.kind filled plain ∙ ap (λ (y : PayloadView). y.hint) (sym called.answer) in
             let dmi : has_dmi p.platform (e).object ≡ (m).traits.dmi = ap (λ (k : ℕ). dmi_of (slice_get p.platform.memories k)) called.number ∙ dmi_is (slice_get p.platform.memories route.memory) (m).traits called.row in
             ap (λ (b : Bool). b && (is_hinting (e).what && has_dmi p.platform (e).object)) plain_is
-            ∙ ap (λ (b : Bool). is_plain_kind x.kind && b) (ap (λ (b : Bool). is_hinting (e).what && b) dmi ∙ hint)
+            ∙ ap (λ (b : Bool). goes && b) (ap (λ (b : Bool). is_hinting (e).what && b) dmi ∙ hint)
 
-    pub nothing_asked : (is_plain_kind x.kind && payload.hint) ≡ false → AsksNothing p i back (job.mine ++ e ∷ [])
+    pub nothing_asked : (goes && payload.hint) ≡ false → AsksNothing p i back (job.mine ++ e ∷ [])
     nothing_asked silent =
         subst (λ (o : Option Entry). MatchOption o (Unit {0}) (λ a. IsTrue (asks p a) → KnowsAllGiven p (known_to p back) back.seen a.object)) (sym last_is)
         (λ ask. absurd (let wrong : false ≡ true = sym silent ∙ (sym asks_is ∙ ask) in cc (wrong)))
 
     pub is_asking : (command : Command) (address : ℕ) (txn : TxnId) (time : ℕ) → command ≡ command_in x.kind → address ≡ x.address → txn ≡ record { initiator = r.engine.initiator; seq = r.engine.seq } → time ≡ later (current_time r.keeper) route.latency
-        → (is_plain_kind x.kind && payload.hint) ≡ true → IsAsking p i (job.mine ++ e ∷ []) command address route txn time
+        → (goes && payload.hint) ≡ true → IsAsking p i (job.mine ++ e ∷ []) command address route txn time
     is_asking command address txn time command_is address_is txn_at time_is asks_for =
-        let both = and_parts (is_plain_kind x.kind) payload.hint asks_for in
+        let hinting = and_parts goes payload.hint asks_for in
+        let going = and_parts (is_direct (i).row.style) (is_plain_kind x.kind) hinting.0 in
+        let both : (is_plain_kind x.kind ≡ true) × (payload.hint ≡ true) = (going.1, hinting.1) in
         let asked = plain_asked x.kind x.length filled both.0 in
         let some = plain_has_bytes i r.engine x job.made.stands job.made.come.proper reached.next both.0 in
         let plain = fills.plain r.engine 4096 x reached.next both.0 in
@@ -363,6 +371,7 @@ module _ (frame : Frame Plan) (r : Run) (x : Transfer) (route : Route) (note : V
         (ap (λ (y : PayloadView). y.hint) (sym called.answer) ∙ both.1) in
         record {
           entry = e;
+          direct = direct_by (i).row.style going.0;
           last = last_is;
           asks_it = asks_is ∙ asks_for;
           of = sym txn_at;
@@ -378,9 +387,9 @@ module _ (frame : Frame Plan) (r : Run) (x : Transfer) (route : Route) (note : V
         }
 
     -- after it the initiator waits for no grant, or is to ask for one
-    pub left_by : (wants : Bool) → (is_plain_kind x.kind && payload.hint) ≡ wants → IsLeft wants frame x route (txn_next r) (later (current_time r.keeper) route.latency) (accessed x route.latency payload.bytes r) back new t
+    pub left_by : (wants : Bool) → (goes && payload.hint) ≡ wants → IsLeft wants frame x route (txn_next r) (later (current_time r.keeper) route.latency) (accessed x route.latency payload.bytes r) back new t
     left_by false silent = record { is = access_sent; answered = nothing_asked silent }
     left_by true asks_for = (
       record { is = access_sent; asking = is_asking (command_in x.kind) x.address (txn_next r) (later (current_time r.keeper) route.latency) refl refl refl refl asks_for },
-      plain_moves r.engine x reached.next (and_parts (is_plain_kind x.kind) payload.hint asks_for).0,
+      plain_moves r.engine x reached.next (and_parts (is_direct (i).row.style) (is_plain_kind x.kind) (and_parts goes payload.hint asks_for).0).1,
     )

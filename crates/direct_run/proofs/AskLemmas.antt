@@ -1,4 +1,4 @@
--- A direct initiator after it has asked for a grant, and after it has found a grant stale.
+-- An initiator after it has asked for a grant, and after it has found a grant stale.
 use Rattle.std.proofs.Common.{◌≡◌, ◌⊎◌, ℕ, zero, suc, ◌+◌, ◌-◌, ◌<◌, ◌≤◌, ◌&&◌, Bool, true, false, nat_le, nat_lt, List, [], ◌∷◌, ◌++◌, length, map, take, drop, Option, Some, None, slice_get, refl, ap, sym, subst, ◌∙◌, inl, inr, ⊎_elim, arith, length-append}
 use Rattle.std.specs.Prelude.{IsTrue, IsSomeAnd, MatchOption, if◌then◌else◌, sum_by}
 use Rattle.std.proofs.lemmas.Bool.{and_from, cases_Bool, cases_eq, eq-eqb, le-leb, lt-ltb}
@@ -7,7 +7,7 @@ use Rattle.std.proofs.lemmas.List.Sums.{sum_by-cons, sum_by_more}
 use Rattle.std.proofs.lemmas.Option.{get_or_from_slice_get}
 use mathlib.Core.Option.{some}
 use Rattle.view_lists.specs.Lists.{Has}
-use Rattle.view_lists.proofs.Members.{has_either, has_later, has_left, has_one, has_right}
+use Rattle.view_lists.proofs.Members.{has_either, has_later, has_left, has_none, has_one, has_right}
 use Rattle.one_history.specs.declared.view.Frame.{Frame}
 use Rattle.one_history.specs.declared.view.View.{View}
 use Rattle.one_history.specs.Lists.{StandBelow}
@@ -29,9 +29,11 @@ use Rattle.tlm_model.specs.declared.platform.Style.{Style}
 use Rattle.tlm_model.specs.History.{is_object}
 use Rattle.tlm_model.specs.Plan.{Plan, Initiator, initiators_of}
 use Rattle.tlm_model.specs.Requests.{requests_of}
+use Rattle.tlm_model.specs.Route.{route_of}
 use Rattle.tlm_model.specs.Scripts.{IsGrantee, first_gate, has_gate}
 use Rattle.tlm_model.specs.Times.{HasTime, decoupled_time}
 use Rattle.tlm_model.specs.Store.{is_allowed}
+use Rattle.grant_model.specs.Plain.{is_direct}
 use Rattle.grant_model.specs.Grants.{asks, gives, is_cut_by, is_overlapped, plain_of}
 use Rattle.joined_grants.specs.Growing.{TellsNext}
 use Rattle.joined_grants.specs.Parts.{Knows, KnowsAllGiven}
@@ -59,7 +61,7 @@ use Rattle.dmi_grants.specs.Ranges.{AreAddressesOf}
 use Rattle.dmi_grants.specs.Table.{IsUsable, TableView, granted_by, is_held}
 use Rattle.dmi_grants.specs.Using.{IsFoundStale}
 use Rattle.dmi_grants.proofs.Asks.{IsGiven, given_below, given_by}
-use Rattle.dmi_grants.proofs.Counts.{fewer_by_one, some_left}
+use Rattle.dmi_grants.proofs.Counts.{count_most, fewer_by_one, some_left}
 use Rattle.dmi_grants.proofs.GateNumbers.{first_is, gates_are}
 use Rattle.dmi_grants.proofs.Known.{given_more, granted_in, known_more, log_given}
 use Rattle.direct_run.specs.Job.{AreBelow, AsksNothing, HasAllOf, HasTickets, HoldsGrants, IsAsking, IsAtEase, IsHeldGrant, IsInitiator}
@@ -67,17 +69,9 @@ use Rattle.direct_run.specs.Known.{known_to, ungiven}
 use Rattle.direct_run.proofs.AccessLemmas.{last_push, no_and}
 use Rattle.direct_run.proofs.EntryLemmas.{IsDoneFor, IsFor, come_granted, keeps_more}
 use Rattle.direct_run.proofs.JobLemmas.{entries_here, entries_there, learns_more, made_more, own_more, own_number, returned_more, still_held, still_nothing}
-use Rattle.direct_run.proofs.KnownLemmas.{HasEntered, all_given, all_of, all_ungiven_one, below_of, entry_by, made_enters, read_at, read_more, ungiven_less}
+use Rattle.direct_run.proofs.KnownLemmas.{HasEntered, all_given, all_of, all_ungiven_one, below_of, entry_by, made_enters, read_at, read_more}
 use Rattle.direct_run.proofs.TellLemmas.{led_to, tells_grant}
-
--- no more gates are counted than there are
-pub count_most : (test : ℕ → Bool) (g n : ℕ) → count_without test g n ≤ n
-count_most test g zero = omega arith
-count_most test g (suc n) = let rest = count_most test (g + 1) n in let here = one (test g) in omega (arith, rest, here)
-  where
-    one : (b : Bool) → (if b then 0 else 1) ≤ 1
-    one true = omega arith
-    one false = omega arith
+use Rattle.direct_run.proofs.TicketLemmas.{gates_left_given, gates_left_less, granted, may_be_granted, routed_path, some_ungiven}
 
 gates_below : (xs : List MemoryRow) (m : ℕ) (row : MemoryRow) → slice_get xs m ≡ Some row → row.traits.gates ≤ sum_by (λ (y : MemoryRow). y.traits.gates) (take (length xs) xs)
 gates_below [] m row at = absurd (cc (at))
@@ -176,20 +170,27 @@ module _ (frame : Frame Plan) (r : Run) (note : View Content Plan) (old : Purse)
       let leads = led_to p i address route (own_number frame r note note old t job) asking.leads in
       ap (λ o. leads_to o route.memory) leads ∙ eq-eqb route.memory route.memory refl
 
+  goes : is_direct (i).row.style ≡ true
+  goes = ap is_direct asking.direct
+
+  granted_here : granted p i route.memory ≡ true
+  granted_here = may_be_granted p i route.memory asking.direct (routed_path p i route.memory address job.valid (route_of p.platform i address) refl routed_there)
+
   -- it may ask
   pub may_ask : MayAsk p command t note old route
   may_ask = record {
     inside = asking.inside;
     places =
         (let few = job.holds.few in
-        let room = job.holds.room in
+        let room = job.holds.room goes in
         let most = dmi_most p route.memory in
         let count = count_most (is_held t.held route.memory) (first_gate p.platform route.memory) (dmi_gates p route.memory) in
         omega arith);
     known = λ h has here. subst (λ (m : ℕ). HasGrant (written_at m note.known) h.gate h.first h.last h.kind) here (job.holds.held h has).usable.granted;
     room = job.roomy route.memory there;
     ticket = λ none.
-        let enough = (job.tickets route.memory there).grants address routed_there in
+        let enough = (job.tickets route.memory there).asks in
+        let some = some_ungiven p i route.memory note.known granted_here in
         with_given p route.memory (written_at route.memory note.known) command (slice_get p.platform.memories route.memory) asking.allowed (none_left p route.memory (written_at route.memory note.known) (omega arith));
   }
 
@@ -279,10 +280,10 @@ module _ (frame : Frame Plan) (r : Run) (note : View Content Plan) (old : Purse)
     done : IsDoneFor p i job.mine asking.request g
     done = record {
       replies = tt;
-      way = subst (λ (s : Style). IsGrantee s asking.request.asked) (sym job.direct) asking.grantee;
+      way = subst (λ (s : Style). IsGrantee s asking.request.asked) (sym asking.direct) asking.grantee;
       order = tt;
       place = subst (λ (k : ℕ). IsTrue (has_gate p.platform k (h).gate)) (sym taken.usable.memory) has_its_gate;
-      time = subst (λ (s : Style). HasTime s (decoupled_time p.platform i asking.request (g).what) (g).time) (sym job.direct) (taken.told.1 ∙ asking.at);
+      time = subst (λ (s : Style). HasTime s (decoupled_time p.platform i asking.request (g).what) (g).time) (sym asking.direct) (taken.told.1 ∙ asking.at);
     }
 
     keeps : KeepsOwn p (job.mine ++ g ∷ [])
@@ -341,6 +342,7 @@ module _ (frame : Frame Plan) (r : Run) (note : View Content Plan) (old : Purse)
           let count = length-append t.held (h ∷ []) in
           omega arith);
       room = job.holds.room;
+      none = λ undirect. absurd (let wrong : false ≡ true = sym undirect ∙ goes in cc (wrong));
     }
 
     tickets : (k : ℕ) → HasTickets p i r note old job.mine k → HasTickets p i r back new (job.mine ++ g ∷ []) k
@@ -351,23 +353,24 @@ module _ (frame : Frame Plan) (r : Run) (note : View Content Plan) (old : Purse)
             let left : left_of new k + 1 ≡ left_of old k = subst (λ (j : ℕ). left_of new j + 1 ≡ left_of old j) (sym here) spent.here in
             let less : ungiven p back.known k + 1 ≤ ungiven p note.known k = subst (λ (j : ℕ). ungiven p back.known j + 1 ≤ ungiven p note.known j) (sym here) one_less in
             let led : IsTrue (is_routed_to p i k address) = subst (λ (j : ℕ). IsTrue (is_routed_to p i j address)) (sym here) routed_there in
-            let enough = has.grants address led in
+            let fewer = gates_left_given p i k note.known back.known entered.keeps (may_be_granted p i k asking.direct (routed_path p i k address job.valid (route_of p.platform i address) refl led)) less in
+            let enough = has.asks in
             let more = entries_here frame r note back old t job r route.memory g entered own k here in
             let all = has.all in
             let fits = has.bytes in
             let kept = spent.bytes k in
-            record { asks = omega arith; grants = λ a leads. omega arith; bytes = omega arith; all = omega arith }
+            record { asks = omega arith; bytes = omega arith; all = omega arith }
 
         at_others : (k ≡ route.memory → ⊥) → HasTickets p i r back new (job.mine ++ g ∷ []) k
         at_others other =
             let left = spent.others k other in
-            let less = ungiven_less p note.known back.known k entered.keeps in
+            let less = gates_left_less p i k note.known back.known entered.keeps in
             let more = entries_there frame r note back old t job r route.memory g entered own k other in
             let asks = has.asks in
             let all = has.all in
             let fits = has.bytes in
             let kept = spent.bytes k in
-            record { asks = omega arith; grants = λ a leads. (let enough = has.grants a leads in omega arith); bytes = omega arith; all = omega arith }
+            record { asks = omega arith; bytes = omega arith; all = omega arith }
 
     abbrev granted_on : IsInitiator frame r back new with_it
     granted_on = record {
@@ -375,7 +378,7 @@ module _ (frame : Frame Plan) (r : Run) (note : View Content Plan) (old : Purse)
       initiator = i;
       mine = job.mine ++ g ∷ [];
       is = job.is;
-      direct = job.direct;
+      decoupled = job.decoupled;
       below = entered.below;
       made = made_more frame r note back old t job r route.memory g entered own (come_granted p.platform i job.mine r g refl job.made.come) keeps job.made.stands tt;
       holds = holds;
@@ -440,7 +443,7 @@ module _ (frame : Frame Plan) (r : Run) (note back : View Content Plan) (old : P
     initiator = job.initiator;
     mine = job.mine;
     is = on.is;
-    direct = on.direct;
+    decoupled = on.decoupled;
     below = on.below;
     made = on.made;
     holds = record {
@@ -458,6 +461,7 @@ module _ (frame : Frame Plan) (r : Run) (note back : View Content Plan) (old : P
           let left = length-append front rest in
           omega arith);
       room = on.holds.room;
+      none = λ undirect. absurd (has_none h (subst (λ (l : List Held). Has l h) (on.holds.none undirect) held_in));
     };
     tickets = on.tickets;
     roomy = on.roomy;

@@ -1,9 +1,8 @@
--- A direct initiator before its first turn has the tickets for all that its script asks for, and for a grant of each gate.
-use Rattle.std.proofs.Common.{◌≡◌, ◌⊎◌, ℕ, zero, suc, ◌+◌, ◌*◌, ◌<◌, ◌≤◌, ◌&&◌, Bool, true, false, cond, List, [], ◌∷◌, length, Option, Some, None, slice_get, refl, ap, sym, subst, ◌∙◌, inl, inr, arith}
-use Rattle.std.specs.List.{AllByRecursion, flat_map, list_any}
+-- An initiator before its first turn has the tickets for all that its script asks for, and a direct one for a grant of each gate.
+use Rattle.std.proofs.Common.{◌≡◌, ◌≢◌, ◌⊎◌, ℕ, zero, suc, ◌+◌, ◌*◌, ◌<◌, ◌≤◌, Bool, true, List, [], ◌∷◌, length, Option, Some, None, slice_get, refl, ap, sym, subst, ◌∙◌, inl, inr, arith}
 use Rattle.std.specs.Prelude.{IsSome, IsSomeAnd}
 use Rattle.std.specs.FinMap as map
-use Rattle.std.proofs.lemmas.Bool.{cases_eq, eqb-true}
+use Rattle.std.proofs.lemmas.Bool.{cases_eq}
 use Rattle.std.proofs.lemmas.List.Sums.{sum_by-take-le}
 use mathlib.Core.Option.{some}
 use Rattle.atomic_table.specs.Seated.{TableId}
@@ -17,28 +16,23 @@ use Rattle.token_book.specs.Purse.{HasPlace, Purse, bytes_of, left_in, left_of}
 use Rattle.tlm_types.specs.declared.entry.Content.{Content}
 use Rattle.tlm_types.specs.declared.words.ObjectNo.TheVariants.{Memory}
 use Rattle.tlm_model.specs.declared.operation.Operation.{Operation}
-use Rattle.tlm_model.specs.declared.operation.Operation.TheVariants.{Invalidate}
 use Rattle.tlm_model.specs.declared.platform.InitiatorRow.{InitiatorRow}
 use Rattle.tlm_model.specs.declared.platform.MemoryRow.{MemoryRow}
 use Rattle.tlm_model.specs.declared.platform.Style.{Style}
-use Rattle.tlm_model.specs.declared.platform.Style.TheVariants.{Direct}
-use Rattle.tlm_model.specs.declared.platform.Target.TheVariants.{Memory as memory_target}
-use Rattle.tlm_model.specs.Actions.{asks_of}
+use Rattle.tlm_model.specs.declared.platform.Style.TheVariants.{FourPhase}
 use Rattle.tlm_model.specs.Plan.{Plan, Initiator, initiators_from, initiators_of}
-use Rattle.tlm_model.specs.Route.{Route as RouteOfModel, route_of}
 use Rattle.tlm_model.specs.Scripts.{first_gate}
 use Rattle.tlm_model.proofs.InitiatorLemmas.{initiator_from}
 use Rattle.generic_payload.specs.Payload.{PayloadView}
 use Rattle.joined_grants.proofs.Tables.{table_begins}
 use Rattle.route_plan.specs.Counted.{logged_share_at, logged_share_by, share_at, share_by}
-use Rattle.route_plan.specs.Paths.{has_path, once}
-use Rattle.route_plan.specs.Planned.{asks_in, at_gates, gates_by, invalidates, is_direct, leads_to, logged_share, share_of}
+use Rattle.grant_model.specs.Plain.{is_direct as is_direct_style}
+use Rattle.route_plan.specs.Planned.{at_gates, logged_share, share_of}
 use Rattle.route_plan.specs.Valid.{IsValid}
 use Rattle.route_plan.proofs.ShareLemmas.{count_initiators}
 use Rattle.script_engine.specs.State.{State, begun_engine}
 use Rattle.script_engine.proofs.Remaining.{few_numbers}
 use Rattle.script_engine.proofs.Steps.{begins}
-use Rattle.traffic_script.specs.Proper.{IsProper}
 use Rattle.initiator_run.specs.Come.{HasCome}
 use Rattle.initiator_run.specs.Left.{asked_in, logged_in}
 use Rattle.initiator_run.specs.Run.{Run, fresh_run}
@@ -51,35 +45,15 @@ use Rattle.plat_build.specs.declared.kept.Start.{Start}
 use Rattle.plat_build.specs.Kept.{HasShares, IsStart}
 use Rattle.plat_net.proofs.NumberLemmas.{memory_there}
 use Rattle.plat_net.proofs.ObjectLemmas.{more_objects}
-use Rattle.dmi_grants.specs.Made.{IsRoomyFor, dmi_gates, dmi_gates_of, is_given_in}
+use Rattle.dmi_grants.specs.Made.{IsRoomyFor, dmi_gates, is_given_in}
 use Rattle.dmi_grants.specs.Table.{TableView}
-use Rattle.dmi_grants.proofs.OnlyWay.{walked_has_path}
 use Rattle.shared_object.specs.Written.{written_at}
-use Rattle.direct_run.specs.Job.{HasTickets, IsAtEase, IsJob}
+use Rattle.direct_run.specs.Job.{HasTickets, IsAtEase, IsJob, goes_direct, is_direct_row}
 use Rattle.direct_run.specs.Known.{all_ungiven}
-use Rattle.direct_run.proofs.AskLemmas.{count_most, dmi_below, gates_at, row_at}
+use Rattle.direct_run.proofs.AskLemmas.{dmi_below, gates_at, row_at}
 use Rattle.direct_run.proofs.ScriptLemmas.{begins_in_script}
-
--- a proper script invalidates nothing
-never_invalidates : (p : Plan) (i : Initiator) (m : ℕ) (ops : List Operation) → AllByRecursion IsProper ops → list_any (invalidates p i m) (flat_map asks_of ops) ≡ false
-never_invalidates p i m [] proper = refl
-never_invalidates p i m (Invalidate a n ∷ ops) proper = absurd proper.0
-never_invalidates p i m (op ∷ ops) proper = never_invalidates p i m ops proper.1
-
--- a direct initiator may get each gate of a memory to which it has a path
-gates_shared : (p : Plan) (i : Initiator) (m : ℕ) (row : Option MemoryRow) → i.row.style ≡ Direct → AllByRecursion IsProper i.script → has_path p.platform i.row (memory_target m) ≡ true → dmi_gates_of row ≤ gates_by p i m row
-gates_shared p i m None direct proper path = omega arith
-gates_shared p i m (Some row) direct proper path = by_cases row.traits.dmi
-  where
-    opens : once (is_direct i.row.style && has_path p.platform i.row (memory_target m)) ≡ 1
-    opens = ap (λ (style : Style). once (is_direct style && has_path p.platform i.row (memory_target m))) direct ∙ ap once path
-
-    closes : once (list_any (invalidates p i m) (asks_in i)) ≡ 0
-    closes = ap once (never_invalidates p i m i.script proper)
-
-    by_cases : (b : Bool) → cond b row.traits.gates 0 ≤ cond b (row.traits.gates * (once (is_direct i.row.style && has_path p.platform i.row (memory_target m)) + once (list_any (invalidates p i m) (asks_in i)))) 0
-    by_cases true = let a = opens in let b = closes in rw (a, b) (omega arith)
-    by_cases false = omega arith
+use Rattle.direct_run.proofs.TicketLemmas.{gates_shared}
+use Rattle.dmi_grants.proofs.Counts.{count_most}
 
 asks_shared : (p : Plan) (i : Initiator) (m : ℕ) → asked_in p i m i.script + at_gates p i m ≡ share_of p i (Memory m)
 unfolding share_of
@@ -89,15 +63,8 @@ bytes_shared : (p : Plan) (i : Initiator) (m : ℕ) → logged_in p i m i.script
 unfolding logged_share
 bytes_shared p i m = refl
 
--- an address that leads to a memory makes a path
-routed_path : (p : Plan) (i : Initiator) (m a : ℕ) → IsValid p → (o : Option RouteOfModel) → route_of p.platform i a ≡ o → leads_to o m ≡ true → has_path p.platform i.row (memory_target m) ≡ true
-routed_path p i m a valid None is leads = absurd (let wrong : false ≡ true = leads in cc (wrong))
-routed_path p i m a valid (Some r) is leads =
-    let same : r.memory ≡ m = eqb-true r.memory m leads in
-    subst (λ (k : ℕ). has_path p.platform i.row (memory_target k) ≡ true) same (walked_has_path p.platform valid.shape i.row a r.memory r.offset is)
-
 -- a wallet has no tickets of an object that has no place in it
-nothing_past : (w : Purse) (n k : ℕ) → ((o : ℕ) → HasPlace w o → o < n) → n ≤ k → left_of w k ≡ 0
+pub nothing_past : (w : Purse) (n k : ℕ) → ((o : ℕ) → HasPlace w o → o < n) → n ≤ k → left_of w k ≡ 0
 nothing_past w n k few past = by (map.get w.held k) refl
   where
     by : (pocket : Option Pocket) → map.get w.held k ≡ pocket → left_in pocket ≡ 0
@@ -138,7 +105,7 @@ has_to (suc n) k less = by (cases_eq k n) (λ below. has_to n k below)
     by (inl same) rest = (0, ap some (sym same))
     by (inr other) rest = has_later n (numbers_to n) k (rest (omega arith))
 
-module _ (frame : Frame Plan) (valid : IsValid frame.world) (n : ℕ) (i : Initiator) (at : slice_get (initiators_of frame.world) n ≡ Some i) (direct : i.row.style ≡ Direct) (v : View Content Plan) (blank : v.known ≡ []) (w : Purse) (tokens : TableId) (shares : HasShares tokens frame.world n w) where
+module _ (frame : Frame Plan) (valid : IsValid frame.world) (n : ℕ) (i : Initiator) (at : slice_get (initiators_of frame.world) n ≡ Some i) (decoupled : i.row.style ≢ FourPhase) (v : View Content Plan) (blank : v.known ≡ []) (w : Purse) (tokens : TableId) (shares : HasShares tokens frame.world n w) where
   abbrev p : Plan
   p = frame.world
 
@@ -150,7 +117,6 @@ module _ (frame : Frame Plan) (valid : IsValid frame.world) (n : ℕ) (i : Initi
 
   tickets_begun : (m : ℕ) → m < length p.platform.memories → HasTickets p i run v w [] m
   tickets_begun m below =
-      let script = proper_at p valid n i at in
       let share : share_at p i.number (Memory m) ≡ share_of p i (Memory m) = ap (λ (k : ℕ). share_at p k (Memory m)) number ∙ ap (share_by p (Memory m)) at in
       let logged : logged_share_at p n m ≡ logged_share p i m = ap (logged_share_by p m) at in
       let there = memory_there p.platform m below in
@@ -159,12 +125,9 @@ module _ (frame : Frame Plan) (valid : IsValid frame.world) (n : ℕ) (i : Initi
       let bytes : bytes_of w m ≡ logged_share_at p n m = shares.bytes m (Memory m) there in
       let asks = asks_shared p i m in
       let logs = bytes_shared p i m in
-      let count = count_most (is_given_in (written_at m v.known)) (first_gate p.platform m) (dmi_gates p m) in
+      let gates = gates_shared p i m v.known in
       record {
         asks = omega arith;
-        grants = λ a leads.
-            let gates = gates_shared p i m (slice_get p.platform.memories m) direct script.each (routed_path p i m a valid (route_of p.platform i a) refl leads) in
-            omega arith;
         bytes = omega arith;
         all = omega arith;
       }
@@ -180,8 +143,8 @@ module _ (frame : Frame Plan) (valid : IsValid frame.world) (n : ℕ) (i : Initi
         has = has_to (length (objects_of p.platform)) m (omega arith);
       }
 
-  pub initiator_begun : IsAtEase frame run v w (record { held = []; room = 2048 })
-  initiator_begun =
+  pub initiator_begun : (room : ℕ) → (is_direct_style i.row.style ≡ true → room ≡ 2048) → IsAtEase frame run v w (record { held = []; room = room })
+  initiator_begun room enough =
       let script = proper_at p valid n i at in
       record {
         is = record {
@@ -189,7 +152,7 @@ module _ (frame : Frame Plan) (valid : IsValid frame.world) (n : ℕ) (i : Initi
           initiator = i;
           mine = [];
           is = at;
-          direct = direct;
+          decoupled = decoupled;
           below = λ e has. absurd (has_none e (subst (λ (l : List (HistoryEntry Content)). Has l e) blank has));
           made = record {
             rising = tt;
@@ -207,7 +170,8 @@ module _ (frame : Frame Plan) (valid : IsValid frame.world) (n : ℕ) (i : Initi
             table = λ h limit all below. table_begins h limit;
             held = λ x has. absurd (has_none x has);
             few = (let most = ungiven_most p v.known (length p.platform.memories) (omega arith) in omega arith);
-            room = (let most = sum_by-take-le (λ (y : MemoryRow). y.traits.gates) p.platform.memories (length p.platform.memories) in let few = valid.shape.bounded.gates in omega arith);
+            room = λ goes. (let is = enough goes in let most = sum_by-take-le (λ (y : MemoryRow). y.traits.gates) p.platform.memories (length p.platform.memories) in let few = valid.shape.bounded.gates in omega arith);
+            none = λ undirect. refl;
           };
           tickets = tickets_begun;
           roomy = roomy_begun;
@@ -218,7 +182,7 @@ module _ (frame : Frame Plan) (valid : IsValid frame.world) (n : ℕ) (i : Initi
       }
 
 -- an initiator has the row and the script of its number
-script_from : (k n : ℕ) (rows : List InitiatorRow) (scripts : List (List Operation)) (i : Initiator) → slice_get (initiators_from k rows scripts) n ≡ Some i → slice_get scripts n ≡ Some i.script
+pub script_from : (k n : ℕ) (rows : List InitiatorRow) (scripts : List (List Operation)) (i : Initiator) → slice_get (initiators_from k rows scripts) n ≡ Some i → slice_get scripts n ≡ Some i.script
 script_from k n [] scripts i is = cc
 script_from k n (row ∷ rows) [] i is = cc
 script_from k zero (row ∷ rows) (script ∷ scripts) i is =
@@ -229,19 +193,21 @@ script_from k (suc n) (row ∷ rows) (script ∷ scripts) i is = script_from (k 
 same_script : (a b : List Operation) → Some a ≡ Some b → a ≡ b
 same_script a b q = cc
 
-style_at : (o : Option InitiatorRow) (row : InitiatorRow) → o ≡ Some row → IsSomeAnd o (λ (y : InitiatorRow). y.style ≡ Direct) → row.style ≡ Direct
-style_at o row is holds = subst (λ (y : Option InitiatorRow). IsSomeAnd y (λ (z : InitiatorRow). z.style ≡ Direct)) is holds
+style_at : (P : Style → Type 0) (o : Option InitiatorRow) (row : InitiatorRow) → o ≡ Some row → IsSomeAnd o (λ (y : InitiatorRow). P y.style) → P row.style
+style_at P o row is holds = subst (λ (y : Option InitiatorRow). IsSomeAnd y (λ (z : InitiatorRow). P z.style)) is holds
 
 -- a job before its first turn
-pub job_begun : (frame : Frame Plan) (table tokens : TableId) (n : ℕ) (s : Start) (run : Run) (quantum room : ℕ) (script : List Operation) (t : TableView) → IsValid frame.world → n < length frame.world.platform.initiators → IsSomeAnd (slice_get frame.world.platform.initiators n) (λ (row : InitiatorRow). row.style ≡ Direct)
-    → IsStart table tokens frame.world n s → slice_get frame.world.scripts n ≡ Some script → quantum ≡ frame.world.platform.quantum → room ≡ 2 * length script
-    → run ≡ record (fresh_run 0 [] quantum room) { engine = s.engine } → t ≡ record { held = []; room = 2048 } → IsJob table tokens frame run s.payload s.note s.wallet t
-job_begun frame table tokens n s run quantum room script t valid below direct start at quantum_is room_is run_is table_is =
+pub job_begun : (frame : Frame Plan) (table tokens : TableId) (d : Bool) (n : ℕ) (s : Start) (run : Run) (quantum room : ℕ) (script : List Operation) (gates : ℕ) (t : TableView) → IsValid frame.world → n < length frame.world.platform.initiators → IsSomeAnd (slice_get frame.world.platform.initiators n) (λ (row : InitiatorRow). row.style ≢ FourPhase)
+    → d ≡ goes_direct frame.world n → (d ≡ true → gates ≡ 2048) → IsStart table tokens frame.world n s → slice_get frame.world.scripts n ≡ Some script → quantum ≡ frame.world.platform.quantum → room ≡ 2 * length script
+    → run ≡ record (fresh_run 0 [] quantum room) { engine = s.engine } → t ≡ record { held = []; room = gates } → IsJob table tokens frame d run s.payload s.note s.wallet t
+job_begun frame table tokens d n s run quantum room script gates t valid below decoupled styled enough start at quantum_is room_is run_is table_is =
     let p : Plan = frame.world in
     let found = has_element (initiators_of p) n (omega (arith, count_initiators 0 p.platform.initiators p.scripts valid.scripts)) in
     let i = found.element in
     let mine : i.script ≡ script = same_script i.script script (sym (script_from 0 n p.platform.initiators p.scripts i found.at) ∙ at) in
-    let style : i.row.style ≡ Direct = style_at (slice_get p.platform.initiators n) i.row (initiator_from 0 p.platform.initiators p.scripts n i found.at).1 direct in
+    let row = (initiator_from 0 p.platform.initiators p.scripts n i found.at).1 in
+    let style : i.row.style ≢ FourPhase = style_at (λ (x : Style). x ≢ FourPhase) (slice_get p.platform.initiators n) i.row row decoupled in
+    let room_for : is_direct_style i.row.style ≡ true → gates ≡ 2048 = λ goes. enough (styled ∙ (ap is_direct_row row ∙ goes)) in
     let engine : s.engine ≡ begun_engine n i.script = subst (λ (o : Option (List Operation)). IsSomeAnd o (λ (x : List Operation). s.engine ≡ begun_engine n x)) at start.engine ∙ ap (begun_engine n) (sym mine) in
     let first : run ≡ fresh_run n i.script p.platform.quantum (2 * length i.script) =
     run_is
@@ -252,6 +218,7 @@ job_begun frame table tokens n s run quantum room script t valid below direct st
       note_of = start.note.is_note;
       wallet_of = start.wallet.of;
       roomy = ap (λ (x : PayloadView). x.room) start.payload;
+      styled = styled ∙ ap (λ (r : Run). goes_direct p r.engine.initiator) (sym first);
       is = subst (λ (r : Run). IsAtEase frame r s.note.knows s.wallet t) (sym first) (subst (IsAtEase frame (fresh_run n i.script p.platform.quantum (2 * length i.script)) s.note.knows s.wallet) (sym table_is)
-          (initiator_begun frame valid n i found.at style s.note.knows start.note.known s.wallet tokens start.wallet));
+          (initiator_begun frame valid n i found.at style s.note.knows start.note.known s.wallet tokens start.wallet gates room_for));
     }

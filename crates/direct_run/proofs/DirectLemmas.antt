@@ -1,11 +1,13 @@
--- A direct initiator after a direct access.
-use Rattle.std.proofs.Common.{◌≡◌, ℕ, ◌+◌, ◌-◌, ◌*◌, ◌<◌, ◌≤◌, true, false, List, [], ◌∷◌, ◌++◌, length, Option, Some, slice_get, refl, ap, sym, subst, ◌∙◌, arith}
+-- An initiator after a direct access.
+use Rattle.std.proofs.Common.{◌≡◌, ℕ, ◌+◌, ◌-◌, ◌*◌, ◌<◌, ◌≤◌, ◌&&◌, true, false, List, [], ◌∷◌, ◌++◌, length, Option, Some, slice_get, refl, ap, sym, subst, ◌∙◌, ⊎_elim, arith}
 use Rattle.std.specs.Prelude.{IsTrue, IsSomeAnd, MatchOption}
 use Rattle.view_lists.specs.Lists.{Has, Within}
 use Rattle.one_history.specs.declared.entry.Entry.{Entry as HistoryEntry}
 use Rattle.one_history.specs.declared.view.Frame.{Frame}
 use Rattle.one_history.specs.declared.view.View.{View}
 use Rattle.token_book.specs.Purse.{Purse, bytes_of, left_of}
+use Rattle.std.proofs.lemmas.Bool.{cases_Bool}
+use Rattle.view_lists.proofs.Members.{has_none}
 use Rattle.tlm_types.specs.declared.entry.Access.{Access}
 use Rattle.tlm_types.specs.declared.entry.Content.{Content}
 use Rattle.tlm_types.specs.declared.entry.Entry.{Entry}
@@ -17,6 +19,7 @@ use Rattle.tlm_types.specs.declared.words.Response.{Response}
 use Rattle.tlm_types.specs.declared.words.Response.TheVariants.{Ok}
 use Rattle.tlm_types.specs.declared.words.TxnId.{TxnId}
 use Rattle.tlm_types.specs.declared.words.Way.TheVariants.{Direct as by_grant}
+use Rattle.tlm_model.specs.declared.platform.Style.{Style}
 use Rattle.tlm_model.specs.declared.platform.Style.TheVariants.{Direct}
 use Rattle.tlm_model.specs.Log.{log_bytes}
 use Rattle.tlm_model.specs.Plan.{Plan, Initiator, initiators_of}
@@ -24,7 +27,7 @@ use Rattle.tlm_model.specs.Requests.{Asked, Request}
 use Rattle.tlm_model.specs.Scripts.{IsWay}
 use Rattle.tlm_model.specs.Store.{got_by, got_of, status_of, zeros}
 use Rattle.grant_model.specs.Grants.{asks, plain_of}
-use Rattle.grant_model.specs.Plain.{may_go_direct}
+use Rattle.grant_model.specs.Plain.{is_direct, may_go_direct}
 use Rattle.joined_runs.specs.Joined.{KeepsOwn}
 use Rattle.joined_grants.specs.Growing.{TellsNext}
 use Rattle.joined_grants.specs.Parts.{KnowsAllGiven}
@@ -56,7 +59,7 @@ use Rattle.dmi_grants.specs.Using.{HasGoneDirect, MayUse, at_offset}
 use Rattle.dmi_grants.proofs.Uses.{covered}
 use Rattle.direct_run.specs.Job.{AsksNothing, HasAllOf, IsAtEase, IsInitiator}
 use Rattle.direct_run.specs.Known.{known_to}
-use Rattle.direct_run.proofs.AccessLemmas.{last_push, may_go_next, memory_below, no_and, plain_asked, route_found, route_of_next}
+use Rattle.direct_run.proofs.AccessLemmas.{direct_by, last_push, may_go_next, memory_below, no_and, plain_asked, route_found, route_of_next}
 use Rattle.direct_run.proofs.EntryLemmas.{Answers, IsDoneFor, IsFor, come_answered, done_by_way, entry_by_way, keeps_more, next_is_for, request_next}
 use Rattle.direct_run.proofs.JobLemmas.{number, own_number, sent}
 use Rattle.direct_run.proofs.KnownLemmas.{HasEntered, entry_by, made_enters}
@@ -103,6 +106,13 @@ module _ (frame : Frame Plan) (r : Run) (x : Transfer) (route : Route) (note : V
 
   -- by a grant that covers it
   module _ (h : Held) (has : Has t.held h) (payload : PayloadView) (payload_is : payload ≡ filled) (plain : is_plain_kind x.kind ≡ true) (covered_by : IsTrue (covers payload.address (length payload.bytes) payload.command h)) where
+    -- only a direct initiator holds grants
+    is_direct_one : (i).row.style ≡ Direct
+    is_direct_one = direct_by (i).row.style (⊎_elim
+        (λ (goes : is_direct (i).row.style ≡ true). goes)
+        (λ (undirect : is_direct (i).row.style ≡ false). absurd (has_none h (subst (λ (l : List Held). Has l h) (job.holds.none undirect) has)))
+        (cases_Bool (is_direct (i).row.style)))
+
     address_is : payload.address ≡ x.address
     address_is = ap (λ (y : PayloadView). y.address) payload_is ∙ (fills.transfer r.engine 4096 x reached.next).1.address
 
@@ -208,13 +218,13 @@ module _ (frame : Frame Plan) (r : Run) (x : Transfer) (route : Route) (note : V
           ∙ ap (entry_of route.memory (record { initiator = (i).number; seq = (q).seq }) (current_time r.keeper)) access_is))
 
       is_for : IsFor p i job.mine q e
-      is_for = next_is_for p i job.mine r x route numbered job.direct reached.next (route_of_next frame r x route note old t job reached) job.made.come e its_txn
+      is_for = next_is_for p i job.mine r x route numbered job.decoupled reached.next (route_of_next frame r x route note old t job reached) job.made.come e its_txn
 
       keeps : KeepsOwn p (job.mine ++ e ∷ [])
       keeps =
-          let by : IsWay Direct (q).asked (by_grant h.gate) = subst (λ (y : Asked). IsWay Direct y (by_grant h.gate)) (sym (plain_asked x.kind x.length filled plain)) tt in
+          let by : IsWay (i).row.style (q).asked (by_grant h.gate) = subst (λ (s : Style). IsWay s (q).asked (by_grant h.gate)) (sym is_direct_one) (subst (λ (y : Asked). IsWay Direct y (by_grant h.gate)) (sym (plain_asked x.kind x.length filled plain)) tt) in
           keeps_more p i job.mine q e is_for
-          (subst (IsDoneFor p i job.mine q) (sym same) (done_by_way p i job.mine r x route numbered job.direct reached.next (route_of_next frame r x route note old t job reached) job.made.come (by_grant h.gate) (m).traits (log_bytes (m).traits (m).log.entries) gone.position by))
+          (subst (IsDoneFor p i job.mine q) (sym same) (done_by_way p i job.mine r x route numbered job.decoupled reached.next (route_of_next frame r x route note old t job reached) job.made.come (by_grant h.gate) (m).traits (log_bytes (m).traits (m).log.entries) gone.position by))
           job.made.keeps
 
       back_is : back ≡ accessed_at m (by_grant h.gate) (at_offset h payload)
@@ -249,7 +259,7 @@ module _ (frame : Frame Plan) (r : Run) (x : Transfer) (route : Route) (note : V
           tells_direct frame i note job.mine t numbered job.made.own job.below job.holds e q is_for (ap (λ (y : TxnId). y.initiator) own_txn) late l all
           h a got nothing has
           (ap (λ (s : Response). Accessed (by_grant h.gate) a s got) ok)
-          (ap (may_go_direct i) seq ∙ (may_go_next frame r x route note old t job reached ∙ plain)) some
+          (ap (may_go_direct i) seq ∙ (may_go_next frame r x route note old t job reached ∙ (ap (λ (s : Style). is_direct s && is_plain_kind x.kind) is_direct_one ∙ plain))) some
           (ap (λ (n : ℕ). covers n (length payload.bytes) payload.command h) (sym address_is) ∙ covered_by)
 
       -- the run, the note and the wallet after it

@@ -1,5 +1,5 @@
--- A direct initiator that has finished leaves what the end of a run and that of its grants want of it.
-use Rattle.std.proofs.Common.{◌≡◌, true, List, length, Option, Some, None, ap, subst, arith}
+-- An initiator that has finished leaves what the end of a run and that of its grants want of it.
+use Rattle.std.proofs.Common.{Bool, ◌≡◌, true, List, length, Option, Some, None, ap, subst, arith}
 use Rattle.std.specs.Prelude.{IsTrue, MatchOption}
 use Rattle.atomic_table.specs.Seated.{TableId}
 use Rattle.view_lists.specs.Lists.{Has, Within}
@@ -16,7 +16,8 @@ use Rattle.tlm_model.specs.History.{IsNumbered}
 use Rattle.tlm_model.specs.Plan.{Plan, Initiator}
 use Rattle.grant_model.specs.Grants.{asks, last_of}
 use Rattle.grant_model.specs.Kept.{GivesGatesInOrder}
-use Rattle.joined_grants.specs.Parts.{KnowsAllGiven}
+use Rattle.joined_grants.specs.Parts.{HasDoneGrants, KnowsAllGiven}
+use Rattle.joined_grants.specs.Places.{AreInPlace}
 use Rattle.joined_grants.proofs.Lists.{numbered_has}
 use Rattle.generic_payload.specs.Payload.{PayloadView}
 use Rattle.flow_model.specs.Events.{Event, entries}
@@ -29,7 +30,6 @@ use Rattle.initiator_run.proofs.EndLemmas.{HasCome-ended}
 use Rattle.net_end.specs.Closed.{events_in}
 use Rattle.net_end.specs.Finished.{IsRunDone}
 use Rattle.dmi_grants.specs.Table.{TableView}
-use Rattle.grant_end.specs.Done.{HasDoneGrants}
 use Rattle.direct_run.specs.End.{IsFinished}
 use Rattle.direct_run.specs.Job.{AreBelow, HasAllOf, IsAtEase, IsInitiator, IsJob}
 use Rattle.direct_run.specs.Known.{entry_read, known_to}
@@ -71,9 +71,14 @@ module _ (frame : Frame Plan) (r : Run) (v : View Content Plan) (w : Purse) (t :
           end_is = record { transactions = reached.transactions; syncs = reached.syncs; time = reached.end; refused = reached.refused };
         }
 
-    module _ (numbered : IsNumbered h) (gates : GivesGatesInOrder h) where
+    module _ (numbered : IsNumbered h) (gates : GivesGatesInOrder h) (places : AreInPlace (events_in p.platform all)) where
       has_all : HasAllOf p v h
-      has_all = record { within = known_there; numbered = numbered; gates = gates }
+      has_all = record {
+        within = known_there;
+        numbered = numbered;
+        gates = gates;
+        places = λ m e has at. places m (event_of p.platform e) (has_mapped (event_of p.platform) all e (tells e has)) at;
+      }
 
       below : AreBelow (known_to p v) (length h)
       below e has = let b = numbered_has 0 h e numbered (known_there e has) in let less = b.1 in omega arith
@@ -92,14 +97,14 @@ module _ (frame : Frame Plan) (r : Run) (v : View Content Plan) (w : Purse) (t :
       }
 
 -- so a job leaves what is wanted of one that has finished
-pub job_finished : (table tokens : TableId) (frame : Frame Plan) (r : Run) (payload : PayloadView) (note : Noted Content Plan) (w : Purse) (t : TableView) → IsJob table tokens frame r payload note w t → r.finished ≡ true → IsFinished table tokens frame.world r.engine.initiator (end_at r) note w
-job_finished table tokens frame r payload note w t job finished = record {
+pub job_finished : (table tokens : TableId) (frame : Frame Plan) (d : Bool) (r : Run) (payload : PayloadView) (note : Noted Content Plan) (w : Purse) (t : TableView) → IsJob table tokens frame d r payload note w t → r.finished ≡ true → IsFinished table tokens frame.world r.engine.initiator (end_at r) note w
+job_finished table tokens frame d r payload note w t job finished = record {
   note_of = job.note_of;
   wallet_of = job.wallet_of;
   no_others = job.is.is.no_others;
   initiator = job.is.is.initiator;
   at = job.is.is.is;
-  direct = job.is.is.direct;
+  decoupled = job.is.is.decoupled;
   done = λ all tells. run_done frame r note.knows w t job.is finished all tells;
   grants = λ all tells. grants_done frame r note.knows w t job.is finished all tells;
 }

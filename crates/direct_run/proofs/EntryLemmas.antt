@@ -1,5 +1,5 @@
--- One more own entry of a direct initiator: the access of the request that is next, or a grant.
-use Rattle.std.proofs.Common.{◌≡◌, ℕ, ◌≤◌, List, [], ◌∷◌, ◌++◌, length, Option, Some, None, Bool, true, false, cond, not, ◌||◌, ◌&&◌, nat_lt, refl, ap, sym, subst, ◌∙◌, arith, append_assoc}
+-- One more own entry of an initiator: the access of the request that is next, or a grant.
+use Rattle.std.proofs.Common.{◌≡◌, ◌≢◌, ℕ, ◌≤◌, List, [], ◌∷◌, ◌++◌, length, Option, Some, None, Bool, true, false, cond, not, ◌||◌, ◌&&◌, nat_lt, refl, ap, sym, subst, ◌∙◌, arith, append_assoc}
 use Rattle.std.specs.List.{AllByRecursion, list_all}
 use Rattle.std.specs.Prelude.{slice_get, MatchOption, IsTrue}
 use Rattle.std.proofs.lemmas.Bool.Decides.{nat_tests}
@@ -14,7 +14,7 @@ use Rattle.tlm_types.specs.declared.words.Response.{Response}
 use Rattle.tlm_types.specs.declared.words.Way.{Way}
 use Rattle.tlm_model.specs.declared.platform.Platform.{Platform}
 use Rattle.tlm_model.specs.declared.platform.Style.{Style}
-use Rattle.tlm_model.specs.declared.platform.Style.TheVariants.{Direct}
+use Rattle.tlm_model.specs.declared.platform.Style.TheVariants.{Blocking, Direct, FourPhase}
 use Rattle.tlm_model.specs.Plan.{Plan, Initiator, initiators_of}
 use Rattle.tlm_model.specs.Requests.{Asked, Transport, DebugRead, Invalidation, Request, answered, buffer_by, first_of_two, got_in, is_txn, requests_of}
 use Rattle.tlm_model.specs.Route.{Route as RouteOfModel, route_of}
@@ -43,6 +43,12 @@ use Rattle.initiator_run.proofs.AnswerLemmas.{all_settled-more, and_left, and_ri
 use Rattle.initiator_run.proofs.NextLemmas.{numbers_at, request_is_first, seq_of_next}
 use Rattle.initiator_run.proofs.RunLemmas.{laws}
 use Rattle.initiator_run.proofs.StepLemmas.{slice_get-after}
+
+-- what holds of both styles whose time is decoupled
+pub decoupled_style : (P : Style → Type 0) (s : Style) → s ≢ FourPhase → P Blocking → P Direct → P s
+decoupled_style P Blocking is blocking direct = blocking
+decoupled_style P Direct is blocking direct = direct
+decoupled_style P FourPhase is blocking direct = absurd (is refl)
 
 -- An entry is for a request that its initiator has asked for.
 pub record IsFor (p : Plan) (i : Initiator) (h : List Entry) (r : Request) (e : Entry) : Type 0 where
@@ -107,24 +113,28 @@ settled_anyway p i h s (q ∷ rs) is =
     or_true true = refl
     or_true false = refl
 
--- it comes after all that was settled
-next_in_order : (p : Platform) (i : Initiator) (h : List Entry) (r : Run) (x : Transfer) → i.row.style ≡ Direct → next_of r.engine ≡ Asks x → (come : HasCome p i h r) → IsInOrder p i h (request_next r x come.stage) true
-next_in_order p i h r x direct is come =
-    let q = request_next r x come.stage in
-    let seq : q.seq ≡ r.engine.seq = seq_of_next r.engine x is in
-    let first = request_is_first p i h (current_time r.keeper) come.stage 4096 r.engine x is in
-    let asked : requests_of p i h ≡ come.made ++ q ∷ first.more =
-    ap (requests_of p i) (sym (append_nil h)) ∙ (come.asked.asked [] ∙ (ap (λ (l : List Entry). come.made ++ requests_at p i l (current_time r.keeper) come.stage r.engine) (append_nil h) ∙ ap (λ (rs : List Request). come.made ++ rs) first.first)) in
-    let later : AllByRecursion (λ (y : Request). q.seq ≤ y.seq) (q ∷ first.more) =
-    subst (λ (s : ℕ). AllByRecursion (λ (y : Request). s ≤ y.seq) (q ∷ first.more)) (sym seq)
-    (subst (AllByRecursion (λ (y : Request). r.engine.seq ≤ y.seq)) first.first (numbers_at p i h (current_time r.keeper) come.stage r.engine)) in (
+-- a request that comes first of what is left comes after all that was settled
+pub in_order : (p : Platform) (i : Initiator) (h : List Entry) (r : Run) (q : Request) (more : List Request) → i.row.style ≢ FourPhase → (come : HasCome p i h r) → q.seq ≡ r.engine.seq → requests_at p i h (current_time r.keeper) come.stage r.engine ≡ q ∷ more → IsInOrder p i h q true
+in_order p i h r q more decoupled come seq first =
+    let asked : requests_of p i h ≡ come.made ++ q ∷ more =
+    ap (requests_of p i) (sym (append_nil h)) ∙ (come.asked.asked [] ∙ (ap (λ (l : List Entry). come.made ++ requests_at p i l (current_time r.keeper) come.stage r.engine) (append_nil h) ∙ ap (λ (rs : List Request). come.made ++ rs) first)) in
+    let later : AllByRecursion (λ (y : Request). q.seq ≤ y.seq) (q ∷ more) =
+    subst (λ (s : ℕ). AllByRecursion (λ (y : Request). s ≤ y.seq) (q ∷ more)) (sym seq)
+    (subst (AllByRecursion (λ (y : Request). r.engine.seq ≤ y.seq)) first (numbers_at p i h (current_time r.keeper) come.stage r.engine)) in (
       come.asked.fresh q.seq (omega (arith, seq, come.count)),
-      subst (λ (style : Style). IsTrue (list_all (λ y. not (comes_first style y q) || is_settled p i h y) (requests_of p i h))) (sym direct)
-          (ap (list_all (λ y. not (nat_lt y.seq q.seq) || is_settled p i h y)) asked
-          ∙ (list_all-append (λ y. not (nat_lt y.seq q.seq) || is_settled p i h y) come.made (q ∷ first.more)
-          ∙ and_true (list_all (λ y. not (nat_lt y.seq q.seq) || is_settled p i h y) come.made) (list_all (λ y. not (nat_lt y.seq q.seq) || is_settled p i h y) (q ∷ first.more))
-          (settled_anyway p i h q.seq come.made come.asked.settled) (rest_is_later p i h q.seq (q ∷ first.more) later))),
+      (let by_number : list_all (λ y. not (nat_lt y.seq q.seq) || is_settled p i h y) (requests_of p i h) ≡ true =
+          ap (list_all (λ y. not (nat_lt y.seq q.seq) || is_settled p i h y)) asked
+          ∙ (list_all-append (λ y. not (nat_lt y.seq q.seq) || is_settled p i h y) come.made (q ∷ more)
+          ∙ and_true (list_all (λ y. not (nat_lt y.seq q.seq) || is_settled p i h y) come.made) (list_all (λ y. not (nat_lt y.seq q.seq) || is_settled p i h y) (q ∷ more))
+          (settled_anyway p i h q.seq come.made come.asked.settled) (rest_is_later p i h q.seq (q ∷ more) later)) in
+          decoupled_style (λ (style : Style). IsTrue (list_all (λ y. not (comes_first style y q) || is_settled p i h y) (requests_of p i h))) i.row.style decoupled by_number by_number),
     )
+
+-- so does a transfer that is next
+next_in_order : (p : Platform) (i : Initiator) (h : List Entry) (r : Run) (x : Transfer) → i.row.style ≢ FourPhase → next_of r.engine ≡ Asks x → (come : HasCome p i h r) → IsInOrder p i h (request_next r x come.stage) true
+next_in_order p i h r x decoupled is come =
+    let first = request_is_first p i h (current_time r.keeper) come.stage 4096 r.engine x is in
+    in_order p i h r (request_next r x come.stage) first.more decoupled come (seq_of_next r.engine x is) first.first
 
 -- the entry of a request's access that came by this way, at a memory with these traits and bytes
 abbrev pub entry_by_way : Platform → Initiator → Request → Way → RouteOfModel → MemoryTraits → List ℕ → ℕ → Entry
@@ -144,7 +154,7 @@ entry_replies route o (Invalidation n) is q way status got = absurd is
 is_access : (x : Transfer) (payload : PayloadView) (t g : ℕ) → IsAccess (request_for x payload t g).asked
 is_access x payload t g = grind (arith, common_steps)
 
-module _ (p : Plan) (i : Initiator) (h : List Entry) (r : Run) (x : Transfer) (route : Route) (own_number : slice_get (initiators_of p) i.number ≡ Some i) (direct : i.row.style ≡ Direct) (next : next_of r.engine ≡ Asks x) (leads : IsRouteOf p i x.address route) (come : HasCome p.platform i h r) where
+module _ (p : Plan) (i : Initiator) (h : List Entry) (r : Run) (x : Transfer) (route : Route) (own_number : slice_get (initiators_of p) i.number ≡ Some i) (decoupled : i.row.style ≢ FourPhase) (next : next_of r.engine ≡ Asks x) (leads : IsRouteOf p i x.address route) (come : HasCome p.platform i h r) where
   abbrev q : Request
   q = request_next r x come.stage
 
@@ -161,19 +171,26 @@ module _ (p : Plan) (i : Initiator) (h : List Entry) (r : Run) (x : Transfer) (r
         ∙ (ap (λ (l : List Entry). slice_get (requests_of p.platform i l) r.engine.seq) (sym (append_nil h)) ∙ next_is_asked p.platform i h [] r x next come));
   }
 
-  -- by a way that a direct initiator's access may come
-  pub done_by_way : (way : Way) (m : MemoryTraits) (bytes : List ℕ) (position : ℕ) → IsWay Direct (q).asked way → IsDoneFor p i h q (entry_by_way p.platform i q way (model_route route) m bytes position)
+  -- by a way that its access may come
+  pub done_by_way : (way : Way) (m : MemoryTraits) (bytes : List ℕ) (position : ℕ) → IsWay i.row.style (q).asked way → IsDoneFor p i h q (entry_by_way p.platform i q way (model_route route) m bytes position)
   done_by_way way m bytes position by = record {
     replies = entry_replies (model_route route) (route_of p.platform i x.address) (q).asked (is_access x (payload_of r.engine 4096) (current_time r.keeper) come.stage) leads.leads way (status_of m way (access_at (model_route route) (q).asked)) (got_of way (status_of m way (access_at (model_route route) (q).asked)) (access_at (model_route route) (q).asked) bytes);
-    way = subst (λ (style : Style). IsWay style (q).asked way) (sym direct) by;
-    order = next_in_order p.platform i h r x direct next come;
+    way = by;
+    order = next_in_order p.platform i h r x decoupled next come;
     place = tt;
-    time = subst (λ (style : Style). HasTime style (access_time p.platform i q way) (access_time p.platform i q way)) (sym direct) refl;
+    time = decoupled_style (λ (style : Style). HasTime style (access_time p.platform i q way) (access_time p.platform i q way)) i.row.style decoupled refl refl;
   }
 
--- the way by which a blocking access or a debug read comes is one of a direct initiator
-pub way_allowed : (x : Transfer) (payload : PayloadView) (t g : ℕ) → IsWay Direct (request_for x payload t g).asked (way_of (request_for x payload t g).asked)
-way_allowed x payload t g = grind (arith, common_steps)
+blocking_way : (x : Transfer) (payload : PayloadView) (t g : ℕ) → IsWay Blocking (request_for x payload t g).asked (way_of (request_for x payload t g).asked)
+blocking_way x payload t g = grind (arith, common_steps)
+
+direct_way : (x : Transfer) (payload : PayloadView) (t g : ℕ) → IsWay Direct (request_for x payload t g).asked (way_of (request_for x payload t g).asked)
+direct_way x payload t g = grind (arith, common_steps)
+
+-- the way by which a blocking access or a debug read comes is one of an initiator that isn't four-phase
+pub way_allowed : (style : Style) (x : Transfer) (payload : PayloadView) (t g : ℕ) → style ≢ FourPhase → IsWay style (request_for x payload t g).asked (way_of (request_for x payload t g).asked)
+way_allowed style x payload t g decoupled =
+    decoupled_style (λ (s : Style). IsWay s (request_for x payload t g).asked (way_of (request_for x payload t g).asked)) style decoupled (blocking_way x payload t g) (direct_way x payload t g)
 
 own_txn : (i s : ℕ) → is_txn i s (record { initiator = i; seq = s }) ≡ true
 own_txn i s = grind (arith, nat_tests)

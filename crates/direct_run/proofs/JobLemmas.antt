@@ -1,4 +1,4 @@
--- A direct initiator after one more own entry, and as its note learns more.
+-- An initiator after one more own entry, and as its note learns more.
 use Rattle.std.proofs.Common.{◌≡◌, ℕ, ◌+◌, ◌-◌, ◌*◌, ◌<◌, ◌≤◌, ◌==◌, true, false, cond, List, [], ◌∷◌, ◌++◌, length, map, Option, Some, None, slice_get, ap, sym, subst, ◌∙◌, ⊎_elim, arith, length-append, append-nil}
 use Rattle.std.specs.Prelude.{IsTrue, MatchOption}
 use Rattle.std.proofs.lemmas.Bool.{cases_eq, cond-true, cond-false, eq-eqb, ne_eqb}
@@ -44,10 +44,11 @@ use Rattle.dmi_grants.specs.Made.{IsRoomyFor}
 use Rattle.dmi_grants.specs.Table.{TableView, granted_by}
 use Rattle.dmi_grants.proofs.Known.{grant_more, known_more}
 use Rattle.direct_run.specs.Job.{AreBelow, AsksNothing, HasAllOf, HasMade, HasTickets, HoldsGrants, IsHeldGrant, IsInitiator, position_of}
-use Rattle.direct_run.specs.Known.{known_to, ungiven}
+use Rattle.direct_run.specs.Known.{gates_left, known_to}
 use Rattle.direct_run.specs.Script.{IsInScript}
-use Rattle.direct_run.proofs.KnownLemmas.{HasEntered, all_of, all_ungiven_less, below_of, given_on, read_below, read_more, ungiven_less}
+use Rattle.direct_run.proofs.KnownLemmas.{HasEntered, all_of, all_ungiven_less, below_of, given_on, read_below, read_more}
 use Rattle.direct_run.proofs.ScriptLemmas.{due_has_bytes, stands_after}
+use Rattle.direct_run.proofs.TicketLemmas.{gates_left_less}
 
 -- a grant that is held is so as the note learns more
 pub still_held : (frame : Frame Plan) (i : Initiator) (note back : View Content Plan) (mine more : List Entry) (x : Held) → Within note.known back.known → Within mine more → IsHeldGrant frame i note mine x → IsHeldGrant frame i back more x
@@ -129,6 +130,7 @@ module _ (frame : Frame Plan) (r : Run) (note back : View Content Plan) (old : P
       held = λ x has. still_held frame i note back job.mine (job.mine ++ e ∷ []) x entered.keeps (λ y in_mine. has_left job.mine (e ∷ []) y in_mine) (job.holds.held x has);
       few = (let before = job.holds.few in let less = all_ungiven_less p note.known back.known (length p.platform.memories) entered.keeps in omega arith);
       room = job.holds.room;
+      none = job.holds.none;
     }
 
     pub entries_here : (k : ℕ) → k ≡ m → length (entries_at (Memory k) (job.mine ++ e ∷ [])) ≡ length (entries_at (Memory k) job.mine) + 1
@@ -189,10 +191,9 @@ module _ (frame : Frame Plan) (r : Run) (note back : View Content Plan) (old : P
           let left = t.0 in
           let all = t.2 in
           let enough = has.asks in
-          let less = ungiven_less p note.known back.known k entered.keeps in
+          let less = gates_left_less p i k note.known back.known entered.keeps in
           record {
-            asks = subst (λ (s : State). asks_left p i k s ≤ left_of new k) (sym engine_is) (omega arith);
-            grants = λ a led. let more = has.grants a led in subst (λ (s : State). asks_left p i k s + ungiven p back.known k ≤ left_of new k) (sym engine_is) (omega arith);
+            asks = subst (λ (s : State). asks_left p i k s + gates_left p i back.known k ≤ left_of new k) (sym engine_is) (omega arith);
             bytes = subst (λ (s : State). bytes_left p i k s ≤ bytes_of new k) (sym engine_is) t.1;
             all = all ∙ has.all;
           }
@@ -212,7 +213,7 @@ module _ (frame : Frame Plan) (r : Run) (note back : View Content Plan) (old : P
         initiator = i;
         mine = job.mine ++ e ∷ [];
         is = ap (slice_get (initiators_of p)) same_number ∙ job.is;
-        direct = job.direct;
+        decoupled = job.decoupled;
         below = entered.below;
         made = made_more come keeps stands decoupled;
         holds = holds_more no_grant none tells;
@@ -233,7 +234,7 @@ module _ (frame : Frame Plan) (r : Run) (note back : View Content Plan) (old : P
     initiator = i;
     mine = job.mine;
     is = job.is;
-    direct = job.direct;
+    decoupled = job.decoupled;
     below = below;
     made = record {
       rising = job.made.rising;
@@ -251,6 +252,7 @@ module _ (frame : Frame Plan) (r : Run) (note back : View Content Plan) (old : P
       held = λ x has. still_held frame i note back job.mine job.mine x keeps (λ y in_mine. in_mine) (job.holds.held x has);
       few = (let before = job.holds.few in let less = all_ungiven_less p note.known back.known (length p.platform.memories) keeps in omega arith);
       room = job.holds.room;
+      none = job.holds.none;
     };
     tickets = λ k there.
         let has = job.tickets k there in
@@ -259,10 +261,9 @@ module _ (frame : Frame Plan) (r : Run) (note back : View Content Plan) (old : P
         let fits = has.bytes in
         let kept = bytes k in
         let all = has.all in
-        let less = ungiven_less p note.known back.known k keeps in
+        let less = gates_left_less p i k note.known back.known keeps in
         record {
           asks = omega arith;
-          grants = λ a led. let more = has.grants a led in omega arith;
           bytes = omega arith;
           all = omega arith;
         };

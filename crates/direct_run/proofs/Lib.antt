@@ -1,5 +1,6 @@
 pub mod ScriptLemmas
 pub mod KnownLemmas
+pub mod TicketLemmas
 pub mod EntryLemmas
 pub mod TellLemmas
 pub mod JobLemmas
@@ -11,3 +12,4 @@ pub mod MoveLemmas
 pub mod EndLemmas
 pub mod PassLemmas
 pub mod BeginLemmas
+pub mod InvalidateLemmas

@@ -1,4 +1,4 @@
--- The moves of a direct initiator.
+-- The moves of an initiator.
 use Rattle.std.proofs.Common.{◌≡◌, ℕ, ◌<◌, ◌&&◌, Bool, true, false, List, length, Option, Some, None, slice_get, refl, ap, sym, subst, ◌∙◌}
 use Rattle.std.specs.Prelude.{IsTrue, IsSomeAnd, position}
 use Rattle.std.specs.Option.{ForSome}
@@ -16,6 +16,8 @@ use Rattle.tlm_model.specs.declared.platform.Style.{Style}
 use Rattle.tlm_model.specs.Plan.{Plan, Initiator, initiators_of}
 use Rattle.tlm_model.specs.Route.{later}
 use Rattle.flow_model.specs.Platform.{addresses_of, passage_by, passage_to}
+use Rattle.tlm_model.proofs.InitiatorLemmas.{initiator_from}
+use Rattle.grant_model.specs.Plain.{is_direct}
 use Rattle.generic_payload.specs.Payload.{PayloadView}
 use Rattle.region_object.specs.Call.{IsFit, payload_cost}
 use Rattle.region_object.specs.declared.call.RegionCall.{RegionCall}
@@ -44,12 +46,13 @@ use Rattle.dmi_grants.specs.Asking.{HasAsked, MayAsk}
 use Rattle.dmi_grants.specs.Made.{IsRoomyFor}
 use Rattle.dmi_grants.specs.Table.{TableView, covers}
 use Rattle.dmi_grants.specs.Using.{HasUsed, IsFoundStale, MayUse, note_of}
-use Rattle.direct_run.specs.Job.{IsAtEase, IsAtRest, IsInitiator, IsToAsk}
+use Rattle.direct_run.specs.Job.{IsAtEase, IsAtRest, IsInitiator, IsToAsk, goes_direct, is_direct_row}
 use Rattle.direct_run.specs.Moves.{ComesOf, HasMadeNext, IsLeft, IsToMake, txn_next}
 use Rattle.direct_run.specs.Sent.{IsSentBy}
 use Rattle.direct_run.proofs.AccessLemmas.{left_by, route_found, whole}
 use Rattle.direct_run.proofs.AskLemmas.{denied_ease, dropped_ease, granted_ease, has_at, may_ask}
 use Rattle.direct_run.proofs.DirectLemmas.{can_pay_next, direct_room, direct_whole, gone_ease, may_use}
+use Rattle.direct_run.proofs.EntryLemmas.{decoupled_style}
 use Rattle.direct_run.proofs.Finding.{none_passes}
 use Rattle.direct_run.proofs.JobLemmas.{number}
 use Rattle.direct_run.proofs.PassLemmas.{one_value}
@@ -62,11 +65,15 @@ sent_by transfer.DebugRead txn t before offset payload fit = fit
 payload_carries : (e : State) (x : Transfer) → next_of e ≡ Asks x → IsSentBy x.kind (payload_of e 4096)
 payload_carries e x is = sent_by x.kind (record { initiator = 0; seq = 0 }) 0 0 0 (payload_of e 4096) (payload_fits e x 4096 (record { initiator = 0; seq = 0 }) 0 0 0 is)
 
--- the transactions of a direct initiator pass no hop
+-- its transactions pass no hop
 pub none_pass : (frame : Frame Plan) (r : Run) (note : View Content Plan) (w : Purse) (t : TableView) → IsInitiator frame r note w t → (x : TxnId) → x.initiator ≡ r.engine.initiator → HasNoPassage frame.world x
 none_pass frame r note w t job x own =
     ap (λ (i : Option Initiator). passage_by frame.world.platform i x.seq) (ap (slice_get (initiators_of frame.world)) own ∙ job.is)
-    ∙ ap (λ (style : Style). passage_to frame.world.platform job.initiator style (slice_get (addresses_of job.initiator.script) x.seq)) job.direct
+    ∙ decoupled_style (λ (style : Style). passage_to frame.world.platform job.initiator style (slice_get (addresses_of job.initiator.script) x.seq) ≡ None) job.initiator.row.style job.decoupled refl refl
+
+-- whether it is a direct one is told by its row
+pub style_of_job : (frame : Frame Plan) (r : Run) (v : View Content Plan) (w : Purse) (t : TableView) → (job : IsInitiator frame r v w t) → goes_direct frame.world r.engine.initiator ≡ is_direct job.initiator.row.style
+style_of_job frame r v w t job = ap is_direct_row (initiator_from 0 frame.world.platform.initiators frame.world.scripts r.engine.initiator job.initiator job.is).1
 
 module _ (table tokens : TableId) (frame : Frame Plan) (r : Run) (x : Transfer) (route : Route) (payload : PayloadView) (note : Noted Content Plan) (w : Purse) (t : TableView) (ready : IsToMake table tokens frame r x route payload note w t) where
   abbrev p : Plan
@@ -90,11 +97,16 @@ module _ (table tokens : TableId) (frame : Frame Plan) (r : Run) (x : Transfer) 
   pub can_pay : CanPay payload w route
   can_pay = subst (λ (y : PayloadView). CanPay y w route) (sym ready.filled) (can_pay_next frame r x route note.knows w t job ready.reached)
 
+  -- one that isn't direct holds no grant
+  pub none_of_others : (d : Bool) → d ≡ goes_direct p r.engine.initiator → d ≡ false → position (covers x.address x.length (command_in x.kind)) t.held ≡ None
+  none_of_others d styled other =
+      subst (λ (l : List Held). position (covers x.address x.length (command_in x.kind)) l ≡ None) (sym ((job).holds.none (sym (style_of_job frame r note.knows w t job) ∙ (sym styled ∙ other)))) refl
+
   -- what transport has made of it
-  pub made_by_transport : (id : TxnId) (at : ℕ) (back : PayloadView) (noted : Noted Content Plan) (new : Purse) (wants : Bool) → (is_plain_kind x.kind ≡ true → position (covers x.address x.length (command_in x.kind)) t.held ≡ None) → id ≡ txn_next r → at ≡ current_time r.keeper
-      → IsCalled p route.memory (call_at x.kind id at route.before (record payload { address = route.offset })) note.knows noted.knows back → OneTicketLess route.memory (payload_cost payload) w new → IsNote table noted → IsOf tokens new → back.room ≡ payload.room → wants ≡ (is_plain_kind x.kind && back.hint)
+  pub made_by_transport : (d : Bool) (id : TxnId) (at : ℕ) (back : PayloadView) (noted : Noted Content Plan) (new : Purse) (wants : Bool) → d ≡ goes_direct p r.engine.initiator → (is_plain_kind x.kind ≡ true → position (covers x.address x.length (command_in x.kind)) t.held ≡ None) → id ≡ txn_next r → at ≡ current_time r.keeper
+      → IsCalled p route.memory (call_at x.kind id at route.before (record payload { address = route.offset })) note.knows noted.knows back → OneTicketLess route.memory (payload_cost payload) w new → IsNote table noted → IsOf tokens new → back.room ≡ payload.room → wants ≡ ((d && is_plain_kind x.kind) && back.hint)
       → HasMadeNext table tokens frame r x route wants back noted new t
-  made_by_transport id at back noted new wants none id_is at_is entry ticket note_of wallet_of room wants_is =
+  made_by_transport d id at back noted new wants styled none id_is at_is entry ticket note_of wallet_of room wants_is =
       let same : call_at x.kind id at route.before (record payload { address = route.offset }) ≡ next_call r x route =
       ap (λ (y : TxnId). call_at x.kind y at route.before (record payload { address = route.offset })) id_is
       ∙ (ap (λ (u : ℕ). call_at x.kind (txn_next r) u route.before (record payload { address = route.offset })) at_is
@@ -108,7 +120,7 @@ module _ (table tokens : TableId) (frame : Frame Plan) (r : Run) (x : Transfer) 
         wallet_of = wallet_of;
         room = room ∙ (ap (λ (y : PayloadView). y.room) ready.filled ∙ room_of_payload 4096 r.engine);
         whole = whole frame r x route note.knows w t job ready.reached noted.knows new back called paid left ready.is.answered uncovered;
-        left = left_by frame r x route note.knows w t job ready.reached noted.knows new back called paid left ready.is.answered uncovered wants (sym wants_is);
+        left = left_by frame r x route note.knows w t job ready.reached noted.knows new back called paid left ready.is.answered uncovered wants (sym (wants_is ∙ ap (λ (b : Bool). (b && is_plain_kind x.kind) && back.hint) (styled ∙ style_of_job frame r note.knows w t job)));
       }
 
   -- a grant that covers it may be used
@@ -191,8 +203,8 @@ module _ (frame : Frame Plan) (r : Run) (x : Transfer) (route : Route) (txn : Tx
       by (Denied denial) is = denied_ease frame r note w t asker (command_in x.kind) x.address route txn at asks.asking back new_t new denial is.0 is.1 roomy
 
 -- one that was at rest sets out to make the access that is next
-pub set_out : (table tokens : TableId) (frame : Frame Plan) (r : Run) (x : Transfer) (route : Route) (payload : Option PayloadView) (place : Option (Noted Content Plan)) (filled : PayloadView) (note : Noted Content Plan) (w : Purse) (t : TableView) → IsAtRest table tokens frame r payload place w t → place ≡ Some note → HasReached frame.world r x route → filled ≡ payload_of r.engine 4096 → IsToMake table tokens frame r x route filled note w t
-set_out table tokens frame r x route payload place filled note w t rest taken reached is =
+pub set_out : (table tokens : TableId) (frame : Frame Plan) (d : Bool) (r : Run) (x : Transfer) (route : Route) (payload : Option PayloadView) (place : Option (Noted Content Plan)) (filled : PayloadView) (note : Noted Content Plan) (w : Purse) (t : TableView) → IsAtRest table tokens frame d r payload place w t → place ≡ Some note → HasReached frame.world r x route → filled ≡ payload_of r.engine 4096 → IsToMake table tokens frame r x route filled note w t
+set_out table tokens frame d r x route payload place filled note w t rest taken reached is =
     let same : rest.its_note ≡ note = one_value place rest.its_note note rest.has_note taken in
     record {
       note_of = subst (λ (n : Noted Content Plan). IsNote table n) same rest.job.note_of;

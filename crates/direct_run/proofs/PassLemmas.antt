@@ -1,5 +1,5 @@
--- A direct initiator after moves without an entry.
-use Rattle.std.proofs.Common.{◌≡◌, ◌⊎◌, ℕ, ◌+◌, ◌*◌, ◌<◌, inl, inr, true, List, length, Option, Some, refl, ap, sym, subst, ◌∙◌, arith}
+-- An initiator after moves without an entry.
+use Rattle.std.proofs.Common.{◌≡◌, ◌⊎◌, ℕ, ◌+◌, ◌*◌, ◌<◌, inl, inr, Bool, true, List, length, Option, Some, refl, ap, sym, subst, ◌∙◌, arith}
 use Rattle.std.specs.Prelude.{slice_get}
 use Rattle.std.proofs.lemmas.Grind.{common_steps}
 use Rattle.atomic_table.specs.Seated.{TableId}
@@ -22,7 +22,7 @@ use Rattle.initiator_run.specs.Steps.{StepsOnce}
 use Rattle.initiator_run.proofs.OnceLemmas.{StepsOnce-same}
 use Rattle.initiator_run.proofs.RunLemmas.{Keeps-round}
 use Rattle.dmi_grants.specs.Table.{TableView}
-use Rattle.direct_run.specs.Job.{IsAtEase, IsInitiator, IsJob}
+use Rattle.direct_run.specs.Job.{IsAtEase, IsInitiator, IsJob, goes_direct}
 use Rattle.direct_run.proofs.ScriptLemmas.{stands_on}
 
 no_steps_at : (s : ℕ) (due : Option Due) (ops : List Operation) → op_at s due ops ≡ next.Done → 2 * length ops + numbers_due due ≡ 0
@@ -47,7 +47,7 @@ moved frame old new v w t ease keeps once finished =
         initiator = job.initiator;
         mine = job.mine;
         is = ap (slice_get (initiators_of frame.world)) keeps.initiator ∙ job.is;
-        direct = job.direct;
+        decoupled = job.decoupled;
         below = job.below;
         made = record {
           rising = job.made.rising;
@@ -67,7 +67,6 @@ moved frame old new v w t ease keeps once finished =
             let fits = has.bytes in
             record {
               asks = omega arith;
-              grants = λ a led. (let enough = has.grants a led in omega arith);
               bytes = omega arith;
               all = has.all;
             };
@@ -83,29 +82,29 @@ moved_on : (frame : Frame Plan) (old new : Run) (v : View Content Plan) (w : Pur
 moved_on frame old new v w t ease keeps once fewer same =
     moved frame old new v w t ease keeps once (λ f. let none = no_steps old.engine (ease.is.finished (sym same ∙ f)) in absurd (omega arith))
 
-job_with : (table tokens : TableId) (frame : Frame Plan) (old new : Run) (before after : PayloadView) (note : Noted Content Plan) (w : Purse) (t : TableView) → IsJob table tokens frame old before note w t → after.room ≡ before.room → IsAtEase frame new note.knows w t → IsJob table tokens frame new after note w t
-job_with table tokens frame old new before after note w t job room is = record { note_of = job.note_of; wallet_of = job.wallet_of; roomy = room ∙ job.roomy; is = is }
+job_with : (table tokens : TableId) (frame : Frame Plan) (d : Bool) (old new : Run) (before after : PayloadView) (note : Noted Content Plan) (w : Purse) (t : TableView) → IsJob table tokens frame d old before note w t → after.room ≡ before.room → new.engine.initiator ≡ old.engine.initiator → IsAtEase frame new note.knows w t → IsJob table tokens frame d new after note w t
+job_with table tokens frame d old new before after note w t job room same is = record { note_of = job.note_of; wallet_of = job.wallet_of; roomy = room ∙ job.roomy; styled = job.styled ∙ ap (goes_direct frame.world) (sym same); is = is }
 
 -- after a move that goes on or finds the script at its end
-pub job_moved : (table tokens : TableId) (frame : Frame Plan) (q : Plan) (old new : Run) (before after : PayloadView) (note : Noted Content Plan) (w : Purse) (t : TableView) (move : Move) → q ≡ frame.world → IsJob table tokens frame old before note w t → Keeps q old new → StepsOnce old.engine new.engine → IsMove q old new move → (move ≡ Went) ⊎ (move ≡ Ended) → after.room ≡ before.room → IsJob table tokens frame new after note w t
-job_moved table tokens frame q old new before after note w t move same job keeps once is (inl went) room =
+pub job_moved : (table tokens : TableId) (frame : Frame Plan) (d : Bool) (q : Plan) (old new : Run) (before after : PayloadView) (note : Noted Content Plan) (w : Purse) (t : TableView) (move : Move) → q ≡ frame.world → IsJob table tokens frame d old before note w t → Keeps q old new → StepsOnce old.engine new.engine → IsMove q old new move → (move ≡ Went) ⊎ (move ≡ Ended) → after.room ≡ before.room → IsJob table tokens frame d new after note w t
+job_moved table tokens frame d q old new before after note w t move same job keeps once is (inl went) room =
     let keeps_here : Keeps frame.world old new = subst (λ (x : Plan). Keeps x old new) same keeps in
     let on : IsMove q old new Went = subst (λ (m : Move). IsMove q old new m) went is in
-    job_with table tokens frame old new before after note w t job room (moved_on frame old new note.knows w t job.is keeps_here once on.0 on.1)
-job_moved table tokens frame q old new before after note w t move same job keeps once is (inr ended) room =
+    job_with table tokens frame d old new before after note w t job room keeps_here.initiator (moved_on frame old new note.knows w t job.is keeps_here once on.0 on.1)
+job_moved table tokens frame d q old new before after note w t move same job keeps once is (inr ended) room =
     let keeps_here : Keeps frame.world old new = subst (λ (x : Plan). Keeps x old new) same keeps in
     let end : IsMove q old new Ended = subst (λ (m : Move). IsMove q old new m) ended is in
-    job_with table tokens frame old new before after note w t job room (moved frame old new note.knows w t job.is keeps_here once (λ f. end.0.done))
+    job_with table tokens frame d old new before after note w t job room keeps_here.initiator (moved frame old new note.knows w t job.is keeps_here once (λ f. end.0.done))
 
 -- at an access with a route it stands where it stood
-pub job_reached : (table tokens : TableId) (frame : Frame Plan) (old new : Run) (before after : PayloadView) (note : Noted Content Plan) (w : Purse) (t : TableView) → IsJob table tokens frame old before note w t → new ≡ old → after.room ≡ before.room → IsJob table tokens frame new after note w t
-job_reached table tokens frame old new before after note w t job same room =
-    job_with table tokens frame old new before after note w t job room (subst (λ (r : Run). IsAtEase frame r note.knows w t) (sym same) job.is)
+pub job_reached : (table tokens : TableId) (frame : Frame Plan) (d : Bool) (old new : Run) (before after : PayloadView) (note : Noted Content Plan) (w : Purse) (t : TableView) → IsJob table tokens frame d old before note w t → new ≡ old → after.room ≡ before.room → IsJob table tokens frame d new after note w t
+job_reached table tokens frame d old new before after note w t job same room =
+    job_with table tokens frame d old new before after note w t job room (ap (λ (r : Run). r.engine.initiator) same) (subst (λ (r : Run). IsAtEase frame r note.knows w t) (sym same) job.is)
 
 -- once its sync has been let through
-pub job_let_through : (table tokens : TableId) (frame : Frame Plan) (old new : Run) (payload : PayloadView) (note : Noted Content Plan) (w : Purse) (t : TableView) (n : ℕ) → IsJob table tokens frame old payload note w t → new ≡ record old { round = n } → IsJob table tokens frame new payload note w t
-job_let_through table tokens frame old new payload note w t n job is =
-    job_with table tokens frame old new payload payload note w t job refl
+pub job_let_through : (table tokens : TableId) (frame : Frame Plan) (d : Bool) (old new : Run) (payload : PayloadView) (note : Noted Content Plan) (w : Purse) (t : TableView) (n : ℕ) → IsJob table tokens frame d old payload note w t → new ≡ record old { round = n } → IsJob table tokens frame d new payload note w t
+job_let_through table tokens frame d old new payload note w t n job is =
+    job_with table tokens frame d old new payload payload note w t job refl (ap (λ (r : Run). r.engine.initiator) is)
     (subst (λ (r : Run). IsAtEase frame r note.knows w t) (sym is) (moved frame old (record old { round = n }) note.knows w t job.is (Keeps-round frame.world old (record old { round = n }) n refl) (StepsOnce-same old.engine) job.is.is.finished))
 
 -- a place has one value

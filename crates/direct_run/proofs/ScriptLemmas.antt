@@ -1,5 +1,5 @@
 -- Where an engine stands in its script, as it goes on.
-use Rattle.std.proofs.Common.{◌≡◌, ◌⊎◌, ℕ, zero, suc, ◌+◌, ◌-◌, ◌<◌, ◌≤◌, Bool, true, false, cond, nat_lt, List, [], ◌∷◌, ◌++◌, length, Option, Some, None, refl, ap, sym, subst, ◌∙◌, inl, inr, arith}
+use Rattle.std.proofs.Common.{◌≡◌, ◌⊎◌, ℕ, zero, suc, ◌+◌, ◌-◌, ◌<◌, ◌≤◌, Bool, true, false, cond, nat_lt, List, [], ◌∷◌, ◌++◌, length, Option, Some, None, refl, ap, sym, subst, ◌∙◌, inl, inr, arith, append_assoc}
 use Rattle.std.specs.List.{AllByRecursion}
 use Rattle.std.specs.Prelude.{slice_get}
 use Rattle.std.proofs.Math.ListN.{length-replicate}
@@ -33,7 +33,7 @@ use Rattle.direct_run.specs.Script.{HasBytes, IsInScript, is_plain_ahead}
 
 -- a new engine stands at the start
 pub begins_in_script : (i : Initiator) (n : ℕ) → IsInScript i (begun_engine n i.script)
-begins_in_script i n = record { plain = λ k. ap (is_plain_at i.script) (front k); due = tt }
+begins_in_script i n = record { plain = λ k. ap (is_plain_at i.script) (front k); due = tt; before = []; whole = refl }
   where
     front : (k : ℕ) → 0 + k ≡ k
     front k = omega arith
@@ -51,12 +51,14 @@ past_op op ops k =
     back = omega arith
 
 -- after anything that the engine doesn't wait for
-passed_stands : (i : Initiator) (n s : ℕ) (due : Option Due) (ops : List Operation) (b : Bool) → is_fenced (op_at s due ops) ≡ false → IsInScript i (state n s due ops b) → IsInScript i (passed_by (state n s due ops b))
+pub passed_stands : (i : Initiator) (n s : ℕ) (due : Option Due) (ops : List Operation) (b : Bool) → is_fenced (op_at s due ops) ≡ false → IsInScript i (state n s due ops b) → IsInScript i (passed_by (state n s due ops b))
 passed_stands i n s (Some w) ops b unfenced is = absurd (let wrong : true ≡ false = unfenced in cc)
 passed_stands i n s None [] b unfenced is = is
 passed_stands i n s None (op ∷ ops) b unfenced is = record {
   plain = λ k. ap (is_plain_at i.script) (along k) ∙ (is.plain (numbers_of op + k) ∙ past_op op ops k);
   due = tt;
+  before = is.before ++ op ∷ [];
+  whole = is.whole ∙ sym (append_assoc is.before (op ∷ []) ops);
 }
   where
     along : (k : ℕ) → s + numbers_of op + k ≡ s + (numbers_of op + k)
@@ -91,7 +93,7 @@ told_ahead s (Invalidate a n) ops got k fenced = absurd (let wrong : false ≡ t
 
 -- after an access that the engine waits for
 told_stands : (i : Initiator) (n s : ℕ) (due : Option Due) (ops : List Operation) (b : Bool) (got : List ℕ) → is_fenced (op_at s due ops) ≡ true → HasBytes (told_by (state n s due ops b) got).due → IsInScript i (state n s due ops b) → IsInScript i (told_by (state n s due ops b) got)
-told_stands i n s (Some w) ops b got fenced some is = record { plain = λ k. ap (is_plain_at i.script) (along k) ∙ is.plain (suc k); due = tt }
+told_stands i n s (Some w) ops b got fenced some is = record { plain = λ k. ap (is_plain_at i.script) (along k) ∙ is.plain (suc k); due = tt; before = is.before; whole = is.whole }
   where
     along : (k : ℕ) → s + 1 + k ≡ s + suc k
     along k = omega arith
@@ -99,6 +101,8 @@ told_stands i n s None [] b got fenced some is = absurd (let wrong : false ≡ t
 told_stands i n s None (op ∷ ops) b got fenced some is = record {
   plain = λ k. ap (is_plain_at i.script) (along k) ∙ (is.plain (1 + k) ∙ told_ahead s op ops got k fenced);
   due = some;
+  before = is.before ++ op ∷ [];
+  whole = is.whole ∙ sym (append_assoc is.before (op ∷ []) ops);
 }
   where
     along : (k : ℕ) → s + 1 + k ≡ s + (1 + k)

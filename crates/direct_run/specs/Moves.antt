@@ -1,4 +1,4 @@
--- What a move of a direct initiator needs, and what it leaves.
+-- What a move of an initiator needs, and what it leaves.
 use Rattle.std.specs.Prelude.{ℕ, ◌≡◌, Bool, true, false, length}
 use Rattle.atomic_table.specs.Seated.{TableId}
 use Rattle.one_history.specs.declared.view.Frame.{Frame}

@@ -1,5 +1,5 @@
 -- Where an engine stands in its initiator's script, as far as plain accesses go.
-use Rattle.std.specs.Prelude.{ℕ, zero, suc, ◌≡◌, ◌+◌, ◌<◌, Bool, true, List, length, Option, Some, None}
+use Rattle.std.specs.Prelude.{ℕ, zero, suc, ◌≡◌, ◌+◌, ◌<◌, ◌++◌, Bool, true, List, length, Option, Some, None}
 use Rattle.tlm_model.specs.declared.operation.Operation.{Operation}
 use Rattle.tlm_model.specs.Plan.{Initiator}
 use Rattle.grant_model.specs.Plain.{is_plain_at}
@@ -16,7 +16,9 @@ abbrev pub HasBytes : Option Due → Type 0
 HasBytes None = Unit {0}
 HasBytes (Some w) = 0 < length w.bytes
 
--- The script has the requests that the engine is still to make at the numbers that these will have.
+-- The script has the requests that the engine is still to make at the numbers that these will have, and ends with the operations that remain.
 pub record IsInScript (i : Initiator) (e : State) : Type 0 where
   pub plain : (k : ℕ) → is_plain_at i.script (e.seq + k) ≡ is_plain_ahead e.due e.remaining k
   pub due : HasBytes e.due
+  pub before : List Operation
+  pub whole : i.script ≡ before ++ e.remaining

@@ -1,10 +1,10 @@
-// The accesses of a direct initiator.
+// The accesses of a blocking or direct initiator.
 ghost use Rattle.std.specs.Prelude.{◌≡◌, ◌&&◌, true, IsSomeAnd, IsTrue, position, slice_get, None};
 ghost use Rattle.shared_object.specs.Steps.{IsNote};
 ghost use Rattle.token_book.specs.Purse.{IsOf};
 ghost use Rattle.script_engine.specs.Part.{command_in, is_plain_kind};
 ghost use Rattle.dmi_grants.specs.Table.{covers};
-ghost use Rattle.direct_run.specs.Job.{IsAtEase};
+ghost use Rattle.direct_run.specs.Job.{IsAtEase, goes_direct};
 ghost use Rattle.direct_run.specs.Moves.{ComesOf, HasMadeNext, IsLeft, IsToMake};
 
 use crate::send::send;
@@ -45,10 +45,10 @@ fn command_of(kind: TransferKind) -> Command
 }
 
 // Whether a grant is to be asked for after an access whose payload came back.
-fn wants_grant(kind: TransferKind, payload: &Payload) -> bool
-    ensures { result ≡ (is_plain_kind kind && payload.now.hint) }
+fn wants_grant(is_direct: bool, kind: TransferKind, payload: &Payload) -> bool
+    ensures { result ≡ ((is_direct && is_plain_kind kind) && payload.now.hint) }
 {
-    is_plain(kind) && payload.hint()
+    is_direct && is_plain(kind) && payload.hint()
 }
 
 // Makes the access or the debug read that is next by transport. No grant that is held covers it, or it isn't
@@ -58,12 +58,14 @@ fn transport<N: Naming<Plan, TlmLaw>, B: Reach<N>, R: Wait>(
     rt: &R,
     run: &InitiatorRun,
     next: &NextAccess,
+    is_direct: bool,
     grants: &GrantTable,
     payload: Payload,
     note: PlatNote,
     wallet: &mut Wallet,
 ) -> MadeNext
     requires ready { IsToMake N.table N.tokens N.frame run.now next.now.transfer next.now.route payload note wallet.old grants.now }
+    requires styled { is_direct ≡ goes_direct N.frame.world run.now.engine.initiator }
     requires none { let x = next.now.transfer in is_plain_kind x.kind ≡ true → position (covers x.address x.length (command_in x.kind)) grants.now.held ≡ None }
     ensures { HasMadeNext N.table N.tokens N.frame run.now next.now.transfer next.now.route result.wants result.payload result.note wallet.new grants.now }
 {
@@ -76,7 +78,7 @@ fn transport<N: Naming<Plan, TlmLaw>, B: Reach<N>, R: Wait>(
         note,
         at: _,
     } = sent;
-    let wants = wants_grant(next.transfer.kind, &payload);
+    let wants = wants_grant(is_direct, next.transfer.kind, &payload);
     MadeNext {
         payload,
         note,
@@ -120,6 +122,7 @@ fn make_plain<N: Naming<Plan, TlmLaw>, B: Reach<N>, R: Wait>(
 ) -> MadeNext
     requires ready { IsToMake N.table N.tokens N.frame run.now next.now.transfer next.now.route payload note wallet.old grants.old }
     requires plain { is_plain_kind next.now.transfer.kind ≡ true }
+    requires direct { goes_direct N.frame.world run.now.engine.initiator ≡ true }
     ensures { HasMadeNext N.table N.tokens N.frame run.now next.now.transfer next.now.route result.wants result.payload result.note wallet.new grants.new }
 {
     let Transfer {
@@ -130,7 +133,7 @@ fn make_plain<N: Naming<Plan, TlmLaw>, B: Reach<N>, R: Wait>(
     } = next.transfer;
     for _ in rt.forever() {
         let Some(which) = grants.find(address, length, command_of(kind)) else {
-            return transport(reach, rt, run, next, grants, payload, note, wallet);
+            return transport(reach, rt, run, next, true, grants, payload, note, wallet);
         };
         match use_held(
             reach.net(),
@@ -166,25 +169,29 @@ fn make_plain<N: Naming<Plan, TlmLaw>, B: Reach<N>, R: Wait>(
     unreachable!()
 }
 
-/// Makes the access or the debug read that is next: a plain access by a grant where one is held that covers
-/// it and isn't stale, and anything else by transport. It answers whether a grant is to be asked for.
+/// Makes the access or the debug read that is next: a plain access of a direct initiator by a grant where one is
+/// held that covers it and isn't stale, and anything else by transport. It answers whether a grant is to be asked for.
 pub(crate) fn make<N: Naming<Plan, TlmLaw>, B: Reach<N>, R: Wait>(
     reach: &mut B,
     rt: &R,
     run: &InitiatorRun,
     next: &NextAccess,
+    is_direct: bool,
     grants: &mut GrantTable,
     payload: Payload,
     note: PlatNote,
     wallet: &mut Wallet,
 ) -> MadeNext
-    requires { IsToMake N.table N.tokens N.frame run.now next.now.transfer next.now.route payload note wallet.old grants.old }
+    requires styled { is_direct ≡ goes_direct N.frame.world run.now.engine.initiator }
+    requires ready { IsToMake N.table N.tokens N.frame run.now next.now.transfer next.now.route payload note wallet.old grants.old }
     ensures { HasMadeNext N.table N.tokens N.frame run.now next.now.transfer next.now.route result.wants result.payload result.note wallet.new grants.new }
 {
-    if is_plain(next.transfer.kind) {
+    if is_direct && is_plain(next.transfer.kind) {
         make_plain(reach, rt, run, next, grants, payload, note, wallet)
     } else {
-        transport(reach, rt, run, next, grants, payload, note, wallet)
+        transport(
+            reach, rt, run, next, is_direct, grants, payload, note, wallet,
+        )
     }
 }
 

@@ -1,16 +1,16 @@
-// A direct initiator under way.
+// A blocking or direct initiator under way.
 ghost use Rattle.std.specs.Prelude.{◌≡◌, ◌≢◌, ◌<◌, ◌↔◌, IfOk, IsSomeAnd, IsTrue, length, slice_get, true};
-ghost use Rattle.tlm_model.specs.declared.platform.Style.TheVariants.{Direct};
+ghost use Rattle.tlm_model.specs.declared.platform.Style.TheVariants.{FourPhase};
 ghost use Rattle.plat_build.specs.Kept.{IsStart};
-ghost use Rattle.initiator_run.specs.Moves.{HasReached};
+ghost use Rattle.initiator_run.specs.Moves.{HasReached, HasToInvalidate};
 ghost use Rattle.initiator_run.specs.Steps.{StepsOnce};
-ghost use Rattle.direct_run.specs.Job.{IsJob};
+ghost use Rattle.direct_run.specs.Job.{IsJob, goes_direct};
 ghost use Rattle.direct_run.specs.End.{IsFinished};
 
 use crate::access::{MadeNext, ask_after, make};
-use dmi_grants::GrantTable;
+use dmi_grants::{GrantTable, invalidate};
 use generic_payload::Payload;
-use initiator_run::{InitiatorRun, Move, NextAccess};
+use initiator_run::{InitiatorRun, Move, NextAccess, NextInvalidation};
 use outside::Pace;
 use plat_build::Start;
 use plat_net::{Net, PlatNote, Reach, TlmLaw};
@@ -19,26 +19,28 @@ use shared_object::Naming;
 use std::alloc::Global;
 use std::marker::{Model, PhantomData};
 use std::sync::Wait;
+use tlm_model::Style;
 use tlm_types::{EndOf, Memory};
 use token_book::Wallet;
 
 // Twice as many as a platform has gates at most: so there is always a place for what may be given.
 const MOST_GRANTS: u32 = 2048;
 
-/// A direct initiator under way, with its payload, its note, its wallet and the grants that it holds.
-/// Contracts see its run.
+/// A blocking or direct initiator under way, whose local time is decoupled (clause 16), with its payload, its note,
+/// its wallet and the grants that it holds, if it is a direct one. Contracts see its run.
 // The payload and the note are away only while an access is made, which carries them along.
 #[derive(Drop)]
-pub struct DirectInitiator<N: Naming<Plan, TlmLaw>> {
+pub struct DecoupledInitiator<N: Naming<Plan, TlmLaw>> {
     run: InitiatorRun,
     payload: Option<Payload>,
     note: Option<PlatNote>,
     wallet: Wallet,
     grants: GrantTable,
+    is_direct: bool,
     of: PhantomData<N>,
 }
 
-impl<N: Naming<Plan, TlmLaw>> Model for DirectInitiator<N> {
+impl<N: Naming<Plan, TlmLaw>> Model for DecoupledInitiator<N> {
     ghost use Rattle.initiator_run.specs.Run.{Run};
     ghost use Rattle.direct_run.specs.Job.{IsAtRest};
 
@@ -46,40 +48,58 @@ impl<N: Naming<Plan, TlmLaw>> Model for DirectInitiator<N> {
 
     ghost view = { λ j. j.run };
 
-    ghost invariant = { λ j. IsAtRest N.table N.tokens N.frame j.run j.payload j.note j.wallet j.grants };
+    ghost invariant = { λ j. IsAtRest N.table N.tokens N.frame j.is_direct j.run j.payload j.note j.wallet j.grants };
 }
 
-impl<N: Naming<Plan, TlmLaw>> DirectInitiator<N> {
-    /// An initiator with what it goes about with.
-    pub fn new(
+// For how many grants an initiator has room.
+fn grants_for(is_direct: bool) -> u32
+    ensures { is_direct ≡ true → result ≡ 2048 }
+{
+    if is_direct { MOST_GRANTS } else { 0 }
+}
+
+// Whether the initiator with this number is a direct one.
+fn is_direct<N: Naming<Plan, TlmLaw>>(net: &Net<N>, number: u32) -> bool
+    requires { number < length net.now.platform.initiators }
+    ensures { result ≡ goes_direct net.now number }
+{
+    let rows = net.plan().platform().initiators.as_slice();
+    rows[number as usize].style == Style::Direct
+}
+
+impl<N: Naming<Plan, TlmLaw>> DecoupledInitiator<N> {
+    // An initiator with what it goes about with.
+    fn new(
         run: InitiatorRun,
         payload: Payload,
         note: PlatNote,
         wallet: Wallet,
         grants: GrantTable,
-    ) -> DirectInitiator<N>
-        requires { IsJob N.table N.tokens N.frame run payload note wallet grants }
+        is_direct: bool,
+    ) -> DecoupledInitiator<N>
+        requires { IsJob N.table N.tokens N.frame is_direct run payload note wallet grants }
         ensures { result ≡ run }
     {
-        DirectInitiator {
+        DecoupledInitiator {
             run,
             payload: Some(payload),
             note: Some(note),
             wallet,
             grants,
+            is_direct,
             of: PhantomData,
         }
     }
 
-    /// The direct initiator with this number, with what it starts with. Its only error is want of memory.
+    /// The blocking or direct initiator with this number, with what it starts with. Its only error is want of memory.
     pub fn begin(
         alloc: Global,
         net: &Net<N>,
         number: u32,
         start: Start,
-    ) -> Result<DirectInitiator<N>, Memory>
+    ) -> Result<DecoupledInitiator<N>, Memory>
         requires number { number < length net.now.platform.initiators }
-        requires direct { IsSomeAnd (slice_get net.now.platform.initiators number) (λ row. row.style ≡ Direct) }
+        requires decoupled { IsSomeAnd (slice_get net.now.platform.initiators number) (λ row. row.style ≢ FourPhase) }
         requires start { IsStart N.table N.tokens N.frame.world number start }
         ensures { IfOk result (λ job. job.engine.initiator ≡ number) }
     {
@@ -92,8 +112,9 @@ impl<N: Naming<Plan, TlmLaw>> DirectInitiator<N> {
         let plan = net.plan();
         let room = 2 * plan.script(number).len() as u32;
         let run = InitiatorRun::of_engine(alloc, engine, plan.platform().quantum, room)?;
-        let grants = GrantTable::new(alloc, MOST_GRANTS)?;
-        Ok(DirectInitiator::new(run, payload, note, wallet, grants))
+        let is_direct = is_direct(net, number);
+        let grants = GrantTable::new(alloc, grants_for(is_direct))?;
+        Ok(DecoupledInitiator::new(run, payload, note, wallet, grants, is_direct))
     }
 
     /// Its number.
@@ -129,18 +150,35 @@ impl<N: Naming<Plan, TlmLaw>> DirectInitiator<N> {
         requires { self.finished ≡ true }
         ensures { IsFinished N.table N.tokens N.frame.world self.engine.initiator result.0 result.2 result.1 }
     {
-        let DirectInitiator {
+        let DecoupledInitiator {
             run,
             payload: _,
             note,
             wallet,
             grants: _,
+            is_direct: _,
             of: _,
         } = self;
         (run.into_end(), wallet, note.unwrap())
     }
 
-    /// One operation of its script, or one access of it with the grant that is asked for after it. The pace is
+    /// Lets go of it. Its number is that of an initiator.
+    pub fn let_go(self)
+        ensures { self.engine.initiator < length N.frame.world.platform.initiators }
+    {
+        let DecoupledInitiator {
+            run: _,
+            payload: _,
+            note: _,
+            wallet: _,
+            grants: _,
+            is_direct: _,
+            of: _,
+        } = self;
+    }
+
+    /// One operation of its script, or one access of it with the grant that is asked for after it. An invalidation ends
+    /// each grant that it overlaps, whoever holds it: an own one is found stale when it is to be used. The pace is
     /// told of an access or a debug read before it is made, while no lock is held.
     pub fn go_on<B: Reach<N>, P: Pace, R: Wait>(&mut self, rt: &R, reach: &mut B, pace: &P)
         ensures number { self.new.engine.initiator ≡ self.old.engine.initiator }
@@ -152,6 +190,7 @@ impl<N: Naming<Plan, TlmLaw>> DirectInitiator<N> {
         match self.run.step(reach.net().plan(), payload, pace) {
             Move::Went | Move::Ended => {}
             Move::Reached(next) => self.access(rt, reach, &next),
+            Move::Invalidates(next) => self.invalidate(rt, reach.net(), &next),
         }
     }
 
@@ -172,6 +211,7 @@ impl<N: Naming<Plan, TlmLaw>> DirectInitiator<N> {
             rt,
             &self.run,
             next,
+            self.is_direct,
             &mut self.grants,
             payload,
             note,
@@ -190,6 +230,24 @@ impl<N: Naming<Plan, TlmLaw>> DirectInitiator<N> {
             net, rt, &self.run, next, wants, grants, note, wallet, txn, granted_at,
         );
         self.payload = Some(payload);
+        self.note = Some(note);
+    }
+
+    // Makes the invalidation that is next, which has a route.
+    fn invalidate<R: Wait>(&mut self, rt: &R, net: &Net<N>, next: &NextInvalidation)
+        requires { HasToInvalidate N.frame.world self.old next.now }
+        ensures number { self.new.engine.initiator ≡ self.old.engine.initiator }
+        ensures once { StepsOnce self.old.engine self.new.engine }
+    {
+        let note = self.note.take().unwrap();
+        let txn = self.run.next_txn();
+        let at = self.run.current();
+        let memory = next.route.memory;
+        let wallet = &mut self.wallet;
+        let note = invalidate(
+            net, rt, memory, next.first, next.last, note, wallet, txn, at,
+        );
+        self.run.pass_invalidation();
         self.note = Some(note);
     }
 }

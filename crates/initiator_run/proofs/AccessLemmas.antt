@@ -35,9 +35,6 @@ use Rattle.initiator_run.proofs.NextLemmas.{seq_of_next}
 use Rattle.initiator_run.proofs.RoundLemmas.{rounds_after}
 
 -- the engine after an access, by whether it waits for the reply
-after_by : Bool → State → List ℕ → State
-after_by b e got = cond b (told_by e got) (passed_by e)
-
 pub after_initiator : (b : Bool) (e : State) (got : List ℕ) → (cond b (told_by e got) (passed_by e)).initiator ≡ e.initiator
 after_initiator true e got = told_at_initiator e got e.due
 after_initiator false e got = passed_initiator e e.remaining
@@ -123,7 +120,7 @@ one_more laws r x made q got is count =
 access_route : (p : Platform) (i : Initiator) (x : Transfer) (payload : PayloadView) (t g : ℕ) → has_no_route p i (request_for x payload t g) (request_for x payload t g).asked ≡ is_none (route_of p i x.address)
 access_route p i x payload t g = grind (arith, common_steps)
 
-filtered-push : (test : Request → Bool) (made : List Request) (q : Request) (b : Bool) → test q ≡ b → map refused_item (filter test (made ++ q ∷ [])) ≡ map refused_item (filter test made) ++ cond b (refused_item q ∷ []) []
+pub filtered-push : (test : Request → Bool) (made : List Request) (q : Request) (b : Bool) → test q ≡ b → map refused_item (filter test (made ++ q ∷ [])) ≡ map refused_item (filter test made) ++ cond b (refused_item q ∷ []) []
 filtered-push test made q b is =
     ap (map refused_item) (filter-append test made (q ∷ []))
     ∙ (map-append refused_item (filter test made) (filter test (q ∷ []))

@@ -17,3 +17,4 @@ pub mod AdvanceLemmas
 pub mod RouteLemmas
 pub mod EntryLemmas
 pub mod BeginLemmas
+pub mod InvalidationLemmas

@@ -12,13 +12,15 @@ use Rattle.initiator_run.proofs.RunLemmas.{accessed_step, passed_step}
 pub StepsOnce-same : (e : State) → StepsOnce e e
 StepsOnce-same e = record { got = []; step = inl refl }
 
+-- past what the engine doesn't wait for
+pub StepsOnce-unfenced : (r new : Run) → is_fenced (op_of r.engine) ≡ false → new.engine ≡ passed_by r.engine → StepsOnce r.engine new.engine
+StepsOnce-unfenced r new unfenced run = record {
+  got = [];
+  step = inr (run ∙ sym (ap (λ (b : Bool). cond b (told_by r.engine []) (passed_by r.engine)) unfenced));
+}
+
 pub StepsOnce-by_pass : (r new : Run) (pause : Pause) → next_of r.engine ≡ Pauses pause → new ≡ passed pause r → StepsOnce r.engine new.engine
-StepsOnce-by_pass r new pause is run =
-    let unfenced : is_fenced (op_of r.engine) ≡ false = ap is_fenced_part is in
-    record {
-      got = [];
-      step = inr (ap (λ (q : Run). q.engine) run ∙ (passed_step pause r ∙ sym (ap (λ (b : Bool). cond b (told_by r.engine []) (passed_by r.engine)) unfenced)));
-    }
+StepsOnce-by_pass r new pause is run = StepsOnce-unfenced r new (ap is_fenced_part is) (ap (λ (q : Run). q.engine) run ∙ passed_step pause r)
 
 pub StepsOnce-by_access : (r new : Run) (x : Transfer) (by : ℕ) (got : List ℕ) → new ≡ accessed x by got r → StepsOnce r.engine new.engine
 StepsOnce-by_access r new x by got run = record { got = got; step = inr (ap (λ (q : Run). q.engine) run ∙ accessed_step x by got r) }

@@ -56,6 +56,10 @@ waited other k = k
 abbrev pub passed : Pause → Run → Run
 passed pause r = with_sync (is_sync_pause pause) (record r { engine = passed_by r.engine; keeper = waited pause r.keeper })
 
+-- after an invalidation, as after a fence
+abbrev pub invalidated : Run → Run
+invalidated r = passed pause.Fence r
+
 -- an engine after the access that is next, whose payload came back with these bytes
 abbrev pub engine_after : State → List ℕ → State
 engine_after e got = if is_fenced (op_of e) then told_by e got else passed_by e

@@ -7,10 +7,11 @@ use Rattle.time_board.specs.declared.rounds.Member.{Member}
 use Rattle.script_engine.specs.declared.part.Transfer.{Transfer}
 use Rattle.script_engine.specs.Part.{is_fenced_kind}
 use Rattle.initiator_run.specs.declared.turn.Turn.{Turn}
-use Rattle.initiator_run.specs.declared.turn.Turn.TheVariants.{Made, Waits, Ended, NoMemory}
+use Rattle.initiator_run.specs.declared.run.NextInvalidation.{NextInvalidation}
+use Rattle.initiator_run.specs.declared.turn.Turn.TheVariants.{Made, Invalidates, Waits, Ended, NoMemory}
 use Rattle.initiator_run.specs.Access.{HasLog, bytes_back, entry_made}
 use Rattle.initiator_run.specs.Board.{IsWaiting}
-use Rattle.initiator_run.specs.Moves.{HasNoMore, HasReached, Keeps}
+use Rattle.initiator_run.specs.Moves.{HasNoMore, HasReached, HasToInvalidate, Keeps}
 use Rattle.initiator_run.specs.Run.{Run, accessed}
 
 -- one memory has a log with these entries, and is else as before; the others are as before
@@ -52,6 +53,14 @@ pub record HasMoved (p : Plan) (old new : Run) (before after : List LoggedMemory
   pub memory : HasLogAt before after place region next
   pub logged : HasLog region next region.log.entries
 
+-- the run has moved to an invalidation with a route, which its caller makes
+pub record HasMovedToInvalidate (p : Plan) (old new : Run) (before after : List LoggedMemory) (x : NextInvalidation) : Type 0 where
+  pub keeps : Keeps p old new
+  pub finished : new.finished ≡ old.finished
+  pub reached : HasToInvalidate p new x
+  pub through : new.round ≡ new.syncs
+  pub same : after ≡ before
+
 -- the run has moved to the end of its script
 pub record HasMovedToEnd (p : Plan) (old new : Run) (before after : List LoggedMemory) : Type 0 where
   pub keeps : Keeps p old new
@@ -68,6 +77,7 @@ pub record HasMovedToWait (p : Plan) (old new : Run) (members : List Member) (be
 
 abbrev pub IsTurn : Plan → Run → Run → List Member → List LoggedMemory → List LoggedMemory → ℕ → Turn → Type 0
 IsTurn p old new members before after position Made = HasMadeAccess p old new before after position
+IsTurn p old new members before after position (Invalidates x) = HasMovedToInvalidate p old new before after x
 IsTurn p old new members before after position Waits = HasMovedToWait p old new members before after
 IsTurn p old new members before after position Ended = HasMovedToEnd p old new before after
 IsTurn p old new members before after position NoMemory = HasMoved p old new before after

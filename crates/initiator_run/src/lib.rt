@@ -1,8 +1,10 @@
-//! The run of one blocking initiator, for those who run initiators side by side.
+//! The run of one blocking or direct initiator, for those who run initiators side by side.
 //!
 //! - `InitiatorRun` is an initiator under way: where its script stands, its local time, its syncs and
 //!   the round that it has been let into. `step` makes a `Move` without an entry: an access or debug read
-//!   that has no route is noted as refused, one that has is a `NextAccess`, and `complete` goes on after it.
+//!   that has no route is noted as refused, one that has is a `NextAccess`, and `complete` goes on after it. An
+//!   invalidation that has a route is a `NextInvalidation`, and `pass_invalidation` goes on after it; one that
+//!   has none is passed over.
 //! - `take_turn` makes its moves up to and with its next entry at a memory, as far as the rounds let it; a
 //!   `Turn` tells how that ended.
 //!
@@ -16,5 +18,5 @@
 mod run;
 mod turn;
 
-pub use run::{InitiatorRun, Move, NextAccess};
+pub use run::{InitiatorRun, Move, NextAccess, NextInvalidation};
 pub use turn::{Turn, take_turn};

@@ -4,16 +4,16 @@ ghost use Rattle.tlm_model.specs.Plan.{Plan as PlanView};
 ghost use Rattle.region_object.specs.Call.{IsFit};
 ghost use Rattle.region_object.specs.Region.{region_entry as entry_of_call};
 ghost use Rattle.traffic_script.specs.Proper.{AreProper};
-ghost use Rattle.script_engine.specs.declared.part.Part.TheVariants.{Asks, Pauses};
+ghost use Rattle.script_engine.specs.declared.part.Part.TheVariants.{Asks, Invalidates, Pauses};
 ghost use Rattle.script_engine.specs.Part.{is_fenced_kind, is_sync_pause};
 ghost use Rattle.script_engine.specs.State.{next_of, payload_of};
 ghost use Rattle.quantum_keeper.specs.Keeper.{current_time};
 ghost use Rattle.time_board.specs.Rounds.{AreClose};
 ghost use Rattle.initiator_run.specs.Access.{HasLog, bytes_back, call_at, entry_made, payload_back};
 ghost use Rattle.initiator_run.specs.Board.{HasGoneOn, IsInRound, IsLet, SyncsOnce};
-ghost use Rattle.initiator_run.specs.Moves.{Advances, IsMove, IsUnderWay, Keeps, steps_left};
+ghost use Rattle.initiator_run.specs.Moves.{Advances, IsInvalidation, IsMove, IsUnderWay, Keeps, last_byte, steps_left};
 ghost use Rattle.initiator_run.specs.Steps.{StepsOnce};
-ghost use Rattle.initiator_run.specs.Run.{accessed, fresh_run, end_at, engine_after, passed, refused_as, with_refusal, with_sync};
+ghost use Rattle.initiator_run.specs.Run.{accessed, fresh_run, end_at, engine_after, invalidated, passed, refused_as, with_refusal, with_sync};
 
 use generic_payload::Payload;
 use outside::Pace;
@@ -27,7 +27,7 @@ use time_board::{Advance, Rounds};
 use tlm_types::{Command, EndOf, Memory, Ps, RefusedItem, RefusedList, TxnId, Way};
 use traffic_script::Script;
 
-/// A blocking initiator under way. Contracts see where its script stands, its local time, its syncs, the
+/// A blocking or direct initiator under way. Contracts see where its script stands, its local time, its syncs, the
 /// round that it has been let into, and what had no route.
 #[derive(Drop)]
 pub struct InitiatorRun {
@@ -61,12 +61,22 @@ pub struct NextAccess {
     pub route: Route,
 }
 
+/// An invalidation that is next, with its route: the bytes from `first` to `last` of the route's memory.
+#[derive(Drop)]
+pub struct NextInvalidation {
+    pub first: u64,
+    pub last: u64,
+    pub route: Route,
+}
+
 /// What a run does next.
 pub enum Move {
     /// It has moved on, and made no entry.
     Went,
     /// The access or debug read that is next has a route.
     Reached(NextAccess),
+    /// The invalidation that is next has a route.
+    Invalidates(NextInvalidation),
     /// Its script has ended.
     Ended,
 }
@@ -75,6 +85,8 @@ pub enum Move {
 pub(crate) enum Stop {
     /// The access or debug read that is next has a route.
     Reached(NextAccess),
+    /// The invalidation that is next has a route.
+    Invalidates(NextInvalidation),
     /// Others have to move before its last sync is let through.
     Waits,
     /// Its script has ended.
@@ -174,8 +186,8 @@ impl InitiatorRun {
         self.finished
     }
 
-    /// Makes all moves without an entry, up to the next access or debug read that has a route, which is
-    /// answered, to the end of the script, or to a sync that the rounds don't let through. The pace is
+    /// Makes all moves without an entry, up to the next access, debug read or invalidation that has a route, which
+    /// is answered, to the end of the script, or to a sync that the rounds don't let through. The pace is
     /// told of each access and debug read.
     pub(crate) fn advance<P: Pace>(
         &mut self,
@@ -198,6 +210,7 @@ impl InitiatorRun {
             match self.step(plan, payload, pace) {
                 Move::Went => {}
                 Move::Reached(next) => return Stop::Reached(next),
+                Move::Invalidates(next) => return Stop::Invalidates(next),
                 Move::Ended => {
                     rounds.finish(self.engine.initiator());
                     return Stop::Ended;
@@ -250,7 +263,11 @@ impl InitiatorRun {
                 self.pass(pause);
                 Move::Went
             }
-            Part::Invalidates { .. } => unreachable!(),
+            Part::Invalidates {
+                seq: _,
+                address,
+                length,
+            } => self.look_for(plan, address, length),
             Part::Ends => {
                 self.finished = true;
                 Move::Ended
@@ -279,6 +296,39 @@ impl InitiatorRun {
                 Move::Went
             }
         }
+    }
+
+    // Finds the route of the invalidation that is next. Without one there is nothing to invalidate, and the run
+    // goes on.
+    fn look_for(&mut self, plan: &Plan, address: u64, length: u64) -> Move
+        requires way { IsUnderWay plan.now self.old }
+        requires next { next_of self.old.engine ≡ Invalidates self.old.engine.seq address length }
+        ensures keeps { Keeps plan.now self.old self.new }
+        ensures syncs { SyncsOnce self.old self.new }
+        ensures once { StepsOnce self.old.engine self.new.engine }
+        ensures cases { IsMove plan.now self.old self.new result }
+    {
+        let initiator = self.engine.initiator();
+        match plan.route(initiator, address) {
+            Some(route) => {
+                let first = route.offset;
+                let last = last_byte(first, length);
+                Move::Invalidates(NextInvalidation { first, last, route })
+            }
+            None => {
+                self.pass_invalidation();
+                Move::Went
+            }
+        }
+    }
+
+    /// Goes on after the invalidation that is next, as after a fence: it takes no time.
+    pub fn pass_invalidation(&mut self)
+        requires next { IsInvalidation (next_of self.old.engine) }
+        ensures { self.new ≡ invalidated self.old }
+    {
+        self.engine.passed();
+        self.finish_operation(false);
     }
 
     // Notes an access or a debug read that has no route, and goes on after it.
@@ -412,6 +462,13 @@ impl InitiatorRun {
             seq: self.engine.transactions(),
         }
     }
+}
+
+// The last of so many bytes from this one on. It is the last that there can be where there are more.
+fn last_byte(first: u64, length: u64) -> u64
+    ensures { result ≡ last_byte first length }
+{
+    first.saturating_add(length.saturating_sub(1))
 }
 
 // Makes the call of an access or a debug read that was issued at this time, as the entry at this

@@ -8,7 +8,7 @@ ghost use Rattle.initiator_run.specs.Turns.{HasRoomAt, IsTurn};
 ghost use Rattle.route_plan.specs.declared.step.Route.{Route as RouteView};
 ghost use Rattle.script_engine.specs.declared.part.Transfer.{Transfer as TransferView};
 
-use crate::run::{InitiatorRun, Stop};
+use crate::run::{InitiatorRun, NextInvalidation, Stop};
 use generic_payload::Payload;
 use outside::Pace;
 use region_object::Region;
@@ -20,6 +20,9 @@ use tlm_types::Memory;
 pub enum Turn {
     /// With one more entry.
     Made,
+    /// At an invalidation that has a route. Who took the turn makes it, and tells the run by
+    /// `InitiatorRun::pass_invalidation`.
+    Invalidates(NextInvalidation),
     /// At a sync that isn't let through before others have moved.
     Waits,
     /// At the end of the script.
@@ -51,6 +54,7 @@ pub fn take_turn<P: Pace>(
 {
     let next = match run.advance(plan, rounds, payload, pace) {
         Stop::Reached(next) => next,
+        Stop::Invalidates(next) => return Turn::Invalidates(next),
         Stop::Waits => return Turn::Waits,
         Stop::Ended => return Turn::Ended,
     };

@@ -16,5 +16,5 @@ returns g c =
     let n = g.N.Naming in
     let sent = c.send-sent in
     made_by_transport n.table n.tokens n.frame c.args.run.now c.args.next.now.transfer c.args.next.now.route c.args.payload c.args.note c.args.wallet.now c.args.grants.now c.requires.ready
-    c.next_txn-txn.result c.current-at.result sent.result.payload sent.result.note sent.new.wallet c.wants_grant-wants.result c.requires.none c.next_txn-txn.ensures c.current-at.ensures
+    c.args.is_direct c.next_txn-txn.result c.current-at.result sent.result.payload sent.result.note sent.new.wallet c.wants_grant-wants.result c.requires.styled c.requires.none c.next_txn-txn.ensures c.current-at.ensures
     sent.ensures.entry sent.ensures.ticket sent.ensures.note sent.ensures.wallet sent.ensures.room c.wants_grant-wants.ensures

@@ -30,3 +30,8 @@ returns-in-Err-clause-turn g c =
       };
       logged = c.in-Err.ensures.err.1;
     })
+
+pub returns-in-Invalidates-clause-turn : goal.returns-in-Invalidates-clause-turn
+returns-in-Invalidates-clause-turn g c =
+    let reached = c.in-Invalidates.ensures.cases in
+    record { keeps = c.advance.ensures.keeps; finished = reached.1; reached = reached.0; through = reached.2; same = refl }

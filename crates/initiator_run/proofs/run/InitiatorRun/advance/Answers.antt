@@ -35,6 +35,26 @@ returns-in-Reached-clause-rounds g c =
     let same : c.step.new.self ≡ c.is_let_through.new.self = c.in-Reached.ensures.cases.1 in
     (Goes-moved c.args.plan.now c.args.self.now c.is_let_through.new.self c.step.new.self c.args.rounds.now c.is_let_through.new.rounds goes c.loop-self-test.ensures.through c.step.ensures.keeps c.step.ensures.syncs (ap (λ (r : Run). r.finished) same)).gone
 
+pub returns-in-Invalidates-clause-keeps : goal.returns-in-Invalidates-clause-keeps
+returns-in-Invalidates-clause-keeps g c =
+    let goes = Goes-let c.args.plan.now c.args.self.now c.loop-self.self c.is_let_through.new.self c.args.rounds.now c.loop-self.rounds c.is_let_through.new.rounds c.loop-self.invariant.0 c.loop-self.invariant.1 c.is_let_through.ensures.run c.is_let_through.ensures.rounds in
+    Keeps-then c.args.plan.now c.args.self.now c.is_let_through.new.self c.step.new.self goes.advanced.keeps c.step.ensures.keeps
+
+pub returns-in-Invalidates-clause-cases : goal.returns-in-Invalidates-clause-cases
+returns-in-Invalidates-clause-cases g c =
+    let goes = Goes-let c.args.plan.now c.args.self.now c.loop-self.self c.is_let_through.new.self c.args.rounds.now c.loop-self.rounds c.is_let_through.new.rounds c.loop-self.invariant.0 c.loop-self.invariant.1 c.is_let_through.ensures.run c.is_let_through.ensures.rounds in
+    let same : c.step.new.self ≡ c.is_let_through.new.self = c.in-Invalidates.ensures.cases.1 in (
+      c.in-Invalidates.ensures.cases.0,
+      ap (λ (r : Run). r.finished) same ∙ goes.advanced.finished,
+      ap (λ (r : Run). r.round) same ∙ (c.loop-self-test.ensures.through ∙ ap (λ (r : Run). r.syncs) (sym same)),
+    )
+
+pub returns-in-Invalidates-clause-rounds : goal.returns-in-Invalidates-clause-rounds
+returns-in-Invalidates-clause-rounds g c =
+    let goes = Goes-let c.args.plan.now c.args.self.now c.loop-self.self c.is_let_through.new.self c.args.rounds.now c.loop-self.rounds c.is_let_through.new.rounds c.loop-self.invariant.0 c.loop-self.invariant.1 c.is_let_through.ensures.run c.is_let_through.ensures.rounds in
+    let same : c.step.new.self ≡ c.is_let_through.new.self = c.in-Invalidates.ensures.cases.1 in
+    (Goes-moved c.args.plan.now c.args.self.now c.is_let_through.new.self c.step.new.self c.args.rounds.now c.is_let_through.new.rounds goes c.loop-self-test.ensures.through c.step.ensures.keeps c.step.ensures.syncs (ap (λ (r : Run). r.finished) same)).gone
+
 pub returns-in-Ended-clause-keeps : goal.returns-in-Ended-clause-keeps
 returns-in-Ended-clause-keeps g c =
     let goes = Goes-let c.args.plan.now c.args.self.now c.loop-self.self c.is_let_through.new.self c.args.rounds.now c.loop-self.rounds c.is_let_through.new.rounds c.loop-self.invariant.0 c.loop-self.invariant.1 c.is_let_through.ensures.run c.is_let_through.ensures.rounds in

@@ -8,7 +8,7 @@ use Rattle.direct_run.specs.End.{IsFinished}
 use Rattle.direct_run.specs.Job.{IsJob}
 use Rattle.direct_run.proofs.EndLemmas.{job_finished}
 use Rattle.direct_run.proofs.PassLemmas.{one_value}
-use Rattle.direct_run.proofs.initiator.DirectInitiator.finish.Goals as goal
+use Rattle.direct_run.proofs.initiator.DecoupledInitiator.finish.Goals as goal
 
 pub returns : goal.returns
 returns g c =
@@ -18,7 +18,7 @@ returns g c =
     let rest = c.self.invariant in
     let note : Held Content Plan = c.unwrap.result in
     let same : rest.its_note ≡ note = one_value old.note rest.its_note note rest.has_note c.unwrap.ensures in
-    let job : IsJob n.table n.tokens n.frame old.run rest.its_payload note old.wallet old.grants = subst (λ (x : Held Content Plan). IsJob n.table n.tokens n.frame old.run rest.its_payload x old.wallet old.grants) same rest.job in
-    let done = job_finished n.table n.tokens n.frame old.run rest.its_payload note old.wallet old.grants job (ap (λ (r : Run). r.finished) c.self.view_is ∙ c.requires) in
+    let job : IsJob n.table n.tokens n.frame old.is_direct old.run rest.its_payload note old.wallet old.grants = subst (λ (x : Held Content Plan). IsJob n.table n.tokens n.frame old.is_direct old.run rest.its_payload x old.wallet old.grants) same rest.job in
+    let done = job_finished n.table n.tokens n.frame old.is_direct old.run rest.its_payload note old.wallet old.grants job (ap (λ (r : Run). r.finished) c.self.view_is ∙ c.requires) in
     subst (λ (r : Run). IsFinished n.table n.tokens p r.engine.initiator c.into_end.result note old.wallet) c.self.view_is
     (subst (λ (e : EndOf). IsFinished n.table n.tokens p old.run.engine.initiator e note old.wallet) (sym c.into_end.ensures) done)

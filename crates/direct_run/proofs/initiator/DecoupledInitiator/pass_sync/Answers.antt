@@ -1,5 +1,5 @@
 use Rattle.direct_run.proofs.PassLemmas.{job_let_through}
-use Rattle.direct_run.proofs.initiator.DirectInitiator.pass_sync.Goals as goal
+use Rattle.direct_run.proofs.initiator.DecoupledInitiator.pass_sync.Goals as goal
 
 pub invariant_of-self : goal.invariant_of-self
 invariant_of-self g c =
@@ -11,5 +11,5 @@ invariant_of-self g c =
       its_note = rest.its_note;
       has_payload = rest.has_payload;
       has_note = rest.has_note;
-      job = job_let_through n.table n.tokens n.frame job.run c.pass_sync.new.self rest.its_payload rest.its_note job.wallet job.grants job.run.syncs rest.job c.pass_sync.ensures;
+      job = job_let_through n.table n.tokens n.frame job.is_direct job.run c.pass_sync.new.self rest.its_payload rest.its_note job.wallet job.grants job.run.syncs rest.job c.pass_sync.ensures;
     }
