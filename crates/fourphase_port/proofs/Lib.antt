@@ -22,6 +22,8 @@ mod Loads
 mod TakesNext
 mod ReadsNext
 mod TakeBack
+mod OpenGates
+mod Revoked
 mod Reading
 mod Asking
 mod GoesOnward

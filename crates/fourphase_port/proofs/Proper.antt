@@ -1,12 +1,9 @@
--- What is left of a proper script is proper, and has no invalidation.
-use Rattle.std.proofs.Common.{◌≡◌, ℕ, List, [], ◌∷◌, Option, Some, None, refl, subst, arith}
+-- What is left of a proper script is proper.
+use Rattle.std.proofs.Common.{◌≡◌, ℕ, List, [], ◌∷◌, Option, Some, None, refl, subst}
 use Rattle.std.specs.List.{AllByRecursion}
-use Rattle.std.proofs.lemmas.Grind.{common_steps}
 use Rattle.tlm_model.specs.declared.operation.Operation.{Operation}
 use Rattle.traffic_script.specs.Proper.{IsProper}
-use Rattle.script_engine.specs.declared.part.Part.TheVariants.{Invalidates}
-use Rattle.script_engine.specs.Part.{part_of}
-use Rattle.script_engine.specs.State.{Due, State, op_at, passed_over, told_at, told_first}
+use Rattle.script_engine.specs.State.{Due, State, passed_over, told_at, told_first}
 
 pub proper_passed : (e : State) (ops : List Operation) → AllByRecursion IsProper e.remaining → e.remaining ≡ ops → AllByRecursion IsProper (passed_over e ops).remaining
 proper_passed e [] all is = all
@@ -19,6 +16,3 @@ proper_first e got (op ∷ ops) all is = (subst (AllByRecursion IsProper) is all
 pub proper_told : (e : State) (got : List ℕ) (due : Option Due) → AllByRecursion IsProper e.remaining → AllByRecursion IsProper (told_at e got due).remaining
 proper_told e got None all = proper_first e got e.remaining all refl
 proper_told e got (Some w) all = all
-
-pub no_invalidation : (s : ℕ) (due : Option Due) (ops : List Operation) (t a n : ℕ) → AllByRecursion IsProper ops → part_of (op_at s due ops) ≡ Invalidates t a n → ⊥
-no_invalidation s due ops t a n all is = grind (arith, common_steps)

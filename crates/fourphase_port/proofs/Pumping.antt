@@ -111,7 +111,7 @@ module _ (frame : Frame Plan) (new : PortView) (m : Moved) (none : m.pumped ≡ 
   nearer_next : (part : Part) (old : PortView) → DoesNext frame part old new m → moves_left new.hand true < 8
   nearer_next (Asks x) old d = nearer_kind x.kind (with_note d.mid old.note) d.does
   nearer_next (Pauses pause) old d = absurd (not_ended m Did (pumped_is m (ends Did) d.done) none)
-  nearer_next (Invalidates s a n) old d = absurd d
+  nearer_next (Invalidates s a n) old d = absurd (not_ended m Did (ap (λ (x : Moved). x.pumped) d.done) none)
   nearer_next AtEnd old (inl d) = absurd (not_ended m Finished (pumped_is m (ends Finished) d.1) none)
   nearer_next AtEnd old (inr d) = absurd (not_ended m Nothing (pumped_is m (ends Nothing) d.1) none)
 
@@ -185,7 +185,7 @@ module _ (frame : Frame Plan) (new : PortView) (m : Moved) (finished : m.pumped 
   ended_by : (part : Part) (old : PortView) → next_of old.port.engine ≡ part → old.hand ≡ Free → old.held ≡ None → length old.port.away ≡ 0 → DoesNext frame part old new m → HasFinished new.state
   ended_by (Asks x) old is free held none d = absurd (never_kind x.kind (with_note d.mid old.note) d.does)
   ended_by (Pauses pause) old is free held none d = absurd (no_did (not_so (Some Did) (pumped_is m (ends Did) d.done)))
-  ended_by (Invalidates s a n) old is free held none d = absurd d
+  ended_by (Invalidates s a n) old is free held none d = absurd (no_did (not_so (Some Did) (ap (λ (x : Moved). x.pumped) d.done)))
   ended_by AtEnd old is free held none (inl d) =
       let k = d.0.keeps in
       record {
@@ -257,7 +257,7 @@ module _ (frame : Frame Plan) (n : ℕ) (i : Initiator) (its : slice_get (initia
   number_next : (part : Part) (old new : PortView) (m : Moved) → DoesNext frame part old new m → HasNumber old → HasNumber new
   number_next (Asks x) old new m d is = number_kind x.kind (with_note d.mid old.note) new m d.does (number_settled old.state d.mid d.settles is)
   number_next (Pauses pause) old new m d is = ap (λ (q : Port). q.engine.initiator) d.passes.port ∙ (after_initiator false d.mid.port.engine [] ∙ number_settled old.state d.mid d.settles is)
-  number_next (Invalidates s a k) old new m d is = absurd d
+  number_next (Invalidates s a k) old new m d is = ap (λ (q : Port). q.engine.initiator) d.invalidates.port ∙ (after_initiator false d.mid.port.engine [] ∙ number_settled old.state d.mid d.settles is)
   number_next AtEnd old new m (inl d) is = number_kept old new d.0.keeps is
   number_next AtEnd old new m (inr d) is = number_kept old new d.0.keeps is
 

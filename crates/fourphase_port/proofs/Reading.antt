@@ -51,13 +51,14 @@ use Rattle.initiator_run.specs.Run.{engine_after}
 use Rattle.initiator_run.proofs.LeftLemmas.{bytes_after, leads_there}
 use Rattle.joined_traffic.specs.Accesses.{txn_of}
 use Rattle.joined_traffic.specs.Issued.{IsReplyOf}
+use Rattle.joined_traffic.proofs.ScriptLemmas.{made_for}
 use Rattle.plat_net.specs.Calls.{IsCalled, entries_of, route_at}
 use Rattle.plat_net.proofs.NumberLemmas.{memory_number}
 use Rattle.plat_net.proofs.ObjectLemmas.{memory_at}
 use Rattle.plat_net.proofs.WalkLemmas.{leads_to_memory}
 use Rattle.port_model.specs.Laws.{HasRead, HasSettled, IsReplyTo, price_by_kind, replies_of}
 use Rattle.port_model.specs.Stages.{price, price_of}
-use Rattle.port_model.proofs.DebugReads.{debug_read}
+use Rattle.port_model.proofs.Alone.{debug_read}
 use Rattle.port_model.proofs.NextAsks.{is_priced, next_asked}
 use Rattle.port_end.specs.Arrives.{events_of}
 use Rattle.port_end.proofs.Arrives.{knows_more as events_more, stand_below as events_below}
@@ -278,8 +279,9 @@ module _ (table tokens : TableId) (frame : Frame Plan) (s : StateView) (note : H
                   );
               request = request world i s.port note.knows.known note.knows.seen (left_at world s.wallet) p.way (its table tokens frame s note p) p.style x next_is;
               asked = next_asked world i s.port before note.knows.seen (left_at world s.wallet) p.way x next_is;
-              is = reply_of_it;
+              is = made_for world i e.entry (request world i s.port note.knows.known note.knows.seen (left_at world s.wallet) p.way (its table tokens frame s note p) p.style x next_is) reply_of_it;
             };
+            access = refl;
           }
 
       is_it : (o : ObjectNo) → object_number world.platform o ≡ r.memory → o ≡ Memory r.memory

@@ -154,7 +154,7 @@ module _ (frame : Frame Plan) where
     next_none : (part : Part) → next_of mid.port.engine ≡ part → length mid.port.away ≡ 0 → DoesNext frame part mid new m → Stays mid new
     next_none (Asks x) is none d = kind_none x.kind x is d.mid d.settles d.does
     next_none (Pauses pause) is none d = no_did (ends Did) d.done refl
-    next_none (Invalidates s a n) is none d = absurd d
+    next_none (Invalidates s a n) is none d = never (same_pumped Nothing Did (sym ended ∙ ap (λ (y : Moved). y.pumped) d.done))
     next_none AtEnd is none (inl d) = other (same_pumped Nothing Finished (sym (comes_to m (ends Finished) (Some Nothing) d.1 ended)))
       where
         other : Nothing ≡ Finished → Stays mid new

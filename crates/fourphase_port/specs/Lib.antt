@@ -5,6 +5,7 @@ pub mod State
 pub mod Moves
 pub mod Moved
 pub mod Returned
+pub mod Revoking
 pub mod Stocks
 pub mod Loaded
 pub mod Laws

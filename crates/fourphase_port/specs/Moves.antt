@@ -1,5 +1,5 @@
 -- What each move of a port does. A move that isn't told here of a field leaves it.
-use Rattle.std.specs.Prelude.{ℕ, ◌≡◌, ◌≤◌, max, Bool, true, false, List, [], ◌∷◌, ◌++◌, length, Option, Some, None, slice_get}
+use Rattle.std.specs.Prelude.{ℕ, ◌≡◌, ◌≤◌, ◌+◌, ◌-◌, ◌^◌, max, min, Bool, true, false, List, [], ◌∷◌, ◌++◌, length, Option, Some, None, slice_get}
 use Rattle.view_lists.specs.Lists.{Within}
 use Rattle.one_history.specs.declared.view.Frame.{Frame}
 use Rattle.tlm_types.specs.declared.words.ObjectNo.TheVariants.{Memory}
@@ -9,6 +9,10 @@ use Rattle.tlm_types.specs.declared.words.TlmSync.TheVariants.{Completed}
 use Rattle.tlm_types.specs.declared.words.TxnId.{TxnId}
 use Rattle.tlm_model.specs.Plan.{Plan, Initiator, initiators_of}
 use Rattle.tlm_model.specs.Route.{Route, later, route_of}
+use Rattle.token_book.specs.Purse.{Purse}
+use Rattle.route_plan.specs.declared.step.Route.{Route as PlanRoute}
+use Rattle.plat_net.specs.Calls.{route_at}
+use Rattle.dmi_grants.specs.Invalidating.{HasInvalidated}
 use Rattle.payload_pool.specs.declared.baton.Baton.{Baton}
 use Rattle.flow_model.specs.Events.{Among, Event, FindsAt, IsAcquire, IsAccess, IsCall, IsRelease, IsTake}
 use Rattle.flow_model.specs.Platform.{world_of}
@@ -262,6 +266,21 @@ pub record Passes (pause : Pause) (old new : StateView) : Type 0 where
   pub is_next : next_of old.port.engine ≡ Pauses pause
   pub port : new.port ≡ (let port = old.port in record port { engine = passed_by port.engine; time = time_past_pause pause port.time })
   pub rest : KeepsRest old new
+
+-- the last of so many bytes from a place of a memory
+abbrev pub last_place : ℕ → ℕ → ℕ
+last_place offset count = min (offset + (count - 1)) (2 ^ 64 - 1)
+
+-- INVALIDATE. The invalidation of so many bytes from this address that is next was made at the current time, and passed. At the memory to which the
+-- address leads it was told, in one entry, and each grant that it overlaps has its closing: by an entry of this port, one for each, where nobody
+-- else has closed it. Without a route nothing was done.
+pub record InvalidatesNext (frame : Frame Plan) (address count : ℕ) (old new : PortView) : Type 0 where
+  pub port : new.port ≡ (let port = old.port in record port { engine = passed_by port.engine })
+  pub hand : new.hand ≡ old.hand
+  pub held : new.held ≡ old.held
+  pub made : (r : PlanRoute) → route_at frame.world old.port.engine.initiator address ≡ Some r → (spent : Purse) ×
+      HasInvalidated frame r.memory (txn_of old.port.engine.initiator old.port.engine.seq) old.port.time r.offset (last_place r.offset count) old.note.knows new.note.knows old.wallet spent
+  pub none : route_at frame.world old.port.engine.initiator address ≡ None → (new.note ≡ old.note) × (new.wallet ≡ old.wallet)
 
 -- DEBUG. A debug read was made at the current time and passed, as an entry of its memory where it has a route.
 pub record ReadsDebug (frame : Frame Plan) (old new : PortView) : Type 0 where

@@ -16,7 +16,7 @@ use Rattle.script_engine.specs.State.{State, next_of, op_of}
 use Rattle.plat_net.specs.Calls.{route_at}
 use Rattle.port_model.specs.Issues.{IsPlainPart}
 use Rattle.fourphase_port.specs.Moved.{after_begin, ends, ends_made, made, went}
-use Rattle.fourphase_port.specs.Moves.{Acquires, Begins, Ends, Fetches, FindsBusy, FindsFull, FindsNone, LooksLive, Passes, PutsStray, ReadsDebug, Serves, Settles, Stows, Takes, TakesBack}
+use Rattle.fourphase_port.specs.Moves.{Acquires, Begins, Ends, Fetches, FindsBusy, FindsFull, FindsNone, InvalidatesNext, LooksLive, Passes, PutsStray, ReadsDebug, Serves, Settles, Stows, Takes, TakesBack}
 use Rattle.fourphase_port.specs.Reach.{first_hop, own_pool}
 use Rattle.fourphase_port.specs.State.{PortView, RestView, StateView, with_note}
 use Rattle.fourphase_port.specs.declared.hand.Hand.{Hand}
@@ -33,6 +33,10 @@ asks_for part = None
 -- a debug read makes an entry where its address has a route, and the pump ends with it
 abbrev pub read_moved : Plan → PortView → Transfer → Moved
 read_moved p v x = record { entry = is_some (route_at p v.port.engine.initiator x.address); pumped = Some Did }
+
+-- an invalidation makes entries where its address has a route, and the pump ends with it
+abbrev pub invalidation_moved : Plan → PortView → ℕ → Moved
+invalidation_moved p v address = record { entry = is_some (route_at p v.port.engine.initiator address); pumped = Some Did }
 
 -- what it worked on was taken out of its hand; or the request that was refused was, to try it again
 abbrev pub empty_handed : StateView → StateView
@@ -78,11 +82,17 @@ module _ (frame : Frame Plan) where
     pub note : new.note ≡ old.note
     pub done : m ≡ ends Did
 
+  pub record SettlesAndInvalidates (address count : ℕ) (old new : PortView) (m : Moved) : Type 0 where
+    pub mid : StateView
+    pub settles : Settles old.state mid
+    pub invalidates : InvalidatesNext frame address count (with_note mid old.note) new
+    pub done : m ≡ invalidation_moved frame.world (with_note mid old.note) address
+
   -- what is next but a plain access, where nothing is outstanding: once the script has ended the pump finishes unless a slot of the pool is live
   abbrev pub DoesNext : Part → PortView → PortView → Moved → Type 0
   DoesNext (Asks x) old new m = SettlesAndDoes x.kind old new m
   DoesNext (Pauses pause) old new m = SettlesAndPasses pause old new m
-  DoesNext (Invalidates s a n) old new m = ⊥
+  DoesNext (Invalidates s a n) old new m = SettlesAndInvalidates a n old new m
   DoesNext AtEnd old new m = (LooksLive frame 0 old new × (m ≡ ends Finished)) ⊎ (LooksLive frame 7 old new × (m ≡ ends Nothing))
 
   -- It goes on in its script: a plain access is taken; before all else nothing is done while something is outstanding.

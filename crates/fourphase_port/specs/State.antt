@@ -179,7 +179,7 @@ pub record IsPort (table tokens : TableId) (frame : Frame Plan) (v : PortView) :
   pub has_payload : IsSome v.payload
   -- all of its script may be outstanding at once, or refused: that no more are than its pool has slots is known to nobody but the pool
   pub roomy : count_of initiator ≤ v.room
-  -- what is left of its script is proper, as all scripts of a valid plan are: it has no invalidation
+  -- what is left of its script is proper, as all scripts of a valid plan are
   pub proper : AllByRecursion IsProper v.port.engine.remaining
 
 -- what is known of a hand of it

@@ -3,10 +3,12 @@
 //! - `Port` is a four-phase initiator under way with its note. `pump` makes its moves up to where a pump ends, `advance`
 //!   the next one, and `finish` gives up its note, its wallet and how it ended.
 //! - `PortState` is what it has beside its note: where its script stands, its times, what is outstanding, what it works
-//!   on, and its wallet. Each of its moves (`moves`) makes one entry at most.
+//!   on, and its wallet. Each of its moves (`moves`) makes one entry at most, but for an invalidation, which makes all of its
+//!   own.
 //! - `Hand` is what it works on between two moves: an access on its way down to the first hop (`down`: acquire, begin),
 //!   at a memory that answers at once (`serve`), or back from there (`back`: fetch, end, stow; `returns`: take_back).
-//! - `onwards` goes on in its script: take (`takes`), settle, pass and finish (`script`), and debug reads (`reads`).
+//! - `onwards` goes on in its script: take (`takes`), settle, pass and finish (`script`), debug reads (`reads`) and
+//!   invalidations (`revokes`).
 //! - `Away` are the numbers of the accesses that are outstanding; `wallets` and `stock` move tickets between the port's
 //!   own wallet and that of a payload.
 //!
@@ -27,6 +29,7 @@ mod places;
 mod port;
 mod reads;
 mod returns;
+mod revokes;
 mod script;
 mod serve;
 mod state;

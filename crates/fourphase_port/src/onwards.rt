@@ -90,7 +90,14 @@ impl PortState {
                 self.settle();
                 self.do_alone(rt, net, note, transfer)
             }
-            Part::Invalidates { .. } => unreachable!(),
+            Part::Invalidates {
+                seq,
+                address,
+                length,
+            } => {
+                self.settle();
+                self.invalidate(rt, net, note, seq, address, length)
+            }
         }
     }
 

@@ -104,7 +104,7 @@ impl<N: Naming<Plan, TlmLaw>> Port<N> {
         }
     }
 
-    /// The next move, which makes one entry at most. `fetched` says that this pump has already looked for a
+    /// The next move, which makes one entry at most, or those of one invalidation. `fetched` says that this pump has already looked for a
     /// response. It takes no memory.
     pub fn advance<R: Wait>(&mut self, rt: &R, net: &Net<N>, fetched: bool) -> Moved
         ensures moved { IsMoved N.frame fetched self.old self.new result }
