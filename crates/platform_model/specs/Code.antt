@@ -1,7 +1,7 @@
 -- The codes as they are printed.
 use Rattle.std.specs.Prelude.{ℕ, List, codes}
 use Rattle.platform_model.specs.declared.fault.PlatformCode.{PlatformCode}
-use Rattle.platform_model.specs.declared.fault.PlatformCode.TheVariants.{Syntax, UnknownKey, MissingKey, WrongType, BadName, UnknownWord, OutOfRange, NoAccess, NameTwice, UnknownTarget, EmptyWindow, PastEnd, Overlap, TooMuchMemory, TooManyGates, Unbound, Cycle, TooDeep, TwoPaths, NotBuilt, TooManyEntries, TooMuchData}
+use Rattle.platform_model.specs.declared.fault.PlatformCode.TheVariants.{Syntax, UnknownKey, MissingKey, WrongType, BadName, UnknownWord, OutOfRange, NoAccess, NameTwice, UnknownTarget, EmptyWindow, PastEnd, Overlap, TooMuchMemory, TooManyGates, Unbound, Cycle, TooDeep, TwoPaths, TooManyEntries, TooMuchData}
 
 -- the word of a code
 abbrev pub platform_code_word : PlatformCode → List ℕ
@@ -24,6 +24,5 @@ platform_code_word Unbound = codes "unbound"
 platform_code_word Cycle = codes "cycle"
 platform_code_word TooDeep = codes "too_deep"
 platform_code_word TwoPaths = codes "two_paths"
-platform_code_word NotBuilt = codes "not_built"
 platform_code_word TooManyEntries = codes "too_many_entries"
 platform_code_word TooMuchData = codes "too_much_data"

@@ -51,8 +51,6 @@ pub enum PlatformCode {
     TooDeep,
     /// Two paths from an initiator to one component.
     TwoPaths,
-    /// A platform of a form that isn't built yet.
-    NotBuilt,
     /// The scripts ask for more than 1,000,000 entries.
     TooManyEntries,
     /// The scripts ask for more than 67,108,864 bytes of logged data.
@@ -86,7 +84,6 @@ impl PlatformCode {
             PlatformCode::Cycle => "cycle",
             PlatformCode::TooDeep => "too_deep",
             PlatformCode::TwoPaths => "two_paths",
-            PlatformCode::NotBuilt => "not_built",
             PlatformCode::TooManyEntries => "too_many_entries",
             PlatformCode::TooMuchData => "too_much_data",
         }

@@ -10,7 +10,7 @@ use Rattle.tlm_model.specs.declared.operation.Operation.{Operation}
 use Rattle.tlm_model.specs.declared.platform.InitiatorRow.{InitiatorRow}
 use Rattle.tlm_model.specs.declared.platform.Platform.{Platform}
 use Rattle.tlm_model.specs.declared.ask.Ask.{Ask}
-use Rattle.tlm_model.specs.declared.ask.Ask.TheVariants.{Access as AnAccess, DebugRead as ADebugRead}
+use Rattle.tlm_model.specs.declared.ask.Ask.TheVariants.{Access as AnAccess, DebugRead as ADebugRead, Invalidation as AnInvalidation}
 use Rattle.tlm_model.specs.Actions.{asks_of}
 use Rattle.tlm_model.specs.Route.{Walk}
 use Rattle.traffic_script.specs.declared.piece.Piece.{Piece}
@@ -193,10 +193,15 @@ access_le Entries p n k a b few le = omega (arith, once_le 1 (is_led_to p n k a)
 access_le Logged p n k a b few le = debug_le Logged p n k a b le
 access_le Invalidations p n k a b few le = omega arith
 
+invalidation_le : (c : Counted) (p : Platform) (n k a : ℕ) → counted_of c p n k (AnInvalidation a) ≤ 8192
+invalidation_le Entries p n k a = omega (arith, once_le 1 (is_led_to p n k a))
+invalidation_le Logged p n k a = omega arith
+invalidation_le Invalidations p n k a = omega (arith, once_le 1 (is_led_to p n k a))
+
 operation_le : (c : Counted) (p : Platform) (n k : ℕ) (x : Operation) → AreFew p n → IsProper x → sum_by (counted_of c p n k) (asks_of x) ≤ 16384
 operation_le c p n k x few h =
     let access : (a b : ℕ) → b ≤ 8192 → counted_of c p n k (AnAccess a b) ≤ 8192 = λ a b le. access_le c p n k a b few le in
-    grind (arith, common_steps, access, debug_le)
+    grind (arith, common_steps, access, debug_le, invalidation_le)
 
 total_le : (c : Counted) (p : Platform) (n k : ℕ) (xs : List Operation) → AreFew p n → AllByRecursion IsProper xs → counted_in c p n k xs ≤ 16384 * length xs
 total_le c p n k [] few h = omega arith

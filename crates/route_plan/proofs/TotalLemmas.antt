@@ -1,6 +1,6 @@
 -- What all initiators of a plan add up to, and its limits.
 use Rattle.std.proofs.Common.{◌≡◌, ℕ, ◌+◌, ◌*◌, ◌<◌, ◌≤◌, Bool, true, false, List, [], ◌∷◌, length, get_or, sum_by, Option, Some, slice_get, nat_lt, Result, Ok, Err, refl, sym, ap, subst, ◌∙◌, add-one, mul-zero, zero-add, arith}
-use Rattle.std.specs.Prelude.{All, codes, if◌then◌else◌}
+use Rattle.std.specs.Prelude.{codes, if◌then◌else◌}
 use Rattle.std.specs.List.{range_with_len}
 use Rattle.std.proofs.lemmas.Bool.{ltb-false}
 use Rattle.std.proofs.lemmas.List.Folds.{fold-map}
@@ -10,13 +10,12 @@ use Rattle.platform_model.specs.declared.fault.PlatformCode.TheVariants.{TooMany
 use Rattle.platform_model.specs.declared.fault.PlatformFault.{PlatformFault}
 use Rattle.platform_model.specs.declared.fault.PlatformFault.TheVariants as fault
 use Rattle.platform_model.specs.declared.place.Place.TheVariants as place
-use Rattle.platform_model.specs.Reading.{Fails, PlatformRefusal, refusal, rows_from}
+use Rattle.platform_model.specs.Reading.{Fails, PlatformRefusal, refusal}
 use Rattle.tlm_types.specs.Reading.{◌>>=◌}
-use Rattle.platform_model.proofs.ReadLemmas.{bind_ok, if_ok, rows_passed, unless_ok}
+use Rattle.platform_model.proofs.ReadLemmas.{unless_ok}
 use Rattle.tlm_types.specs.declared.words.ObjectNo.{ObjectNo}
 use Rattle.tlm_types.specs.declared.words.ObjectNo.TheVariants.{Memory, Hop, Pool}
 use Rattle.tlm_model.specs.declared.operation.Operation.{Operation}
-use Rattle.tlm_model.specs.declared.platform.InitiatorRow.{InitiatorRow}
 use Rattle.tlm_model.specs.declared.platform.Platform.{Platform}
 use Rattle.tlm_model.specs.declared.ask.Ask.{Ask}
 use Rattle.tlm_model.specs.declared.ask.Ask.TheVariants.{Access as AnAccess, DebugRead as ADebugRead, Invalidation as AnInvalidation}
@@ -26,7 +25,6 @@ use Rattle.route_plan.specs.Counted.{logged_share_at, logged_share_by, share_at,
 use Rattle.route_plan.specs.Paths.{once}
 use Rattle.route_plan.specs.Places.{object_at, object_count}
 use Rattle.route_plan.specs.Planned.{asks_in, is_routed_to, logged_at, logged_bytes, logged_share, planned_at}
-use Rattle.route_plan.specs.Shape.{IsServed, checked_served, checked_style, style_is_built}
 use Rattle.route_plan.specs.Shares.{checked_shares, entries_in, logged_in, object_shares, pair_share, shares_of, with_scripts}
 use Rattle.route_plan.specs.Valid.{IsObject, checked_plan, hop_count, logged_in_all, most_entries, most_logged, planned, planned_in_all}
 use Rattle.route_plan.proofs.PlaceLemmas.{hop_at, memory_at, pool_at, shifted, sum_places}
@@ -170,11 +168,3 @@ object_kept plan kept k row same lt at =
 pub share_kept : (plan : Plan) (k n : ℕ) (d : Share) → n < length plan.platform.initiators → get_or (object_shares plan k) n d ≡ pair_share plan k n
 unfolding object_shares
 share_kept plan k n d lt = get_or-map-range_with_len (pair_share plan k) 0 (length plan.platform.initiators) n n d lt (zero-add n)
-
--- rows that have passed the test of styles
-pub served_by_rows : (rows : List InitiatorRow) (done : List (Unit {0})) → rows_from checked_style 0 rows ≡ Ok done → All (λ (i : InitiatorRow). style_is_built i.style ≡ true) rows
-served_by_rows rows done passed = rows_passed (λ (i : InitiatorRow). style_is_built i.style ≡ true) checked_style (λ n i ok. (if_ok (style_is_built i.style) tt _ tt ok).0) 0 rows done passed
-
-pub served_by_test : (p : Platform) → checked_served p ≡ Ok tt → IsServed p
-unfolding checked_served
-served_by_test p h = bind_ok (rows_from checked_style 0 p.initiators) _ _ h (λ done passed h1. served_by_rows p.initiators done passed)

@@ -1,7 +1,7 @@
 -- The shape of a platform, or its first fault.
 use Rattle.std.specs.Prelude.{ℕ, ◌≡◌, Bool, true, false, ◌||◌, ◌==◌, length, All, Result, Ok, Err, if◌then◌else◌, nat_lt, codes}
 use Rattle.std.specs.List.{list_any, range_with_len}
-use Rattle.platform_model.specs.declared.fault.PlatformCode.TheVariants.{Unbound, Cycle, TooDeep, TwoPaths, NotBuilt}
+use Rattle.platform_model.specs.declared.fault.PlatformCode.TheVariants.{Unbound, Cycle, TooDeep, TwoPaths}
 use Rattle.platform_model.specs.declared.place.Place.TheVariants as place
 use Rattle.platform_model.specs.Bounded.{IsBounded}
 use Rattle.platform_model.specs.Reading.{PlatformRefusal, refusal, rows_from}
@@ -10,8 +10,7 @@ use Rattle.tlm_model.specs.declared.platform.InitiatorRow.{InitiatorRow}
 use Rattle.tlm_model.specs.declared.platform.MemoryRow.{MemoryRow}
 use Rattle.tlm_model.specs.declared.platform.Platform.{Platform}
 use Rattle.tlm_model.specs.declared.platform.RouterRow.{RouterRow}
-use Rattle.tlm_model.specs.declared.platform.Style.{Style}
-use Rattle.tlm_model.specs.declared.platform.Style.TheVariants.{Blocking, Direct, FourPhase}
+use Rattle.tlm_model.specs.declared.platform.Style.TheVariants.{Blocking}
 use Rattle.tlm_model.specs.declared.platform.Target.TheVariants.{Router, Memory}
 use Rattle.route_plan.specs.Paths.{is_on_cycle, is_deeper, paths_to, is_named}
 
@@ -58,26 +57,6 @@ checked_shape p = do
 pub record IsShape (p : Platform) : Type 0 where
   pub bounded : IsBounded p
   pub checked : checked_shape p ≡ Ok tt
-
--- A plan may have initiators of every style. What is served so far is said here alone: direct initiators aren't
--- built yet.
-abbrev pub style_is_built : Style → Bool
-style_is_built Blocking = true
-style_is_built Direct = false
-style_is_built FourPhase = true
-
-abbrev pub checked_style : ℕ → InitiatorRow → Result (Unit {0}) PlatformRefusal
-checked_style n i = if style_is_built i.style then Ok tt else Err (refusal NotBuilt (place.Initiator n) (codes "style"))
-
--- the test that a platform is served
-unfoldable pub checked_served : Platform → Result (Unit {0}) PlatformRefusal
-checked_served p = do
-  _ ← rows_from checked_style 0 p.initiators
-  Ok tt
-
--- the style of each initiator is built
-abbrev pub IsServed : Platform → Type 0
-IsServed p = All (λ (i : InitiatorRow). style_is_built i.style ≡ true) p.initiators
 
 -- all initiators are blocking
 abbrev pub IsBlocking : Platform → Type 0

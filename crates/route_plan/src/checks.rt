@@ -1,8 +1,8 @@
 // The tests of a platform's shape.
-ghost use Rattle.std.specs.Prelude.{◌≡◌, ◌↔◌, true, IfOk, OnOk};
+ghost use Rattle.std.specs.Prelude.{◌≡◌, ◌↔◌, true, IfOk};
 ghost use Rattle.platform_model.specs.Bounded.{IsBounded};
 ghost use Rattle.platform_model.specs.Reading.{Gives, GivesBy};
-ghost use Rattle.route_plan.specs.Shape.{checked_windowed, checked_router_named, checked_memory_named, checked_acyclic, checked_depth, checked_single, checked_style, checked_served, checked_shape, IsBlocking, IsServed};
+ghost use Rattle.route_plan.specs.Shape.{checked_windowed, checked_router_named, checked_memory_named, checked_acyclic, checked_depth, checked_single, checked_shape, IsBlocking};
 
 use crate::copies::copy_platform;
 use crate::paths::{has_two_paths, is_deeper, is_named, is_on_cycle};
@@ -121,25 +121,6 @@ impl<'p> RowKind<InitiatorRow> for Single<'p> {
     }
 }
 
-/// The test that an initiator's style is built.
-#[derive(Drop)]
-struct BuiltStyle;
-
-impl RowKind<InitiatorRow> for BuiltStyle {
-    type Row = ();
-
-    ghost reads = { λ _. checked_style };
-
-    fn read(&self, alloc: Global, index: usize, item: &InitiatorRow) -> Result<(), PlatformFault> {
-        match item.style {
-            Style::Blocking | Style::FourPhase => Ok(()),
-            Style::Direct => {
-                Err(Place::Initiator(index).refuse(alloc, PlatformCode::NotBuilt, "style"))
-            }
-        }
-    }
-}
-
 /// The tests of a platform's shape, in this order: `Unbound` where a router has no window or where
 /// nothing names a router or a memory, `Cycle`, `TooDeep` and `TwoPaths`.
 #[tactic(auto, unfolding(crate::specs::Shape::checked_shape))]
@@ -159,9 +140,8 @@ fn check_shape(alloc: Global, platform: &Platform) -> Result<(), PlatformFault>
 
 /// The shape of a platform, which it copies, or its first fault in the order of the codes: `Unbound`
 /// where a router has no window or where nothing names a router or a memory, `Cycle`, `TooDeep`, and
-/// `TwoPaths`. Initiators may have every style: whether they are served is asked by `served`. The only
-/// other error is want of memory. The platform keeps the limits of the format, as each does that a file
-/// describes.
+/// `TwoPaths`. The only other error is want of memory. The platform keeps the limits of the format, as
+/// each does that a file describes.
 pub fn shape(alloc: Global, platform: &Platform) -> Result<Shape, PlatformFault>
     requires { IsBounded platform.now }
     ensures checked { GivesBy (λ _. tt) result (checked_shape platform.now) }
@@ -170,18 +150,6 @@ pub fn shape(alloc: Global, platform: &Platform) -> Result<Shape, PlatformFault>
     check_shape(alloc, platform)?;
     let platform = copy_platform(alloc, platform)?;
     Ok(Shape::of_checked(platform))
-}
-
-/// Whether a platform is served: the first initiator whose style isn't built is refused (`NotBuilt`).
-/// All styles but direct are built. The only other error is want of memory.
-#[tactic(auto, unfolding(crate::specs::Shape::checked_served))]
-pub fn served(alloc: Global, shape: &Shape) -> Result<(), PlatformFault>
-    ensures checked { Gives result (checked_served shape.now) }
-    ensures served { OnOk result (IsServed shape.now) }
-{
-    let initiators = shape.platform().initiators.as_slice();
-    rows(alloc, &BuiltStyle, initiators)?;
-    Ok(())
 }
 
 /// Whether all initiators of a platform are blocking.

@@ -1,8 +1,8 @@
 //! Platforms whose routes are sound, and plans: such a platform with its scripts.
 //!
 //! - `shape` tests a platform and copies it into a `Shape`, or answers its first fault as a
-//!   `PlanFault`, which is the fault of the platform file. Initiators may have every style; `served` asks
-//!   whether theirs are built so far, `is_blocking` whether all are blocking.
+//!   `PlanFault`, which is the fault of the platform file. Initiators may have every style; `is_blocking`
+//!   asks whether all are blocking.
 //! - `plan` makes a `Plan` of a shape and the script of each initiator. It answers where addresses
 //!   lead (`route`), how long that takes, also where no memory is (`latency`), over which hops (`hops`,
 //!   with `hop_ends`), what the scripts may add to each object at most (`entries` and `logged`, with the
@@ -15,9 +15,8 @@
 //!   multiplied, and a `Share` is what was counted of an initiator at an object.
 //!
 //! Promises: a platform is refused just where `checked_shape` of `specs/Shape.antt` refuses it, with
-//! that refusal, and a `Shape` is the platform that it was made of. It is served just where
-//! `checked_served` passes it. A plan is refused just where `checked_plan` of `specs/Valid.antt` refuses
-//! it: more than 1,000,000 entries, or else more than 67,108,864 bytes. A plan's routes and hops are
+//! that refusal, and a `Shape` is the platform that it was made of. A plan is refused just where
+//! `checked_plan` of `specs/Valid.antt` refuses it: more than 1,000,000 entries, or else more than 67,108,864 bytes. A plan's routes and hops are
 //! those of the walk of the definitions, in constant time for each router on the way, and can't fail.
 //! Its counts are those of `specs/Planned.antt`: they are taken once, when it is made. The only other
 //! answer is want of memory.
@@ -38,7 +37,7 @@ mod shares;
 mod step;
 mod walks;
 
-pub use checks::{is_blocking, served, shape};
+pub use checks::{is_blocking, shape};
 pub use ends::{HopEnds, Up};
 pub use planning::plan;
 pub use plans::Plan;

@@ -37,7 +37,7 @@ fn check_shares(alloc: Global, shares: &[Rows<Share>]) -> Result<(), PlatformFau
 /// The plan of a shape with the script of each initiator in order, which are copied. It is refused
 /// where its scripts may add more than 1,000,000 entries to the objects (`TooManyEntries`), or else
 /// log more than 67,108,864 bytes (`TooMuchData`). The only other error is want of memory.
-/// Each plan that is made is valid. Where `served` has passed its shape, it is served.
+/// Each plan that is made is valid.
 pub fn plan(alloc: Global, shape: Shape, scripts: &[Script]) -> Result<Plan, PlatformFault>
     requires { length scripts.now ≡ length shape.initiators }
     ensures read { Gives result (planned (record { platform = shape; scripts = scripts.now })) }

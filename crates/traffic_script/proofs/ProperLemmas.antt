@@ -1,5 +1,5 @@
 -- The operations of a script are proper.
-use Rattle.std.proofs.Common.{◌≡◌, ◌⊎◌, inl, inr, ℕ, ◌+◌, ◌*◌, ◌^◌, ◌<◌, ◌≤◌, List, [], ◌∷◌, length, drop, Bool, true, false, cond, ◌&&◌, ◌||◌, nat_eq, nat_le, nat_lt, Option, Some, None, Result, Ok, Err, codes, refl, subst, arith}
+use Rattle.std.proofs.Common.{◌≡◌, ◌⊎◌, inl, inr, ℕ, ◌+◌, ◌-◌, ◌*◌, ◌^◌, ◌<◌, ◌≤◌, List, [], ◌∷◌, length, drop, Bool, true, false, cond, ◌&&◌, ◌||◌, nat_eq, nat_le, nat_lt, Option, Some, None, Result, Ok, Err, codes, refl, subst, arith}
 use Rattle.std.specs.Prelude.{unwrap_or, is_some, IfSome}
 use Rattle.std.specs.List.{list_all, starts_with, AllByRecursion}
 use Rattle.std.specs.Char.{is_digit, digit_value}
@@ -7,7 +7,7 @@ use Rattle.std.specs.Str.Parse.{digits_value}
 use Rattle.std.proofs.lemmas.Bool.{ltb-true, leb-true}
 use Rattle.std.proofs.lemmas.Bool.Decides.{nat_tests}
 use Rattle.tlm_model.specs.declared.operation.Operation.{Operation}
-use Rattle.tlm_model.specs.declared.operation.Operation.TheVariants.{Write, Read, Ignore, Debug, Copy, Add, FetchAdd, Wait, Sync, Fence}
+use Rattle.tlm_model.specs.declared.operation.Operation.TheVariants.{Write, Read, Ignore, Debug, Copy, Add, FetchAdd, Wait, Sync, Fence, Invalidate}
 use Rattle.traffic_script.specs.declared.fault.ScriptCode.{ScriptCode}
 use Rattle.traffic_script.specs.declared.fault.ScriptCode.TheVariants.{BadNumber, BadHex, BadLength, BadOption, UnknownOperation}
 use Rattle.traffic_script.specs.declared.options.Options.{Options}
@@ -17,10 +17,10 @@ use Rattle.traffic_script.specs.declared.statement.Statement.{Statement}
 use Rattle.traffic_script.specs.declared.statement.Statement.TheVariants.{Asks, Repeats, Ends}
 use Rattle.tlm_types.specs.Reading.{◌>>=◌}
 use Rattle.traffic_script.specs.Words.{words_of, text_of}
-use Rattle.traffic_script.specs.Numbers.{number_in, read_number, within, length_of, times_of, addend_of, byte_of, bytes_of, read_hex, few, only_enables, data_of, enables_of}
+use Rattle.traffic_script.specs.Numbers.{number_in, read_number, within, length_of, span_of, times_of, addend_of, byte_of, bytes_of, read_hex, few, only_enables, data_of, enables_of}
 use Rattle.tlm_types.specs.Enables.{is_enable}
 use Rattle.traffic_script.specs.Options.{no_options, with_enables, with_width, with_option, with_options}
-use Rattle.traffic_script.specs.Statements.{keyword_of, write_of, read_of, ignore_of, debug_of, copy_of, add_of, fetch_add_of, of_version_2, wait_of, alone, repeat_of, asks, statement_by, statement_in, statement_of}
+use Rattle.traffic_script.specs.Statements.{keyword_of, write_of, read_of, ignore_of, debug_of, copy_of, add_of, fetch_add_of, of_version_2, wait_of, invalidate_of, alone, repeat_of, asks, statement_by, statement_in, statement_of}
 use Rattle.traffic_script.specs.Proper.{IsLength, AreEnables, AreBytes, IsProper, AreTimes, IsProperStatement}
 use Rattle.traffic_script.proofs.ReadLemmas.{bind-Ok, if-Ok, unless-Ok, and-true}
 
@@ -50,6 +50,12 @@ length-proper word n e =
     let value = bind-Ok (read_number word) (within BadLength 1 4096) n e in
     let range = within-range BadLength 1 4096 value.0 n value.2 in
     record { some = range.0; few = range.1 }
+
+span-range : (word : List ℕ) (n : ℕ) → span_of word ≡ Ok n → (0 < n) × (n < 2 ^ 64)
+span-range word n e =
+    let value = bind-Ok (read_number word) (within BadLength 1 (2 ^ 64 - 1)) n e in
+    let range = within-range BadLength 1 (2 ^ 64 - 1) value.0 n value.2 in
+    (omega (arith, range.0), omega (arith, range.1))
 
 times-proper : (word : List ℕ) (n : ℕ) → times_of word ≡ Ok n → AreTimes n
 times-proper word n e =
@@ -267,6 +273,17 @@ wait-proper (number ∷ []) op e =
     subst IsProper same (number_of-lt number time.0 time.1)
 wait-proper (number ∷ more ∷ words) op e = cc
 
+invalidate-proper : (words : List (List ℕ)) (op : Operation) → invalidate_of words ≡ Ok op → IsProper op
+invalidate-proper [] op e = cc
+invalidate-proper (address ∷ []) op e = cc
+invalidate-proper (address ∷ count ∷ []) op e =
+    let at = bind-Ok (read_number address) (λ at. span_of count >>= λ n. Ok (Invalidate at n)) op e in
+    let n = bind-Ok (span_of count) (λ n. Ok (Invalidate at.0 n)) op at.2 in
+    let same : Invalidate at.0 n.0 ≡ op = cc in
+    let range = span-range count n.0 n.1 in
+    subst IsProper same (number_of-lt address at.0 at.1, range.0, range.1)
+invalidate-proper (address ∷ count ∷ more ∷ words) op e = cc
+
 alone-Ok : {A : Type 0} (x found : A) (words : List (List ℕ)) → alone x words ≡ Ok found → x ≡ found
 alone-Ok x found [] e = cc
 alone-Ok x found (word ∷ words) e = cc
@@ -296,7 +313,7 @@ by-proper version keyword.FetchAdd words s e = asks-proper (of_version_2 version
 by-proper version keyword.Wait words s e = asks-proper (wait_of words) s (wait-proper words) e
 by-proper version keyword.Sync words s e = asks-proper (alone Sync words) s (λ op q. subst IsProper (alone-Ok Sync op words q) tt) e
 by-proper version keyword.Fence words s e = asks-proper (alone Fence words) s (λ op q. subst IsProper (alone-Ok Fence op words q) tt) e
-by-proper version keyword.Invalidate words s e = cc
+by-proper version keyword.Invalidate words s e = asks-proper (invalidate_of words) s (invalidate-proper words) e
 by-proper version keyword.Repeat words s e = repeat-proper words s e
 by-proper version keyword.End words s e = subst IsProperStatement (alone-Ok Ends s words e) tt
 

@@ -1,5 +1,5 @@
 -- The numbers and bytes that words write.
-use Rattle.std.specs.Prelude.{ℕ, ◌+◌, ◌*◌, ◌^◌, ◌&&◌, ◌==◌, List, [], ◌∷◌, length, drop, nat_eq, nat_lt, nat_le, if◌then◌else◌, Result, Ok, Err, codes}
+use Rattle.std.specs.Prelude.{ℕ, ◌+◌, ◌-◌, ◌*◌, ◌^◌, ◌&&◌, ◌==◌, List, [], ◌∷◌, length, drop, nat_eq, nat_lt, nat_le, if◌then◌else◌, Result, Ok, Err, codes}
 use Rattle.std.specs.Char.{is_digit, digit_value}
 use Rattle.std.specs.List.{list_all, starts_with}
 use Rattle.std.specs.Str.Parse.{digits_value}
@@ -25,6 +25,10 @@ within code least most n = if nat_le least n && nat_le n most then Ok n else Err
 -- a length in bytes
 abbrev pub length_of : List ℕ → Result ℕ ScriptCode
 length_of word = read_number word >>= within BadLength 1 4096
+
+-- the number of bytes that an invalidation names
+abbrev pub span_of : List ℕ → Result ℕ ScriptCode
+span_of word = read_number word >>= within BadLength 1 (2 ^ 64 - 1)
 
 -- how often a repeat is done
 abbrev pub times_of : List ℕ → Result ℕ ScriptCode

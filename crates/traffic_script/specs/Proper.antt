@@ -29,8 +29,7 @@ pub record IsProperAccess (address count : ℕ) (enables : List ℕ) (width : Op
   pub enabled : AreEnables enables
   pub wide : IfSome width (λ w. w < 2 ^ 64)
 
--- numbers are below 2^64, lengths 1 to 4,096, and what a write sends is bytes; no script has an `invalidate`, which
--- isn't built yet
+-- numbers are below 2^64, lengths of data 1 to 4,096, and what a write sends is bytes
 abbrev pub IsProper : Operation → Type 0
 IsProper (Write address bytes enables width) = IsProperAccess address (length bytes) enables width × AreBytes bytes
 IsProper (Read address n enables width) = IsProperAccess address n enables width
@@ -42,7 +41,7 @@ IsProper (FetchAdd address n) = (address < 2 ^ 64) × (n < 2 ^ 32)
 IsProper (Wait time) = time < 2 ^ 64
 IsProper Sync = Unit {0}
 IsProper Fence = Unit {0}
-IsProper (Invalidate address n) = ⊥
+IsProper (Invalidate address n) = (address < 2 ^ 64) × (0 < n) × (n < 2 ^ 64)
 
 -- the operations of a script: at most 100,000
 pub record AreProper (operations : List Operation) : Type 0 where

@@ -2,7 +2,7 @@
 use Rattle.std.specs.Prelude.{ℕ, List, Option, Some, None, Result, Ok, Err, codes}
 use Rattle.tlm_types.specs.Reading.{FailsAs, Returns}
 use Rattle.traffic_script.specs.declared.fault.ScriptCode.{ScriptCode}
-use Rattle.traffic_script.specs.declared.fault.ScriptCode.TheVariants.{TooManyLines, BadByte, UnknownOperation, Arity, BadNumber, BadHex, BadLength, BadOption, NestedRepeat, EndWithoutRepeat, EmptyRepeat, TooManyOperations, RepeatWithoutEnd, NotBuilt}
+use Rattle.traffic_script.specs.declared.fault.ScriptCode.TheVariants.{TooManyLines, BadByte, UnknownOperation, Arity, BadNumber, BadHex, BadLength, BadOption, NestedRepeat, EndWithoutRepeat, EmptyRepeat, TooManyOperations, RepeatWithoutEnd}
 use Rattle.traffic_script.specs.declared.fault.ScriptFault.{ScriptFault}
 use Rattle.traffic_script.specs.declared.fault.ScriptFault.TheVariants as script
 use Rattle.traffic_script.specs.declared.fault.LineFault.{LineFault}
@@ -23,7 +23,6 @@ script_code_word EndWithoutRepeat = codes "end_without_repeat"
 script_code_word EmptyRepeat = codes "empty_repeat"
 script_code_word TooManyOperations = codes "too_many_operations"
 script_code_word RepeatWithoutEnd = codes "repeat_without_end"
-script_code_word NotBuilt = codes "not_built"
 
 -- why a script is refused: the number of a line, from 1, and the code
 pub record ScriptRefusal : Type 0 where

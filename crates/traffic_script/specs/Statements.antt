@@ -2,16 +2,16 @@
 use Rattle.std.specs.Prelude.{ℕ, List, [], ◌∷◌, Option, Some, None, unwrap_or, ◌==◌, if◌then◌else◌, Result, Ok, Err, codes}
 use Rattle.std.specs.Str.{bytes_eq}
 use Rattle.tlm_model.specs.declared.operation.Operation.{Operation}
-use Rattle.tlm_model.specs.declared.operation.Operation.TheVariants.{Write, Read, Ignore, Debug, Copy, Add, FetchAdd, Wait, Sync, Fence}
+use Rattle.tlm_model.specs.declared.operation.Operation.TheVariants.{Write, Read, Ignore, Debug, Copy, Add, FetchAdd, Wait, Sync, Fence, Invalidate}
 use Rattle.traffic_script.specs.declared.fault.ScriptCode.{ScriptCode}
-use Rattle.traffic_script.specs.declared.fault.ScriptCode.TheVariants.{UnknownOperation, Arity, NotBuilt}
+use Rattle.traffic_script.specs.declared.fault.ScriptCode.TheVariants.{UnknownOperation, Arity}
 use Rattle.traffic_script.specs.declared.keyword.Keyword.{Keyword}
 use Rattle.traffic_script.specs.declared.keyword.Keyword.TheVariants as keyword
 use Rattle.traffic_script.specs.declared.statement.Statement.{Statement}
 use Rattle.traffic_script.specs.declared.statement.Statement.TheVariants.{Asks, Repeats, Ends}
 use Rattle.tlm_types.specs.Reading.{◌>>=◌}
 use Rattle.traffic_script.specs.Words.{words_of, text_of}
-use Rattle.traffic_script.specs.Numbers.{read_number, length_of, times_of, addend_of, data_of}
+use Rattle.traffic_script.specs.Numbers.{read_number, length_of, span_of, times_of, addend_of, data_of}
 use Rattle.traffic_script.specs.Options.{no_options, with_options}
 
 -- what the first word of a line names
@@ -93,6 +93,14 @@ abbrev pub wait_of : List (List ℕ) → Result Operation ScriptCode
 wait_of (number ∷ []) = read_number number >>= λ time. Ok (Wait time)
 wait_of words = Err Arity
 
+-- `invalidate ADDR LEN`
+abbrev pub invalidate_of : List (List ℕ) → Result Operation ScriptCode
+invalidate_of (address ∷ count ∷ []) = do
+  at ← read_number address
+  n ← span_of count
+  Ok (Invalidate at n)
+invalidate_of words = Err Arity
+
 -- a word that stands alone
 abbrev pub alone : {A : Type 0} → A → List (List ℕ) → Result A ScriptCode
 alone x [] = Ok x
@@ -122,7 +130,7 @@ statement_by version keyword.FetchAdd words = asks (of_version_2 version (fetch_
 statement_by version keyword.Wait words = asks (wait_of words)
 statement_by version keyword.Sync words = asks (alone Sync words)
 statement_by version keyword.Fence words = asks (alone Fence words)
-statement_by version keyword.Invalidate words = Err NotBuilt
+statement_by version keyword.Invalidate words = asks (invalidate_of words)
 statement_by version keyword.Repeat words = repeat_of words
 statement_by version keyword.End words = alone Ends words
 

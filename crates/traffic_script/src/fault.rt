@@ -33,8 +33,6 @@ pub enum ScriptCode {
     /// There are more than 100,000 operations, with each round of a repeat counted.
     TooManyOperations,
     RepeatWithoutEnd,
-    /// The operation isn't built yet.
-    NotBuilt,
 }
 
 impl ScriptCode {
@@ -56,7 +54,6 @@ impl ScriptCode {
             ScriptCode::EmptyRepeat => "empty_repeat",
             ScriptCode::TooManyOperations => "too_many_operations",
             ScriptCode::RepeatWithoutEnd => "repeat_without_end",
-            ScriptCode::NotBuilt => "not_built",
         }
     }
 }

@@ -1,7 +1,7 @@
 //! The script reader: a text as the operations that an initiator is asked for.
 //!
 //! - `read_script` reads a text of at most 10,000 lines, by the grammar of `docs/FORMATS.md`, in version
-//!   1 or 2: only version 2 has `fetch_add`. Only `invalidate` isn't built yet.
+//!   1 or 2: only version 2 has `fetch_add`.
 //! - `Script` is what was read, which contracts see as a list of operations, repeats written out. It
 //!   keeps a `Piece` for operations that are repeated, with their number of times, so its memory goes
 //!   by the text's lines. Its copies, and the cursors made of them, share its pieces, so a copy takes
@@ -13,8 +13,8 @@
 //!
 //! Promises: what is read is `script_of` of the text, in `specs/Lines`, and so is each refusal, the
 //! first in the text. The operations of a script are proper, in `specs/Proper`: at most 100,000, with
-//! lengths of 1 to 4,096 bytes and numbers below 2^64, and none is an `invalidate`. Reading takes time
-//! in proportion to the text.
+//! lengths of data of 1 to 4,096 bytes and numbers below 2^64. Reading takes time in proportion to the
+//! text.
 #![tactic(auto)]
 
 mod asks;

@@ -4,7 +4,7 @@ ghost use Rattle.std.specs.Option.{SomeIff};
 ghost use Rattle.std.specs.Char.{is_digit, digit_value};
 ghost use Rattle.std.specs.List.{list_all};
 ghost use Rattle.traffic_script.specs.Reading.{GivesCode};
-ghost use Rattle.traffic_script.specs.Numbers.{number_in, read_number, within, length_of, times_of, addend_of, byte_of, bytes_of, read_hex, data_of, enables_of};
+ghost use Rattle.traffic_script.specs.Numbers.{number_in, read_number, within, length_of, span_of, times_of, addend_of, byte_of, bytes_of, read_hex, data_of, enables_of};
 ghost use Rattle.tlm_types.specs.Enables.{is_enable};
 
 use crate::fault::{LineFault, ScriptCode};
@@ -79,6 +79,13 @@ pub fn length(word: &[u8]) -> Result<u64, ScriptCode>
 {
     let length = number(word)?;
     within(ScriptCode::BadLength, 1, MOST_BYTES as u64, length)
+}
+
+pub fn span(word: &[u8]) -> Result<u64, ScriptCode>
+    ensures { result ≡ span_of word.now }
+{
+    let span = number(word)?;
+    within(ScriptCode::BadLength, 1, u64::MAX, span)
 }
 
 pub fn times(word: &[u8]) -> Result<u32, ScriptCode>

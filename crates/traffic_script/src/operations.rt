@@ -3,10 +3,10 @@ ghost use Rattle.std.specs.Prelude.{◌≡◌, [], unwrap_or};
 ghost use Rattle.tlm_model.specs.declared.operation.Operation.TheVariants.{Sync, Fence};
 ghost use Rattle.traffic_script.specs.Reading.{GivesCode};
 ghost use Rattle.traffic_script.specs.Words.{words_of};
-ghost use Rattle.traffic_script.specs.Statements.{write_of, read_of, ignore_of, debug_of, copy_of, add_of, fetch_add_of, wait_of, alone};
+ghost use Rattle.traffic_script.specs.Statements.{write_of, read_of, ignore_of, debug_of, copy_of, add_of, fetch_add_of, wait_of, invalidate_of, alone};
 
 use crate::fault::{LineFault, ScriptCode};
-use crate::numbers::{addend, data, length, number};
+use crate::numbers::{addend, data, length, number, span};
 use crate::options::read_options;
 use crate::words::{first_word, one_word, three_words, two_first_words, two_words};
 use std::alloc::Global;
@@ -119,6 +119,17 @@ pub fn wait(words: &[u8]) -> Result<Operation, ScriptCode>
     };
     let time = number(word)?;
     Ok(Operation::Wait { time })
+}
+
+pub fn invalidate(words: &[u8]) -> Result<Operation, ScriptCode>
+    ensures { result ≡ invalidate_of (words_of words.now) }
+{
+    let Some((address, count)) = two_words(words) else {
+        return Err(ScriptCode::Arity);
+    };
+    let address = number(address)?;
+    let length = span(count)?;
+    Ok(Operation::Invalidate { address, length })
 }
 
 pub fn sync(words: &[u8]) -> Result<Operation, ScriptCode>

@@ -8,7 +8,9 @@ ghost use Rattle.traffic_script.specs.Statements.{repeat_of, alone, of_version_2
 use crate::fault::{LineFault, ScriptCode};
 use crate::keyword::{Keyword, read_keyword};
 use crate::numbers::times;
-use crate::operations::{add, copy, debug, fence, fetch_add, ignore, read, sync, wait, write};
+use crate::operations::{
+    add, copy, debug, fence, fetch_add, ignore, invalidate, read, sync, wait, write,
+};
 use crate::words::{first_word, one_word, text_of};
 use std::alloc::Global;
 use tlm_model::Operation;
@@ -68,7 +70,7 @@ fn statement_by(
         Keyword::Wait => Ok(Statement::Asks(wait(words)?)),
         Keyword::Sync => Ok(Statement::Asks(sync(words)?)),
         Keyword::Fence => Ok(Statement::Asks(fence(words)?)),
-        Keyword::Invalidate => Err(LineFault::Refused(ScriptCode::NotBuilt)),
+        Keyword::Invalidate => Ok(Statement::Asks(invalidate(words)?)),
         Keyword::Repeat => Ok(repeat(words)?),
         Keyword::End => Ok(end(words)?),
     }

@@ -1,7 +1,7 @@
 //! Worked scripts. Each is proved to be read so by computing the definition.
 ghost use Rattle.std.specs.Prelude.{◌≡◌, [], ◌∷◌, ◌++◌, codes, Some, None, Ok};
 ghost use Rattle.tlm_model.specs.declared.operation.Operation.TheVariants.{Write, Read, Ignore, Debug, Copy, Add, FetchAdd, Wait, Sync, Fence};
-ghost use Rattle.traffic_script.specs.declared.fault.ScriptCode.TheVariants.{BadByte, UnknownOperation, Arity, BadNumber, BadHex, BadLength, BadOption, NestedRepeat, EndWithoutRepeat, EmptyRepeat, RepeatWithoutEnd, NotBuilt};
+ghost use Rattle.traffic_script.specs.declared.fault.ScriptCode.TheVariants.{BadByte, UnknownOperation, Arity, BadNumber, BadHex, BadLength, BadOption, NestedRepeat, EndWithoutRepeat, EmptyRepeat, RepeatWithoutEnd};
 ghost use Rattle.traffic_script.specs.Lines.{script_of};
 ghost use Rattle.traffic_script.specs.Worked.{refused};
 
@@ -40,5 +40,5 @@ pub fn refused()
     ensures no_repeat { script_of 1 (codes "end\n") ≡ refused 1 EndWithoutRepeat }
     ensures empty { script_of 1 (codes "repeat 2\n\nend\n") ≡ refused 3 EmptyRepeat }
     ensures no_end { script_of 1 (codes "repeat 2\nsync\n") ≡ refused 1 RepeatWithoutEnd }
-    ensures not_built { script_of 1 (codes "invalidate\n") ≡ refused 1 NotBuilt }
+    ensures span { script_of 1 (codes "invalidate 0 0\n") ≡ refused 1 BadLength }
 {}
