@@ -1,5 +1,5 @@
 -- What is seen of what waits to be handed out, and what is handed out.
-use Rattle.std.specs.Prelude.{ℕ, ◌≡◌, ◌+◌, ◌<◌, Bool, true, List, [], length, replicate, Option, Some, IsSomeAnd, slice_get}
+use Rattle.std.specs.Prelude.{ℕ, ◌≡◌, ◌+◌, ◌<◌, ◌≤◌, Bool, true, List, [], length, replicate, Option, Some, IsSomeAnd, slice_get}
 use mathlib.Core.Option.{some}
 use lib.ListN.{get_elem?}
 use Rattle.atomic_table.specs.Seated.{TableId}
@@ -20,6 +20,10 @@ use Rattle.route_plan.specs.Counted.{share_at}
 use Rattle.plat_build.specs.declared.kept.Start.{Start}
 use Rattle.cargo_model.specs.Known.{objects_of}
 use Rattle.plat_net.specs.Objects.{HasObject, bytes_at}
+
+-- a wallet has tickets of the objects of the platform alone
+abbrev pub HasNoOthers : Platform → Purse → Type 0
+HasNoOthers p w = (k : ℕ) → length (objects_of p) ≤ k → left_of w k ≡ 0
 
 -- for each initiator, each router and each memory, whether what it gets still waits
 pub record Waiting : Type 0 where

@@ -8,6 +8,7 @@ use Rattle.tlm_types.specs.declared.words.ObjectNo.TheVariants.{Memory as memory
 use Rattle.tlm_model.specs.declared.operation.Operation.{Operation}
 use Rattle.tlm_model.specs.declared.platform.InitiatorRow.{InitiatorRow}
 use Rattle.tlm_model.specs.Plan.{Plan, Initiator, initiators_from, initiators_of}
+use Rattle.grant_model.specs.Laws.{HasNoInvalidation}
 use Rattle.good_history.specs.Good.{IsSound}
 use Rattle.good_history.proofs.Ungranted.{sound_empty}
 use Rattle.region_object.specs.Region.{LoggedMemory}
@@ -23,7 +24,7 @@ use Rattle.run_outcome.specs.Merge.{by_position, entries_in}
 use Rattle.initiator_run.specs.Run.{Run, fresh_run}
 use Rattle.initiator_run.proofs.EndLemmas.{HasCome-begun}
 use Rattle.run_outcome.proofs.ListLemmas.{at_push}
-use Rattle.run_outcome.proofs.PlanLemmas.{blocking_is_served, no_direct, no_fourphase}
+use Rattle.run_outcome.proofs.PlanLemmas.{no_direct, no_fourphase}
 use Rattle.traffic_script.specs.Proper.{AreProper}
 use Rattle.initiator_run.proofs.BeginLemmas.{proper_at, syncs_bound}
 
@@ -57,13 +58,14 @@ pub no_history : (p : Plan) (regions : List LoggedMemory) (n : ℕ) → AreFresh
 no_history p regions n fresh = ap by_position (empty_logs regions (λ k m is. (fresh.each k m is).empty))
 
 -- a core before its first step
-pub core_begun : (p : Plan) (runs : List Run) (regions : List LoggedMemory) → IsValid p → IsBlocking p.platform → runs ≡ no_runs p → AreFresh p regions (length p.platform.memories) → length (initiators_of p) ≡ length p.platform.initiators → IsCore p runs regions 0
-core_begun p runs regions valid blocking same fresh count =
+pub core_begun : (p : Plan) (runs : List Run) (regions : List LoggedMemory) → IsValid p → IsBlocking p.platform → HasNoInvalidation p → runs ≡ no_runs p → AreFresh p regions (length p.platform.memories) → length (initiators_of p) ≡ length p.platform.initiators → IsCore p runs regions 0
+core_begun p runs regions valid blocking quiet same fresh count =
     let none : history_of regions ≡ [] = no_history p regions (length p.platform.memories) fresh in
     subst (λ (r : List Run). IsCore p r regions 0) (sym same) (record {
       valid = valid;
       blocking = blocking;
-      sound = subst (IsSound p) (sym none) (sound_empty p (no_fourphase p blocking) (no_direct p (blocking_is_served p.platform blocking)));
+      quiet = quiet;
+      sound = subst (IsSound p) (sym none) (sound_empty p (no_fourphase p blocking) (no_direct p blocking));
       count = sym (ap length none);
       run_count = length-map (initiators_of p) (begun_run p) ∙ count;
       region_count = fresh.count;

@@ -40,7 +40,7 @@ use Rattle.initiator_run.proofs.LeftLemmas.{left_after, leads_there, total_left-
 use Rattle.run_outcome.proofs.ListLemmas.{HasElement, at_map, at_set, has_element, length-set', map-set, set-same, within, is_within}
 use Rattle.run_outcome.proofs.MergeLemmas.{merged-push, length-by_position}
 use Rattle.initiator_run.proofs.RunLemmas.{accessed_finished, accessed_step}
-use Rattle.run_outcome.proofs.PlanLemmas.{blocking_at, blocking_is_served, initiator_number, no_direct, no_fourphase}
+use Rattle.run_outcome.proofs.PlanLemmas.{blocking_at, initiator_number, no_direct, no_fourphase}
 use Rattle.initiator_run.proofs.RouteLemmas.{walk_memory}
 use Rattle.route_plan.proofs.ShareLemmas.{count_initiators}
 
@@ -122,6 +122,7 @@ core_ended p runs regions after made k old new core at moved =
     subst (λ (x : List LoggedMemory). IsCore p (set runs k new) x made) (sym moved.same) (record {
       valid = core.valid;
       blocking = core.blocking;
+      quiet = core.quiet;
       sound = core.sound;
       count = core.count;
       run_count = length-set' runs k new ∙ core.run_count;
@@ -137,6 +138,7 @@ core_waited p runs regions after members made k old new core at going moved =
     subst (λ (x : List LoggedMemory). IsCore p (set runs k new) x made) (sym moved.same) (record {
       valid = core.valid;
       blocking = core.blocking;
+      quiet = core.quiet;
       sound = core.sound;
       count = core.count;
       run_count = length-set' runs k new ∙ core.run_count;
@@ -173,6 +175,7 @@ core_moved p runs regions after made k old new core at moved =
     record {
       valid = core.valid;
       blocking = core.blocking;
+      quiet = core.quiet;
       sound = subst (IsSound p) (sym same) core.sound;
       count = core.count ∙ sym (ap length same);
       run_count = length-set' runs k new ∙ core.run_count;
@@ -337,7 +340,8 @@ core_made p runs regions after made k old new core at is =
     record {
       valid = core.valid;
       blocking = core.blocking;
-      sound = subst (IsSound p) (sym same) (sound_grows p h e (no_fourphase p core.blocking) (no_direct p (blocking_is_served p.platform core.blocking)) core.sound tt tt (KeepsRequests-turn p i h is.middle is.transfer is.region is.route made core.sound.requests mine turn.blocking come is.reached.next leads (at_memory p runs h is.route is.region memory) core.count));
+      quiet = core.quiet;
+      sound = subst (IsSound p) (sym same) (sound_grows p h e (no_fourphase p core.blocking) (no_direct p core.blocking) core.sound tt tt (KeepsRequests-turn p i h is.middle is.transfer is.region is.route made core.sound.requests mine turn.blocking come is.reached.next leads (at_memory p runs h is.route is.region memory) core.count));
       count = sym (ap length same ∙ (length-append h (e ∷ []) ∙ ap (λ (n : ℕ). n + 1) (sym core.count)));
       run_count = length-set' runs k new ∙ core.run_count;
       region_count = ap length is.memory.now ∙ (length-set' regions is.route.memory is.next ∙ core.region_count);

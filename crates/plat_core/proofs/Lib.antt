@@ -5,6 +5,7 @@ pub mod DueLemmas
 pub mod GateBounds
 pub mod OutcomeLemmas
 pub mod ProgressLemmas
+pub mod QuietLemmas
 pub mod ReportLemmas
 pub mod RoundsKept
 pub mod SteppedLemmas

@@ -28,7 +28,7 @@ use Rattle.plat_core.specs.Outcome.{HasFollowed, IsOutcome, IsScheduled, IsTurnO
 use Rattle.initiator_run.specs.Run.{Run, end_at}
 use Rattle.initiator_run.proofs.AnswerLemmas.{and_left, and_right}
 use Rattle.initiator_run.proofs.EntryLemmas.{some_row, bytes_are}
-use Rattle.run_outcome.proofs.PlanLemmas.{blocking_apart, blocking_at, blocking_is_served, no_direct, no_fourphase}
+use Rattle.run_outcome.proofs.PlanLemmas.{blocking_apart, blocking_at, no_direct, no_fourphase}
 use Rattle.route_plan.proofs.ShareLemmas.{count_initiators}
 use Rattle.initiator_run.proofs.EndLemmas.{HasCome-ended}
 use Rattle.run_outcome.proofs.ListLemmas.{has_element, take_all, take_next, within}
@@ -69,7 +69,7 @@ end_of_run p runs regions made k i r core mine run finished =
     })
 
 good_core : (p : Plan) (runs : List Run) (regions : List LoggedMemory) (made : ℕ) → IsCore p runs regions made → all_true (are_finished runs) ≡ true → IsGood p (history_of regions)
-good_core p runs regions made core all = sound_ends p (history_of regions) (no_fourphase p core.blocking) (no_direct p (blocking_is_served p.platform core.blocking)) core.sound (record {
+good_core p runs regions made core all = sound_ends p (history_of regions) (no_fourphase p core.blocking) (no_direct p core.blocking) core.sound (record {
   answers = all_of (λ (i : Initiator). IsTrue (list_all (is_settled p.platform i (history_of regions)) (requests_of p.platform i (history_of regions)))) (initiators_of p) (λ k i mine.
       let found = has_element runs k (omega (arith, within (initiators_of p) k i mine, count_initiators 0 p.platform.initiators p.scripts core.valid.scripts, core.run_count)) in
       let own = core.each_run k i found.element mine found.at in

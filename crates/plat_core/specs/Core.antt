@@ -7,6 +7,7 @@ use Rattle.tlm_model.specs.declared.platform.MemoryRow.{MemoryRow}
 use Rattle.tlm_model.specs.declared.platform.Platform.{Platform}
 use Rattle.tlm_model.specs.History.{entries_at}
 use Rattle.tlm_model.specs.Plan.{Plan, Initiator, initiators_of}
+use Rattle.grant_model.specs.Laws.{HasNoInvalidation}
 use Rattle.good_history.specs.Good.{IsSound}
 use Rattle.region_object.specs.Region.{LoggedMemory}
 use Rattle.time_board.specs.declared.rounds.Member.{Member}
@@ -71,6 +72,7 @@ pub record IsRunOf (p : Plan) (h : List Entry) (i : Initiator) (r : Run) : Type 
 pub record IsCore (p : Plan) (runs : List Run) (regions : List LoggedMemory) (made : ℕ) : Type 0 where
   pub valid : IsValid p
   pub blocking : IsBlocking p.platform
+  pub quiet : HasNoInvalidation p
   pub sound : IsSound p (history_of regions)
   pub count : made ≡ length (history_of regions)
   pub run_count : length runs ≡ length p.platform.initiators

@@ -11,12 +11,15 @@
 //! round only where every other one that hasn't finished has reached the round before: a step waits exactly
 //! where its initiator is held back, and an entry of round r stands after every entry whose round is at most
 //! r - 2. Once all have finished, the history is good, and the stores and ends are those of the
-//! definitions. All initiators of the plan have to be blocking (`route_plan::is_blocking` tells): the core
-//! moves no four-phase traffic. The only error is want of memory, after which the history is as before.
+//! definitions. All initiators of the plan have to be blocking, and no script may invalidate: the core moves
+//! no four-phase traffic, and ends no grants. `can_run` tells whether a plan is one that it runs. The only
+//! error is want of memory, after which the history is as before.
 #![tactic(auto)]
 
+mod plans;
 mod schedule;
 mod steps;
 
+pub use plans::can_run;
 pub use schedule::{run_in_order, run_schedule};
 pub use steps::{Core, CoreStep};

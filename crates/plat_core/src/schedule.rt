@@ -1,5 +1,6 @@
 // Whole runs on one thread.
 ghost use Rattle.std.specs.Prelude.{IfOk, OnOk};
+ghost use Rattle.grant_model.specs.Laws.{HasNoInvalidation};
 ghost use Rattle.plat_core.specs.Outcome.{IsScheduled, IsTurnOf};
 ghost use Rattle.route_plan.specs.Shape.{IsBlocking};
 ghost use Rattle.run_outcome.specs.Outcome.{IsWhole};
@@ -11,11 +12,12 @@ use run_outcome::Outcome;
 use std::alloc::Global;
 use tlm_types::Memory;
 
-/// Runs a plan of blocking initiators by a schedule: each of its numbers that names an actor gives that actor a step, and
-/// the others are passed over. The actors are the initiators, the routers and the memories, numbered
-/// in this order.
+/// Runs a plan of blocking initiators whose scripts don't invalidate (`can_run` tells) by a schedule:
+/// each of its numbers that names an actor gives that actor a step, and the others are passed over. The
+/// actors are the initiators, the routers and the memories, numbered in this order.
 pub fn run_schedule(alloc: Global, plan: &Plan, schedule: &[u32]) -> Result<Outcome, Memory>
-    requires { IsBlocking plan.now.platform }
+    requires blocking { IsBlocking plan.now.platform }
+    requires quiet { HasNoInvalidation plan.now }
     ensures { IfOk result (IsScheduled plan.now schedule.now) }
 {
     let mut core = Core::new(alloc, plan)?;
@@ -35,11 +37,13 @@ fn take_number(core: &mut Core<'_>, number: u32) -> Result<(), Memory>
     Ok(())
 }
 
-/// Runs a plan of blocking initiators to its end: each initiator in order goes on until it has finished or waits for one that is
-/// behind, and again from the first one, until all have finished. The pace is told of each access and
-/// debug read that a script asks for.
+/// Runs a plan of blocking initiators whose scripts don't invalidate (`can_run` tells) to its end: each
+/// initiator in order goes on until it has finished or waits for one that is behind, and again from the
+/// first one, until all have finished. The pace is told of each access and debug read that a script
+/// asks for.
 pub fn run_in_order<P: Pace>(alloc: Global, plan: &Plan, pace: &P) -> Result<Outcome, Memory>
-    requires { IsBlocking plan.now.platform }
+    requires blocking { IsBlocking plan.now.platform }
+    requires quiet { HasNoInvalidation plan.now }
     ensures { IfOk result (IsWhole plan.now) }
 {
     let mut core = Core::new(alloc, plan)?;

@@ -1,6 +1,7 @@
 // The core.
 ghost use Rattle.std.specs.Prelude.{◌≡◌, ◌<◌, ◌≤◌, length, map, true, false, IfOk, OnOk, OnErr};
 ghost use Rattle.tlm_model.specs.Log.{log_bytes};
+ghost use Rattle.grant_model.specs.Laws.{HasNoInvalidation};
 ghost use Rattle.region_object.specs.Region.{LoggedMemory};
 ghost use Rattle.route_plan.specs.Shape.{IsBlocking};
 ghost use Rattle.time_board.specs.declared.rounds.Member.{Member};
@@ -68,9 +69,11 @@ impl<'a> Model for Core<'a> {
 }
 
 impl<'a> Core<'a> {
-    /// A core of a plan of blocking initiators, before its first step. Its only error is want of memory.
+    /// A core of a plan of blocking initiators whose scripts don't invalidate (`can_run` tells), before its first
+    /// step. Its only error is want of memory.
     pub fn new(alloc: Global, plan: &'a Plan) -> Result<Core<'a>, Memory>
-        requires { IsBlocking plan.now.platform }
+        requires blocking { IsBlocking plan.now.platform }
+        requires quiet { HasNoInvalidation plan.now }
         ensures { IfOk result (λ core. core ≡ begun_core plan.now) }
     {
         let runs = begin_runs(alloc, plan)?;
@@ -201,6 +204,7 @@ impl<'a> Core<'a> {
                 self.made += 1;
                 Ok(CoreStep::Made(position))
             }
+            Turn::Invalidates(_) => unreachable!(),
             Turn::Waits => Ok(CoreStep::Waits),
             Turn::Ended => Ok(CoreStep::Finished),
             Turn::NoMemory => Err(Memory),

@@ -29,7 +29,8 @@ use Rattle.cargo_net.proofs.ObjectsOnce.{stands_once}
 use Rattle.net_end.specs.Closed.{AreHandedBack}
 use Rattle.net_end.proofs.Reading.{there}
 use Rattle.plat_net.proofs.Lookups.{short_at}
-use Rattle.plat_end.specs.Apart.{HasNoOthers, left_by, left_with}
+use Rattle.plat_end.specs.Apart.{left_by, left_with}
+use Rattle.plat_build.specs.Kept.{HasNoOthers}
 use Rattle.plat_end.specs.Taking.{IsPaid, IsTaken, tickets_at}
 
 module _ {A : Type 0} (f : A → ℕ) where

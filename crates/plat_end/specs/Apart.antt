@@ -1,5 +1,5 @@
 -- What is left of the objects of a net: their logs, the bytes of the memories, and the tickets that went back.
-use Rattle.std.specs.Prelude.{ℕ, ◌≡◌, ◌≤◌, List, length, Option, Some, None, slice_get}
+use Rattle.std.specs.Prelude.{ℕ, ◌≡◌, List, length, Option, Some, None, slice_get}
 use mathlib.Core.Option.{some}
 use lib.ListN.{get_elem?}
 use Rattle.atomic_table.specs.Seated.{TableId}
@@ -40,10 +40,6 @@ pub record HaveLeftLogs (table : TableId) (frame : Frame Plan) (logs : List LogV
 pub record AreStores (p : Platform) (logs : List LogView) (stores : List (List ℕ)) : Type 0 where
   pub count : length stores ≡ length p.memories
   pub each : (m : ℕ) (row : MemoryRow) (log : LogView) (bytes : List ℕ) → slice_get p.memories m ≡ Some row → slice_get logs m ≡ Some log → slice_get stores m ≡ Some bytes → bytes ≡ log_bytes row.traits log.entries
-
--- a wallet has tickets of the objects of the platform alone
-abbrev pub HasNoOthers : Platform → Purse → Type 0
-HasNoOthers p w = (k : ℕ) → length (objects_of p) ≤ k → left_of w k ≡ 0
 
 -- the tickets of an object in a wallet, if there is one
 abbrev pub left_with : Platform → ObjectNo → Option Purse → ℕ

@@ -4,7 +4,8 @@ ghost use Rattle.token_book.specs.Purse.{IsOf, Purse};
 ghost use Rattle.plat_net.specs.Net.{AreHops, AreMemories, ArePools};
 ghost use Rattle.plat_net.specs.Objects.{pools_start};
 ghost use Rattle.net_end.specs.Closed.{AreHandedBack, AreLeft};
-ghost use Rattle.plat_end.specs.Apart.{AreStores, HasNoOthers, HaveLeftLogs, left_by};
+ghost use Rattle.plat_end.specs.Apart.{AreStores, HaveLeftLogs, left_by};
+ghost use Rattle.plat_build.specs.Kept.{HasNoOthers};
 ghost use Rattle.plat_end.specs.Taking.{IsTaken};
 
 use crate::parts::{hop_part, memory_part, pool_part};

@@ -1,7 +1,3 @@
-pub mod MoveLemmas
-pub mod PathLemmas
-pub mod JobLemmas
-pub mod AccessLemmas
 pub mod SealLemmas
 pub mod BeginLemmas
 pub mod PortLemmas

@@ -28,13 +28,14 @@ use Rattle.fourphase_port.specs.State.{IsPort, StateView, with_note}
 use Rattle.fourphase_port.specs.declared.hand.Pumped.{Pumped}
 use Rattle.fourphase_port.specs.declared.hand.Pumped.TheVariants.{Did, Nothing, Finished}
 use Rattle.net_end.specs.Closed.{events_in}
-use Rattle.net_end.specs.Finished.{IsDone}
+use Rattle.grant_end.specs.Done.{IsDoneWithGrants}
 use Rattle.plat_build.specs.declared.kept.Start.{Start}
 use Rattle.plat_build.specs.Kept.{IsStart}
 use Rattle.run_outcome.proofs.ListLemmas.{has_element}
 use Rattle.plat_run.specs.End.{IsFinished}
 use Rattle.plat_run.specs.Turn.{finishes}
-use Rattle.plat_run.proofs.BeginLemmas.{has_style, nothing_past, script_from}
+use Rattle.direct_run.proofs.BeginLemmas.{nothing_past, script_from}
+use Rattle.plat_run.proofs.BeginLemmas.{has_style}
 
 module _ (table tokens : TableId) (p : Plan) (valid : IsValid p) (n : ℕ) (s : Start) (below : n < length p.platform.initiators) (style : IsSomeAnd (slice_get p.platform.initiators n) (λ (row : InitiatorRow). row.style ≡ FourPhase)) (start : IsStart table tokens p n s) where
   -- the engine of an initiator begins with its script
@@ -78,7 +79,7 @@ module _ (table tokens : TableId) (frame : Frame Plan) (s : StateView) (note : H
   abbrev p : Plan
   p = frame.world
 
-  port_done : (all : List (HistoryEntry Content)) → Within note.knows.known all → IsDone p (events_in p.platform all) s.port.engine.initiator (λ o. left_of s.wallet (object_number p.platform o)) end
+  port_done : (all : List (HistoryEntry Content)) → Within note.knows.known all → IsDoneWithGrants p (events_in p.platform all) s.port.engine.initiator (λ o. left_of s.wallet (object_number p.platform o)) end
   port_done all tells = record {
     initiator = port.initiator;
     at = port.is;

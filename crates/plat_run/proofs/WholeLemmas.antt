@@ -11,6 +11,7 @@ use Rattle.view_lists.proofs.Places.{at_short}
 use Rattle.one_history.specs.declared.entry.Entry.{Entry as HistoryEntry}
 use Rattle.one_history.specs.declared.view.Frame.{Frame}
 use Rattle.one_history.specs.Closing.{AreBacked, ArePlanned}
+use Rattle.one_history.specs.Gates.{NoneAfterClosed}
 use Rattle.one_history.specs.Held.{Held}
 use Rattle.one_history.specs.Moves.{number_of}
 use Rattle.one_history.specs.Seats.{AreNotes, AreSeats, IsMerge, Tell}
@@ -29,9 +30,8 @@ use Rattle.grant_model.specs.Kept.{EndsGrants, KeepsGrants}
 use Rattle.good_history.specs.Good.{IsGood}
 use Rattle.joined_runs.proofs.StoreLemmas.{logs_make_last_store}
 use Rattle.joined_traffic.specs.Ended.{HaveLeft}
-use Rattle.joined_traffic.proofs.FinalLemmas.{ended_is_good, ended_is_sound, ungranted_has_grants}
+use Rattle.joined_traffic.proofs.FinalLemmas.{ended_is_good, ended_is_sound}
 use Rattle.report_model.specs.Ends.{IsEndOf}
-use Rattle.route_plan.specs.Shape.{IsServed}
 use Rattle.route_plan.specs.Valid.{IsValid}
 use Rattle.route_plan.proofs.ShareLemmas.{count_initiators}
 use Rattle.cargo_model.specs.Known.{object_number, objects_of}
@@ -43,16 +43,19 @@ use Rattle.plat_net.proofs.NumberLemmas.{memory_there}
 use Rattle.plat_net.proofs.ObjectLemmas.{count_planned, planned_at_object}
 use Rattle.net_end.specs.Closed.{AreLeft, IsClosed, IsLeft, IsPlanned, events_in}
 use Rattle.net_end.specs.Finished.{HasEndedWhole, IsDone}
+use Rattle.grant_end.specs.Done.{IsDoneWithGrants}
+use Rattle.grant_end.proofs.Closing.{closed_has_grants}
+use Rattle.grant_end.proofs.Wholes.{without_grants}
 use Rattle.net_end.proofs.Finishing.{initiators_end}
 use Rattle.net_end.proofs.Leaving.{objects_leave}
 use Rattle.net_end.proofs.Reading.{is_there}
-use Rattle.plat_end.specs.Apart.{HasNoOthers, left_by, left_with}
+use Rattle.plat_end.specs.Apart.{left_by, left_with}
+use Rattle.plat_build.specs.Kept.{HasNoOthers}
 use Rattle.run_outcome.specs.declared.outcome.Outcome.{Outcome}
 use Rattle.run_outcome.specs.Merge.{merged}
 use Rattle.run_outcome.specs.Outcome.{IsWhole}
 use Rattle.run_outcome.specs.Places.{entries_of_logs}
 use Rattle.run_outcome.proofs.ListLemmas.{at_map, has_element, within}
-use Rattle.run_outcome.proofs.PlanLemmas.{no_direct, no_invalidation}
 use Rattle.plat_run.specs.End.{AreFinished, HaveAllLeft, IsFinished}
 use Rattle.plat_run.specs.Entries.{entries_read, entry_read}
 use Rattle.plat_run.specs.Run.{IsCoreRun}
@@ -142,15 +145,15 @@ module _ (table tokens : TableId) (p : Plan) (count : ℕ) (ends : List EndOf) (
       (are.each k l.end l.wallet note l.end_at l.wallet_at at).note_of.of
 
   -- each initiator is done, in a history that has what the notes know
-  pub is_done : (all : List (HistoryEntry Content)) → Tell notes 0 all → (k : ℕ) (end : EndOf) → k < count → slice_get ends k ≡ Some end → IsDone p (events_in p.platform all) k (left_by p.platform wallets k) end
+  pub is_done : (all : List (HistoryEntry Content)) → Tell notes 0 all → (k : ℕ) (end : EndOf) → k < count → slice_get ends k ≡ Some end → IsDoneWithGrants p (events_in p.platform all) k (left_by p.platform wallets k) end
   is_done all tell k end below at =
       let l = leaves k below in
       let done = (are.each k end l.wallet l.note at l.wallet_at l.note_at).done all (tell k l.note (omega arith) l.note_at) in
-      subst (λ (w : _). IsDone p (events_in p.platform all) k (λ o. left_with p.platform o w) end) (sym l.wallet_at) done
+      subst (λ (w : _). IsDoneWithGrants p (events_in p.platform all) k (λ o. left_with p.platform o w) end) (sym l.wallet_at) done
 
 module _ (table tokens : TableId) (frame : Frame Plan) (ends : List EndOf) (notes : List (Held Content Plan)) (logs : List LogView) (stores : List (List ℕ)) (seats : List (Held Content Plan)) (all : List (HistoryEntry Content))
-    (valid : IsValid frame.world) (served : IsServed frame.world.platform) (is_frame : frame ≡ frame_of frame.world) (left : HaveAllLeft table tokens frame ends notes logs stores seats)
-    (made : Frame Plan) (made_is : made ≡ frame) (merge : IsMerge seats all) (planned_made : ArePlanned made all) (tell : Tell notes 0 all) (backed_made : AreBacked Backs made.world all) where
+    (valid : IsValid frame.world) (is_frame : frame ≡ frame_of frame.world) (left : HaveAllLeft table tokens frame ends notes logs stores seats)
+    (made : Frame Plan) (made_is : made ≡ frame) (merge : IsMerge seats all) (planned_made : ArePlanned made all) (tell : Tell notes 0 all) (backed_made : AreBacked Backs made.world all) (last : NoneAfterClosed all) where
   abbrev p : Plan
   p = frame.world
 
@@ -187,20 +190,23 @@ module _ (table tokens : TableId) (frame : Frame Plan) (ends : List EndOf) (note
   initiators : length (initiators_of p) ≡ length p.platform.initiators
   initiators = count_initiators 0 p.platform.initiators p.scripts valid.scripts
 
-  done : (k : ℕ) → k < length (initiators_of p) → IsDone p (events_in p.platform all) k (rest k) (end_of k)
-  done k below =
+  done_with_grants : (k : ℕ) → k < length (initiators_of p) → IsDoneWithGrants p (events_in p.platform all) k (rest k) (end_of k)
+  done_with_grants k below =
       let finished = left.finished in
       let same = initiators in
       let end = has_element ends k (let c = finished.ends_count in omega arith) in
       let here : end_of k ≡ end.element = get_or_from_slice_get ends k end.element no_end end.at in
-      subst (IsDone p (events_in p.platform all) k (rest k)) (sym here) (is_done table tokens p (length p.platform.initiators) ends left.wallets notes finished all tell k end.element (omega arith) end.at)
+      subst (IsDoneWithGrants p (events_in p.platform all) k (rest k)) (sym here) (is_done table tokens p (length p.platform.initiators) ends left.wallets notes finished all tell k end.element (omega arith) end.at)
+
+  done : (k : ℕ) → k < length (initiators_of p) → IsDone p (events_in p.platform all) k (rest k) (end_of k)
+  done k below = without_grants p (events_in p.platform all) k (rest k) (end_of k) (done_with_grants k below)
 
   -- the whole run has ended
   whole_run : HasEndedWhole p (events_in p.platform all) rest end_of
   whole_run = initiators_end p (events_in p.platform all) rest end_of acyclic have_left done
 
   grants : KeepsGrants p h × EndsGrants p h
-  grants = let w = whole_run in ungranted_has_grants p (events_in p.platform all) w.issued w.ends w.calls w.mine rest (no_direct p served) (no_invalidation p valid) acyclic w.ended w.was_issued
+  grants = closed_has_grants table frame seats notes all rest end_of acyclic (plan_is frame is_frame) closed last left.left left.handed_back done_with_grants
 
   pub good : IsGood p h
   good = let w = whole_run in ended_is_good p (events_in p.platform all) w.issued w.ends w.calls w.mine rest acyclic w.ended w.was_issued grants.0 grants.1

@@ -15,16 +15,17 @@ use Rattle.tlm_types.specs.Log.{LogView}
 use Rattle.tlm_model.specs.Plan.{Plan}
 use Rattle.cargo_model.specs.Known.{object_number}
 use Rattle.net_end.specs.Closed.{AreHandedBack, AreLeft, events_in}
-use Rattle.net_end.specs.Finished.{IsDone}
-use Rattle.plat_end.specs.Apart.{AreStores, HasNoOthers, HaveLeftLogs, left_by}
+use Rattle.grant_end.specs.Done.{IsDoneWithGrants}
+use Rattle.plat_end.specs.Apart.{AreStores, HaveLeftLogs, left_by}
+use Rattle.plat_build.specs.Kept.{HasNoOthers}
 
 -- Initiator k has finished, with this end, and leaves its note and its wallet. In each history that has what the note knows, all of its script is
--- done, by its style, with the tickets that the wallet has left.
+-- done, by its style, with the tickets that the wallet has left, its grants and its invalidations.
 pub record IsFinished (table tokens : TableId) (p : Plan) (k : ℕ) (end : EndOf) (note : Held Content Plan) (wallet : Purse) : Type 0 where
   pub note_of : IsNote table note
   pub wallet_of : IsOf tokens wallet
   pub no_others : HasNoOthers p.platform wallet
-  pub done : (all : List (HistoryEntry Content)) → Within note.knows.known all → IsDone p (events_in p.platform all) k (λ o. left_of wallet (object_number p.platform o)) end
+  pub done : (all : List (HistoryEntry Content)) → Within note.knows.known all → IsDoneWithGrants p (events_in p.platform all) k (λ o. left_of wallet (object_number p.platform o)) end
 
 -- so many initiators have: these are their ends, their wallets and their notes, in order
 pub record AreFinished (table tokens : TableId) (p : Plan) (count : ℕ) (ends : List EndOf) (wallets : List Purse) (notes : List (Held Content Plan)) : Type 0 where

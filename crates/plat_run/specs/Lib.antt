@@ -1,6 +1,4 @@
-pub mod Sent
 pub mod Entries
-pub mod Job
 pub mod Ports
 pub mod Nodes
 pub mod Actors

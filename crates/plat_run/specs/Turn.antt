@@ -8,7 +8,7 @@ use Rattle.fourphase_port.specs.declared.hand.Pumped.{Pumped}
 use Rattle.fourphase_port.specs.declared.hand.Pumped.TheVariants.{Did, Nothing, Finished}
 use Rattle.plat_run.specs.Ports.{PortRun}
 use Rattle.plat_run.specs.declared.actor.Actor.{Actor}
-use Rattle.plat_run.specs.declared.actor.Actor.TheVariants.{Blocking, FourPhase, Memory, Router}
+use Rattle.plat_run.specs.declared.actor.Actor.TheVariants.{Decoupled, FourPhase, Memory, Router}
 use Rattle.plat_run.specs.declared.turn.Turn.{Turn}
 use Rattle.plat_run.specs.declared.turn.Turn.TheVariants.{WentOn, HeldBack, Idle}
 
@@ -36,10 +36,10 @@ pub record IsPortTurn (frame : Frame Plan) (old new : PortRun) (turn : Turn) : T
   pub turn_is : turn ≡ turn_by pumped
   pub finished : new.finished ≡ finishes pumped
 
--- What a turn is, by the kind of the job: of a blocking initiator at most one step of its script, and it is held back just where its last sync was not
+-- What a turn is, by the kind of the job: of a blocking or direct initiator at most one step of its script, and it is held back just where its last sync was not
 -- let through; of a four-phase initiator one pump; and a memory and a router are never held back.
 abbrev pub HasTurned : {N : Type 0} → Frame Plan → Actor N → Actor N → Turn → Type 0
-HasTurned frame (Blocking old) (Blocking new) turn = StepsOnce old.value.engine new.value.engine × ((is_held_back turn ≡ true) ↔ (new.value.round ≢ new.value.syncs))
+HasTurned frame (Decoupled old) (Decoupled new) turn = StepsOnce old.value.engine new.value.engine × ((is_held_back turn ≡ true) ↔ (new.value.round ≢ new.value.syncs))
 HasTurned frame (FourPhase old) (FourPhase new) turn = IsPortTurn frame old.value new.value turn
 HasTurned frame (Memory old) (Memory new) turn = is_held_back turn ≡ false
 HasTurned frame (Router old) (Router new) turn = is_held_back turn ≡ false

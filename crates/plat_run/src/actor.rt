@@ -4,10 +4,11 @@ ghost use Rattle.plat_run.specs.Actors.{is_done, is_pumped, number_of};
 ghost use Rattle.plat_run.specs.End.{IsFinished};
 ghost use Rattle.plat_run.specs.Turn.{HasTurned};
 
-use crate::initiator::BlockingInitiator;
+use crate::decoupled;
 use crate::nodes::{MemoryJob, RouterJob};
 use crate::port_job::PortJob;
 use crate::turn::Turn;
+use direct_run::DecoupledInitiator;
 use outside::Pace;
 use plat_net::{PlatNote, Reach, TlmLaw};
 use route_plan::Plan;
@@ -23,7 +24,8 @@ use token_book::Wallet;
 // It is in a box, so that workers hand on the box alone and a turn works in place.
 #[derive(Drop)]
 pub enum Actor<N: Naming<Plan, TlmLaw>> {
-    Blocking(Box<BlockingInitiator<N>, Global>),
+    /// A blocking or direct initiator.
+    Decoupled(Box<DecoupledInitiator<N>, Global>),
     FourPhase(Box<PortJob<N>, Global>),
     Memory(Box<MemoryJob<N>, Global>),
     Router(Box<RouterJob<N>, Global>),
@@ -38,7 +40,7 @@ impl<N: Naming<Plan, TlmLaw>> Job for Actor<N> {
 
     fn number(&self) -> u32 {
         match self {
-            Actor::Blocking(job) => job.number(),
+            Actor::Decoupled(job) => job.number(),
             Actor::FourPhase(job) => job.number(),
             Actor::Memory(job) => job.number(),
             Actor::Router(job) => job.number(),
@@ -47,7 +49,7 @@ impl<N: Naming<Plan, TlmLaw>> Job for Actor<N> {
 
     fn done(&self) -> bool {
         match self {
-            Actor::Blocking(job) => job.done(),
+            Actor::Decoupled(job) => job.done(),
             Actor::FourPhase(job) => job.done(),
             Actor::Memory(_) | Actor::Router(_) => false,
         }
@@ -59,10 +61,10 @@ impl<N: Naming<Plan, TlmLaw>> Actor<N> {
     pub fn is_pumped(&self) -> bool
         ensures { result ≡ is_pumped self.now }
     {
-        !matches!(self, Actor::Blocking(_))
+        !matches!(self, Actor::Decoupled(_))
     }
 
-    /// A turn of a job of any kind: of a blocking initiator at most one step of its script, of all others one pump.
+    /// A turn of a job of any kind: of a blocking or direct initiator at most one step of its script, of all others one pump.
     pub fn turn<B: Reach<N>, P: Pace, R: Wait>(
         &mut self,
         rt: &R,
@@ -74,7 +76,7 @@ impl<N: Naming<Plan, TlmLaw>> Actor<N> {
         ensures turned { HasTurned N.frame self.old self.new result }
     {
         match self {
-            Actor::Blocking(job) => job.turn(rt, reach, board, pace),
+            Actor::Decoupled(job) => decoupled::turn(job, rt, reach, board, pace),
             Actor::FourPhase(job) => job.turn(rt, reach.net(), pace),
             Actor::Memory(job) => job.turn(rt, reach.net()),
             Actor::Router(job) => job.turn(rt, reach.net()),
@@ -87,7 +89,7 @@ impl<N: Naming<Plan, TlmLaw>> Actor<N> {
         ensures { IsFinished N.table N.tokens N.frame.world (number_of self) result.0 result.2 result.1 }
     {
         match self {
-            Actor::Blocking(job) => Box::into_inner(job).finish(),
+            Actor::Decoupled(job) => Box::into_inner(job).finish(),
             Actor::FourPhase(job) => Box::into_inner(job).finish(),
             Actor::Memory(_) | Actor::Router(_) => unreachable!(),
         }
@@ -98,7 +100,7 @@ impl<N: Naming<Plan, TlmLaw>> Actor<N> {
         ensures { is_done self ≡ true → number_of self < length N.frame.world.platform.initiators }
     {
         match self {
-            Actor::Blocking(job) => Box::into_inner(job).let_go(),
+            Actor::Decoupled(job) => Box::into_inner(job).let_go(),
             Actor::FourPhase(job) => Box::into_inner(job).let_go(),
             Actor::Memory(_) | Actor::Router(_) => {}
         }

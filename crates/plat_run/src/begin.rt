@@ -1,17 +1,15 @@
 // The jobs of a net, before their first turns.
-ghost use Rattle.std.specs.Prelude.{◌≡◌, ◌+◌, ◌<◌, ◌≤◌, ◌^◌, true, length, replicate, IfOk, IsSomeAnd, Some, slice_get, slice_set, false};
+ghost use Rattle.std.specs.Prelude.{◌≡◌, ◌≢◌, ◌+◌, ◌<◌, ◌≤◌, ◌^◌, true, length, replicate, IfOk, IsSomeAnd, Some, slice_get, slice_set, false};
 ghost use Rattle.plat_build.specs.Kept.{all_waiting, IsStart};
-ghost use Rattle.route_plan.specs.Shape.{IsServed, style_is_built};
 ghost use Rattle.run_queue.specs.Queue.{AreNumbered};
 ghost use Rattle.tlm_model.specs.declared.platform.Style.TheVariants as Styles;
 ghost use Rattle.plat_run.specs.Actors.{number_of};
 
 use crate::actor::Actor;
-use crate::initiator::BlockingInitiator;
 use crate::nodes::{MemoryJob, RouterJob};
 use crate::port_job::PortJob;
+use direct_run::DecoupledInitiator;
 use fourphase_port::Port;
-use initiator_run::InitiatorRun;
 use plat_build::{Kept, Start};
 use plat_net::{Net, TlmLaw};
 use route_plan::Plan;
@@ -31,8 +29,8 @@ fn style_of<N: Naming<Plan, TlmLaw>>(net: &Net<N>, number: u32) -> Style
     rows[number as usize].style
 }
 
-// The blocking initiator with this number, with what it starts with. Its only error is want of memory.
-fn begin_blocking<N: Naming<Plan, TlmLaw>>(
+// The blocking or direct initiator with this number, with what it starts with. Its only error is want of memory.
+fn begin_decoupled<N: Naming<Plan, TlmLaw>>(
     alloc: Global,
     net: &Net<N>,
     number: u32,
@@ -40,20 +38,11 @@ fn begin_blocking<N: Naming<Plan, TlmLaw>>(
 ) -> Result<Actor<N>, Memory>
     requires number { number < length net.now.platform.initiators }
     requires start { IsStart N.table N.tokens N.frame.world number start }
-    requires style { IsSomeAnd (slice_get net.now.platform.initiators number) (λ row. row.style ≡ Styles.Blocking) }
+    requires style { IsSomeAnd (slice_get net.now.platform.initiators number) (λ row. row.style ≢ Styles.FourPhase) }
     ensures { IfOk result (λ job. number_of job ≡ number) }
 {
-    let Start {
-        engine,
-        payload,
-        note,
-        wallet,
-    } = start;
-    let plan = net.plan();
-    let room = 2 * plan.script(number).len() as u32;
-    let run = InitiatorRun::of_engine(alloc, engine, plan.platform().quantum, room)?;
-    let job = BlockingInitiator::new(run, payload, note, wallet);
-    Ok(Actor::Blocking(Box::new(alloc, job)?))
+    let job = DecoupledInitiator::begin(alloc, net, number, start)?;
+    Ok(Actor::Decoupled(Box::new(alloc, job)?))
 }
 
 // The four-phase initiator with this number, with what it starts with. Its only error is want of memory.
@@ -89,24 +78,21 @@ fn begin_initiator<N: Naming<Plan, TlmLaw>>(
 ) -> Result<Actor<N>, Memory>
     requires number { number < length net.now.platform.initiators }
     requires start { IsStart N.table N.tokens N.frame.world number start }
-    requires served { IsServed net.now.platform }
     ensures { IfOk result (λ job. number_of job ≡ number) }
 {
     match style_of(net, number) {
-        Style::Blocking => begin_blocking(alloc, net, number, start),
+        Style::Blocking | Style::Direct => begin_decoupled(alloc, net, number, start),
         Style::FourPhase => begin_port(alloc, net, number, start),
-        Style::Direct => unreachable!(),
     }
 }
 
-// The jobs of all initiators of a net whose plan is served, in order. Its only error is want of memory.
+// The jobs of all initiators of a net, in order. Its only error is want of memory.
 fn begin_initiators<N: Naming<Plan, TlmLaw>>(
     alloc: Global,
     net: &Net<N>,
     kept: &mut Kept<N>,
 ) -> Result<Vec<Actor<N>>, Memory>
     requires kept { kept.old.starts ≡ replicate (length net.now.platform.initiators) true }
-    requires served { IsServed net.now.platform }
     ensures numbered { IfOk result (λ jobs. AreNumbered number_of jobs.items) }
     ensures count { IfOk result (λ jobs. length jobs.items ≡ length net.now.platform.initiators) }
     ensures routers { kept.new.routers ≡ kept.old.routers }
@@ -245,7 +231,7 @@ fn has_fourphase<N: Naming<Plan, TlmLaw>>(net: &Net<N>) -> bool {
     rows.iter().any(|row| row.style == Style::FourPhase)
 }
 
-/// The jobs of a net whose plan is served, in order: those of all initiators, and behind them those of the routers and the
+/// The jobs of a net, in order: those of all initiators, and behind them those of the routers and the
 /// memories, where some initiator is of four phases. Its only error is want of memory.
 pub(crate) fn begin_jobs<N: Naming<Plan, TlmLaw>>(
     alloc: Global,
@@ -253,7 +239,6 @@ pub(crate) fn begin_jobs<N: Naming<Plan, TlmLaw>>(
     kept: &mut Kept<N>,
 ) -> Result<Vec<Actor<N>>, Memory>
     requires kept { kept.old ≡ all_waiting net.now.platform }
-    requires served { IsServed net.now.platform }
     ensures numbered { IfOk result (λ jobs. AreNumbered number_of jobs.items) }
     ensures count { IfOk result (λ jobs. length net.now.platform.initiators ≤ length jobs.items) }
 {

@@ -1,7 +1,7 @@
 //! The run of a platform by threads.
 //!
-//! - `BlockingInitiator` is a blocking initiator as a job: its run, its payload, its note and its wallet.
-//!   A turn of it is at most one operation, or one access of it, and the sync that is due after it.
+//! - A turn of a blocking or direct initiator, `direct_run::DecoupledInitiator`, is at most one operation, or one access
+//!   of it with the grant that is asked for after it, and the sync that is due after it.
 //! - `PortJob` is a four-phase initiator as a job: a turn of it is one pump of its port. `MemoryJob` and `RouterJob` are the
 //!   memories and routers, which are jobs where some initiator is of four phases; a turn is one pump.
 //! - `Actor` is a job of any kind, in a box: workers hand the box on, and a turn works in place. It answers a
@@ -16,17 +16,15 @@
 
 mod actor;
 mod begin;
+mod decoupled;
 mod ending;
-mod initiator;
 mod nodes;
 mod port_job;
 mod running;
-mod send;
 mod turn;
 mod workers;
 
 pub use actor::Actor;
-pub use initiator::BlockingInitiator;
 pub use nodes::{MemoryJob, RouterJob};
 pub use port_job::PortJob;
 pub use running::{PlatSealed, run, run_plan};

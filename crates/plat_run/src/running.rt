@@ -3,7 +3,6 @@ ghost use Rattle.std.specs.Prelude.{◌≡◌, ◌≤◌, true, length, All, IfO
 ghost use Rattle.run_queue.specs.Queue.{AreNumbered};
 ghost use Rattle.plat_build.specs.Kept.{all_waiting};
 ghost use Rattle.plat_net.specs.Objects.{frame_of};
-ghost use Rattle.route_plan.specs.Shape.{IsServed};
 ghost use Rattle.route_plan.specs.Valid.{IsValid};
 ghost use Rattle.run_outcome.specs.Outcome.{IsWhole};
 ghost use Rattle.plat_run.specs.Actors.{is_done, number_of};
@@ -35,8 +34,7 @@ use tlm_types::{Content, EndOf, Memory};
 /// The history of a run that has ended.
 pub type PlatSealed = Sealed<Content, Plan, TlmLaw>;
 
-/// Runs the initiators of a net that was just built, of a plan that is served, by so many workers, 1 to
-/// 16, until all have finished. Each access and each debug read is told to the pace before it is made, while no lock is
+/// Runs the initiators of a net that was just built by so many workers, 1 to 16, until all have finished. Each access and each debug read is told to the pace before it is made, while no lock is
 /// held. The history is good for the plan whatever the workers do in which order, and it is sealed. Its
 /// only error is want of memory, before the first worker starts or after the last one has ended.
 pub fn run<N: Naming<Plan, TlmLaw> + Send + Sync, P: Pace + Sync, R: Threads + Wait + Sync>(
@@ -48,7 +46,6 @@ pub fn run<N: Naming<Plan, TlmLaw> + Send + Sync, P: Pace + Sync, R: Threads + W
 ) -> Result<(Outcome, PlatSealed), Memory>
     requires frame { N.frame ≡ frame_of built.net }
     requires kept { built.kept ≡ all_waiting built.net.platform }
-    requires served { IsServed built.net.platform }
     ensures whole { IfOk result (λ r. IsWhole built.net r.0) }
     ensures core { IfOk result (λ r. IsCoreRun built.net r.0.history.entries) }
     ensures sealed { IfOk result (λ r. entries_read built.net.platform r.1.entries ≡ r.0.history.entries) }
@@ -76,7 +73,7 @@ pub fn run<N: Naming<Plan, TlmLaw> + Send + Sync, P: Pace + Sync, R: Threads + W
     finish::<N>(history, ends, notes, apart)
 }
 
-// A board on which the blocking initiators of these jobs take part in rounds. Its only error is want of memory.
+// A board on which the blocking and direct initiators of these jobs take part in rounds. Its only error is want of memory.
 fn begin_board<N: Naming<Plan, TlmLaw>, R: Wait>(
     rt: &R,
     alloc: Global,
@@ -164,7 +161,7 @@ fn dismiss_nodes<N: Naming<Plan, TlmLaw>>(mut jobs: Vec<Actor<N>>, count: u32) -
     jobs
 }
 
-/// Builds the net of a plan that is served, and runs it. Its only error is want of memory, before the first worker starts
+/// Builds the net of a plan, and runs it. Its only error is want of memory, before the first worker starts
 /// or after the last one has ended.
 pub fn run_plan<P: Pace + Sync, R: Threads + Wait + Sync>(
     rt: &R,
@@ -173,7 +170,6 @@ pub fn run_plan<P: Pace + Sync, R: Threads + Wait + Sync>(
     workers: u32,
     pace: &P,
 ) -> Result<(Outcome, PlatSealed), Memory>
-    requires { IsServed plan.now.platform }
     ensures whole { IfOk result (λ r. IsWhole plan.now r.0) }
     ensures core { IfOk result (λ r. IsCoreRun plan.now r.0.history.entries) }
     ensures sealed { IfOk result (λ r. entries_read plan.now.platform r.1.entries ≡ r.0.history.entries) }
@@ -195,7 +191,6 @@ fn run_opened<N: Naming<Plan, TlmLaw> + Send + Sync, P: Pace + Sync, R: Threads 
     requires history { (opened.table ≡ N.table) × (opened.frame ≡ N.frame) }
     requires tickets { opened.tokens ≡ N.tokens }
     requires frame { N.frame ≡ frame_of plan.now }
-    requires served { IsServed plan.now.platform }
     ensures whole { IfOk result (λ r. IsWhole plan.now r.0) }
     ensures core { IfOk result (λ r. IsCoreRun plan.now r.0.history.entries) }
     ensures sealed { IfOk result (λ r. entries_read plan.now.platform r.1.entries ≡ r.0.history.entries) }
@@ -216,7 +211,6 @@ fn finish<N: Naming<Plan, TlmLaw>>(
     requires history { (history.table ≡ N.table) × (history.frame ≡ N.frame) }
     requires frame { N.frame ≡ frame_of N.frame.world }
     requires valid { IsValid N.frame.world }
-    requires served { IsServed N.frame.world.platform }
     requires left { HaveAllLeft N.table N.tokens N.frame ends.items notes.items apart.logs.items apart.stores.items apart.seats.items }
     ensures whole { IfOk result (λ r. IsWhole N.frame.world r.0) }
     ensures core { IfOk result (λ r. IsCoreRun N.frame.world r.0.history.entries) }

@@ -1,23 +1,18 @@
 -- The initiators of a plan.
-use Rattle.std.proofs.Common.{◌≡◌, ◌≢◌, ℕ, zero, suc, ◌+◌, ◌<◌, true, List, [], ◌∷◌, length, Some, slice_get, refl, sym, ap, subst, ◌∙◌, arith}
+use Rattle.std.proofs.Common.{◌≡◌, ◌≢◌, ℕ, zero, suc, ◌+◌, ◌<◌, List, [], ◌∷◌, length, Some, slice_get, sym, subst, ◌∙◌, arith}
 use Rattle.std.specs.List.{AllByRecursion}
 use Rattle.std.specs.Prelude.{All}
-use Rattle.std.proofs.lemmas.Bool.{false≢true}
-use Rattle.std.proofs.lemmas.List.Elements.{All-head, All-tail, All-weaker}
+use Rattle.std.proofs.lemmas.List.Elements.{All-head, All-tail}
 use Rattle.tlm_model.specs.declared.operation.Operation.{Operation}
-use Rattle.tlm_model.specs.declared.operation.Operation.TheVariants.{Invalidate}
 use Rattle.tlm_model.specs.declared.platform.InitiatorRow.{InitiatorRow}
 use Rattle.tlm_model.specs.declared.platform.Platform.{Platform}
 use Rattle.tlm_model.specs.declared.platform.Style.{Style}
 use Rattle.tlm_model.specs.declared.platform.Style.TheVariants.{Blocking, Direct, FourPhase}
 use Rattle.tlm_model.specs.Plan.{Plan, Initiator, initiators_from, initiators_of}
-use Rattle.tlm_model.proofs.HistoryLemmas.{AllByRecursion-weaker}
 use Rattle.flow_plan.specs.Plans.{HasNoFourPhase}
 use Rattle.tlm_model.proofs.InitiatorLemmas.{initiator_from}
-use Rattle.grant_model.specs.Laws.{HasNoDirect, HasNoInvalidation, IsNoInvalidation}
-use Rattle.traffic_script.specs.Proper.{AreProper, IsProper}
-use Rattle.route_plan.specs.Shape.{IsBlocking, IsServed, style_is_built}
-use Rattle.route_plan.specs.Valid.{IsValid}
+use Rattle.grant_model.specs.Laws.{HasNoDirect}
+use Rattle.route_plan.specs.Shape.{IsBlocking}
 use Rattle.run_outcome.proofs.ListLemmas.{within}
 
 -- initiators are numbered in order
@@ -27,18 +22,6 @@ initiator_number p n i is = omega (arith, (initiator_from 0 p.platform.initiator
 -- the number of an initiator is below the number of the initiators
 pub initiator_within : (p : Plan) (n : ℕ) (i : Initiator) → slice_get (initiators_of p) n ≡ Some i → n < length p.platform.initiators
 initiator_within p n i is = within p.platform.initiators n i.row (initiator_from 0 p.platform.initiators p.scripts n i is).1
-
-blocking_is_built : (style : Style) → style ≡ Blocking → style_is_built style ≡ true
-blocking_is_built style is = ap style_is_built is
-
--- a platform of blocking initiators is served
-pub blocking_is_served : (p : Platform) → IsBlocking p → IsServed p
-blocking_is_served p blocking = All-weaker (λ (row : InitiatorRow). row.style ≡ Blocking) (λ (row : InitiatorRow). style_is_built row.style ≡ true) (λ row is. blocking_is_built row.style is) p.initiators blocking
-
-built_apart : (style : Style) → style_is_built style ≡ true → style ≢ Direct
-built_apart Blocking built is = cc
-built_apart Direct built is = absurd (false≢true built)
-built_apart FourPhase built is = cc
 
 -- what holds of all rows holds of each in turn
 rows_in_turn : (P : Style → Type 0) (rows : List InitiatorRow) → All (λ (row : InitiatorRow). P row.style) rows → AllByRecursion (λ (row : InitiatorRow). P row.style) rows
@@ -67,32 +50,19 @@ blocking_at p blocking n i is = blocking_from 0 n p.platform.initiators p.script
 pub blocking_apart : (style : Style) → style ≡ Blocking → style ≢ FourPhase
 blocking_apart style is four = let wrong : Blocking ≡ FourPhase = sym is ∙ four in cc
 
--- what holds of each row holds of each initiator, and so with scripts
+-- what holds of each row holds of each initiator
 rows_hold : (P Q : Style → Type 0) → ((style : Style) → P style → Q style) → (n : ℕ) (rows : List InitiatorRow) (scripts : List (List Operation)) → AllByRecursion (λ (row : InitiatorRow). P row.style) rows → AllByRecursion (λ i. Q i.row.style) (initiators_from n rows scripts)
 rows_hold P Q f n [] scripts all = tt
 rows_hold P Q f n (row ∷ rows) [] all = tt
 rows_hold P Q f n (row ∷ rows) (script ∷ scripts) all = (f row.style all.0, rows_hold P Q f (n + 1) rows scripts all.1)
 
-scripts_hold : (P Q : List Operation → Type 0) → ((script : List Operation) → P script → Q script) → (n : ℕ) (rows : List InitiatorRow) (scripts : List (List Operation)) → AllByRecursion P scripts → AllByRecursion (λ i. Q i.script) (initiators_from n rows scripts)
-scripts_hold P Q f n [] scripts all = tt
-scripts_hold P Q f n (row ∷ rows) [] all = tt
-scripts_hold P Q f n (row ∷ rows) (script ∷ scripts) all = (f script all.0, scripts_hold P Q f (n + 1) rows scripts all.1)
-
 -- blocking initiators have no four phases
 pub no_fourphase : (p : Plan) → IsBlocking p.platform → HasNoFourPhase p
 no_fourphase p blocking = rows_hold (λ style. style ≡ Blocking) (λ style. style ≢ FourPhase) blocking_apart 0 p.platform.initiators p.scripts (are_blocking p.platform blocking)
 
--- the initiators of a plan that is served aren't direct
-pub no_direct : (p : Plan) → IsServed p.platform → HasNoDirect p
-no_direct p served =
-    let Built : Style → Type 0 = λ style. style_is_built style ≡ true in
-    rows_hold Built (λ style. style ≢ Direct) built_apart 0 p.platform.initiators p.scripts (rows_in_turn Built p.platform.initiators served)
+blocking_undirect : (style : Style) → style ≡ Blocking → style ≢ Direct
+blocking_undirect style is = λ direct. let wrong : Blocking ≡ Direct = sym is ∙ direct in cc
 
-proper_invalidates_nothing : (op : Operation) → IsProper op → IsNoInvalidation op
-proper_invalidates_nothing (Invalidate a n) proper = absurd proper
-proper_invalidates_nothing op proper = tt
-
--- the scripts of a valid plan invalidate nothing
-pub no_invalidation : (p : Plan) → IsValid p → HasNoInvalidation p
-no_invalidation p valid =
-    scripts_hold AreProper (AllByRecursion IsNoInvalidation) (λ script proper. AllByRecursion-weaker IsProper IsNoInvalidation script proper_invalidates_nothing proper.each) 0 p.platform.initiators p.scripts valid.proper
+-- blocking initiators aren't direct
+pub no_direct : (p : Plan) → IsBlocking p.platform → HasNoDirect p
+no_direct p blocking = rows_hold (λ style. style ≡ Blocking) (λ style. style ≢ Direct) blocking_undirect 0 p.platform.initiators p.scripts (are_blocking p.platform blocking)

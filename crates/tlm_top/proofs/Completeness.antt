@@ -1,19 +1,17 @@
 -- A command line that asks for a valid plan, of files that are told, has its report.
-use Rattle.std.proofs.Common.{◌≡◌, ℕ, zero, suc, ◌<◌, ◌≤◌, List, [], ◌∷◌, length, take, Option, Some, None, Ok, Err, refl, ap, sym, subst, ◌∙◌, arith}
+use Rattle.std.proofs.Common.{◌≡◌, ℕ, zero, suc, ◌<◌, List, [], ◌∷◌, length, Option, Some, None, Ok, Err, refl, ap, sym, subst, ◌∙◌, arith}
 use Rattle.std.specs.Prelude.{slice_get, IfSome}
 use Rattle.std.specs.List.{AllByRecursion}
 use Rattle.platform_model.specs.Reading.{PlatformRefusal}
 use Rattle.tlm_model.specs.declared.operation.Operation.{Operation}
 use Rattle.tlm_model.specs.declared.platform.InitiatorRow.{InitiatorRow}
 use Rattle.tlm_model.specs.declared.platform.Platform.{Platform}
-use Rattle.tlm_model.specs.Plan.{Plan}
 use Rattle.traffic_script.specs.Lines.{script_of}
 use Rattle.route_plan.specs.Valid.{checked_plan}
 use Rattle.command_words.specs.Words.{CommandLine, run, script}
-use Rattle.tlm_top.specs.Files.{Holding, served_platform, IsText, IsPlatform, IsFilePlatform, IsScript, AreScripts, IsPlan, IsFileRefused, HasRefusedFile, HasRefusedPlan, IsPlatformRefused, by_its_file, by_its_counts, IsNext, IsScriptRefused, IsPlatformFile, IsNextScript, IsLoaded, as_platform, as_script, IsLong, file_limit}
-use Rattle.tlm_top.specs.Headline.{Outside, IsAnswer}
-use Rattle.tlm_top.specs.Complete.{IsTold, HasToldPlatform, IsAmple, IsServed, IsComplete}
-use Rattle.tlm_top.specs.declared.exit.Exit.{Exit}
+use Rattle.tlm_top.specs.Files.{Holding, shaped_platform, IsText, IsPlatform, IsScript, AreScripts, HasRefusedFile, HasRefusedPlan, IsPlatformRefused, by_its_file, by_its_counts, IsNext, IsScriptRefused, IsLoaded, as_platform, as_script, IsLong, file_limit}
+use Rattle.tlm_top.specs.Headline.{Outside}
+use Rattle.tlm_top.specs.Complete.{IsTold, HasToldPlatform, IsAmple, IsComplete}
 use Rattle.tlm_top.specs.declared.exit.Exit.TheVariants.{Done, Usage, PlatformRefused, ScriptRefused, ReadFault, WriteFault, NoMemory, TooLong}
 
 held_text : (bytes text : List ℕ) (o : Option (List ℕ)) → o ≡ Some bytes → IfSome o (λ b. text ≡ b) → text ≡ bytes
@@ -34,7 +32,7 @@ not_long h name told long = by_case (h name) told.held long
 platform_is : (h : Holding) (command : CommandLine) (p q : Platform) → HasToldPlatform h command → IsPlatform h command p → IsPlatform h command q → p ≡ q
 platform_is h (run file workers trace) p q told first second =
     let same = text_is h file first.text second.text told first.loaded second.loaded in
-    let read : Ok p ≡ Ok q = sym first.read ∙ (ap served_platform same ∙ second.read) in cc
+    let read : Ok p ≡ Ok q = sym first.read ∙ (ap shaped_platform same ∙ second.read) in cc
 platform_is h (script file) p q told first second = first ∙ sym second
 
 script_is : (h : Holding) (version : ℕ) (name : List ℕ) (a b : List Operation) → IsTold h name → IsScript h version name a → IsScript h version name b → a ≡ b
@@ -76,7 +74,7 @@ no_refused_file : (o : Outside) (command : CommandLine) (r : PlatformRefusal) �
 no_refused_file o (run file workers trace) r ample refused =
     let p = ample.asked.platform in
     let same = text_is o.files.holds file p.text refused.text ample.platform p.loaded refused.loaded in
-    let wrong : Ok ample.plan.platform ≡ Err r = sym p.read ∙ (ap served_platform same ∙ refused.refused) in cc
+    let wrong : Ok ample.plan.platform ≡ Err r = sym p.read ∙ (ap shaped_platform same ∙ refused.refused) in cc
 no_refused_file o (script file) r ample refused = refused
 
 no_refused_plan : (o : Outside) (command : CommandLine) (r : PlatformRefusal) → IsAmple o command → HasRefusedPlan o.files.holds command r → ⊥

@@ -1,12 +1,11 @@
 -- Scripts as they are loaded one after another.
-use Rattle.std.proofs.Common.{◌≡◌, ℕ, ◌+◌, ◌^◌, ◌<◌, ◌≤◌, List, [], ◌∷◌, ◌++◌, length, take, get_or, Option, Some, refl, ap, sym, subst, ◌∙◌, arith}
-use Rattle.std.specs.Prelude.{slice_get}
+use Rattle.std.proofs.Common.{◌≡◌, ℕ, ◌+◌, ◌<◌, ◌≤◌, List, [], ◌∷◌, ◌++◌, length, take, get_or, Some, ap, sym, subst, ◌∙◌, arith}
 use Rattle.std.proofs.lemmas.List.{take_more}
 use Rattle.std.proofs.lemmas.Option.{slice_get-get_or}
-use Rattle.outside.specs.Causes.{Rose, next_count}
+use Rattle.outside.specs.Causes.{Rose}
 use Rattle.tlm_model.specs.declared.operation.Operation.{Operation}
 use Rattle.tlm_model.specs.declared.platform.InitiatorRow.{InitiatorRow}
-use Rattle.tlm_top.specs.Files.{Holding, Files, IsText, IsScript, AreScripts, HasFailed, IsLong}
+use Rattle.tlm_top.specs.Files.{Holding, Files, IsScript, AreScripts, IsLong}
 use Rattle.tlm_top.specs.Loads.{IsLoadFault, IsTextRefused, IsScriptFault, IsFirstFault}
 use Rattle.tlm_top.specs.declared.exit.Exit.{Exit}
 use Rattle.tlm_top.specs.declared.exit.Exit.TheVariants.{Done, Usage, PlatformRefused, ScriptRefused, ReadFault, WriteFault, NoMemory, TooLong}

@@ -1,12 +1,11 @@
--- The built-in platform has a good shape, and is served.
-use Rattle.std.proofs.Common.{◌≡◌, ◌≢◌, ℕ, zero, suc, ◌<◌, true, List, [], ◌∷◌, get_or, Ok, Err, refl, sym, ap, ◌∙◌, arith, codes}
+-- The built-in platform has a good shape.
+use Rattle.std.proofs.Common.{◌≡◌, ◌≢◌, ℕ, zero, suc, ◌<◌, List, [], ◌∷◌, get_or, Ok, refl, sym, ap, ◌∙◌, arith, codes}
 use Rattle.std.specs.List.{AllPairs}
 use Rattle.platform_model.specs.Reading.{Fails, rows_from}
 use Rattle.platform_model.specs.declared.fault.PlatformFault.{PlatformFault}
 use Rattle.platform_model.specs.declared.fault.PlatformFault.TheVariants.{Refused, Memory}
 use Rattle.platform_model.specs.Bounded.{IsBounded, IsBoundedInitiator, IsBoundedMemory}
-use Rattle.route_plan.specs.Shape.{IsServed, checked_shape, style_is_built}
-use Rattle.tlm_model.specs.declared.platform.InitiatorRow.{InitiatorRow}
+use Rattle.route_plan.specs.Shape.{checked_shape}
 use Rattle.tlm_top.specs.BuiltIn.{cpu_row, ram_row, built_in_platform}
 use Rattle.tlm_top.specs.Exits.{exit_of}
 use Rattle.tlm_top.specs.declared.exit.Exit.TheVariants.{NoMemory}
@@ -23,9 +22,6 @@ never_refused file Memory fails = refl
 all_of_one : {X : Type 0} (P : X → Type 0) (x : X) → P x → (k : ℕ) (d : X) → k < 1 → P (get_or (x ∷ []) k d)
 all_of_one P x is zero d below = is
 all_of_one P x is (suc k) d below = absurd (omega (arith, below))
-
-pub built_in_is_served : (file : List ℕ) → IsServed (built_in_platform file)
-built_in_is_served file = all_of_one (λ (i : InitiatorRow). style_is_built i.style ≡ true) (cpu_row file) refl
 
 own_two : {X : Type 0} (x y : X) → x ≢ y → AllPairs (λ a b. a ≢ b) (x ∷ y ∷ [])
 own_two x y apart zero zero d lt below = absurd (omega (arith, lt))

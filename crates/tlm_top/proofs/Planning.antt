@@ -1,28 +1,23 @@
 -- The plan of a platform and its scripts.
-use Rattle.std.proofs.Common.{◌≡◌, ℕ, suc, ◌+◌, ◌≤◌, ◌^◌, arith, List, [], ◌∷◌, length, Result, Ok, Err, refl, ap, sym, subst, ◌∙◌}
+use Rattle.std.proofs.Common.{◌≡◌, ℕ, suc, ◌≤◌, arith, List, [], ◌∷◌, length, Result, Ok, Err, refl, ap, sym, subst}
 use Rattle.outside.specs.Causes.{Rose}
 use Rattle.platform_model.specs.Reading.{PlatformRefusal, Fails}
 use Rattle.tlm_types.specs.Reading.{◌>>=◌}
 use Rattle.platform_model.specs.declared.fault.PlatformFault.{PlatformFault}
 use Rattle.platform_model.specs.declared.fault.PlatformFault.TheVariants.{Refused, Memory}
-use Rattle.platform_file.specs.Platform.{platform_of}
-use Rattle.platform_model.proofs.ReadLemmas.{bind_ok, ok_same}
-use Rattle.route_plan.specs.Shape.{IsServed, checked_served, checked_shape}
 use Rattle.route_plan.specs.Valid.{checked_plan, planned}
-use Rattle.route_plan.proofs.TotalLemmas.{served_by_test}
-use Rattle.command_words.specs.Words.{CommandLine, run, script}
+use Rattle.command_words.specs.Words.{CommandLine}
 use Rattle.tlm_model.specs.declared.operation.Operation.{Operation}
 use Rattle.tlm_model.specs.declared.platform.InitiatorRow.{InitiatorRow}
 use Rattle.tlm_model.specs.declared.platform.Platform.{Platform}
 use Rattle.tlm_model.specs.Plan.{Plan}
 use Rattle.tlm_top.specs.Exits.{exit_of}
-use Rattle.tlm_top.specs.Files.{Holding, Files, IsPlatform, IsPlan, AreScripts, IsNext, IsPlatformRefused, by_its_file, by_its_counts, IsLoaded, as_platform, as_script, HasFailed, IsLong, IsFilePlatform, served_platform}
+use Rattle.tlm_top.specs.Files.{Holding, Files, IsPlatform, IsPlan, AreScripts, IsNext, by_its_counts, as_script, HasFailed, IsLong}
 use Rattle.tlm_top.specs.Headline.{IsRefusal}
-use Rattle.tlm_top.specs.Loads.{IsFileFault, IsFirstFault, IsScriptFault}
+use Rattle.tlm_top.specs.Loads.{IsFirstFault, IsScriptFault}
 use Rattle.tlm_top.specs.declared.exit.Exit.{Exit}
 use Rattle.tlm_top.specs.declared.exit.Exit.TheVariants.{Done, Usage, PlatformRefused, ScriptRefused, ReadFault, WriteFault, NoMemory, TooLong}
-use Rattle.tlm_top.proofs.Loading.{files, held, LoadFault-earlier}
-use Rattle.tlm_top.proofs.LoneShape.{built_in_is_served}
+use Rattle.tlm_top.proofs.Loading.{files, held}
 
 pub AreScripts-length : (h : Holding) (version : ℕ) (rows : List InitiatorRow) (scripts : List (List Operation)) → AreScripts h version rows scripts → length scripts ≡ length rows
 AreScripts-length h version [] [] are = refl
@@ -86,17 +81,6 @@ refusal-earlier h0 h f0 f f1 command exit same later is = subst (λ (g : Holding
     by_exit (WriteFault sealed) is = is
     by_exit NoMemory is = tt
     by_exit (TooLong name) is = is
-
--- the platform that a command line asks for is served
-file_is_served : (text : List ℕ) (p : Platform) → served_platform text ≡ Ok p → IsServed p
-file_is_served text p read =
-    bind_ok (platform_of text) _ _ read (λ q described h.
-    bind_ok (checked_shape q) _ _ h (λ _ _ h1.
-    bind_ok (checked_served q) _ _ h1 (λ _ passed h2. subst IsServed (ok_same q p h2) (served_by_test q passed))))
-
-pub asked_is_served : (h : Holding) (command : CommandLine) (p : Platform) → IsPlatform h command p → IsServed p
-asked_is_served h (run file workers trace) p is = file_is_served is.text p is.read
-asked_is_served h (script file) p is = subst IsServed (sym is) (built_in_is_served file)
 
 -- the scripts that were loaded, as the plan has them
 pub AreScripts-moved : (h0 h : Holding) (v w : ℕ) (rows moved : List InitiatorRow) (scripts taken : List (List Operation)) → ((x : List ℕ) → h x ≡ h0 x) → v ≡ w → rows ≡ moved → taken ≡ scripts → AreScripts h v rows scripts → AreScripts h0 w moved taken

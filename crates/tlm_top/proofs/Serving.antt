@@ -1,5 +1,5 @@
 -- The answer after the rest of what two sinks collected was written.
-use Rattle.std.proofs.Common.{◌≡◌, ℕ, ◌+◌, ◌^◌, ◌≤◌, List, [], ◌++◌, length, take, Option, Some, None, Bool, true, false, refl, sym, subst, arith, take_all}
+use Rattle.std.proofs.Common.{◌≡◌, ℕ, ◌≤◌, List, [], ◌++◌, length, Option, Some, None, Bool, true, false, refl, sym, subst, arith, take_all}
 use Rattle.std.proofs.lemmas.List.{append-nil}
 use Rattle.outside.specs.Causes.{Rose}
 use Rattle.outside.specs.Pieces.{TakesAll, TakesPrefix}

@@ -9,7 +9,7 @@ use Rattle.command_words.specs.Words.{CommandLine, run, script}
 use Rattle.tlm_top.specs.Files.{Holding, IsPlan, HasFailed, file_limit}
 use Rattle.tlm_top.specs.Headline.{Outside, IsAnswer}
 use Rattle.tlm_top.specs.declared.exit.Exit.{Exit}
-use Rattle.tlm_top.specs.declared.exit.Exit.TheVariants.{Done, Usage, PlatformRefused, ScriptRefused, ReadFault, WriteFault, NoMemory, TooLong}
+use Rattle.tlm_top.specs.declared.exit.Exit.TheVariants.{Done, NoMemory}
 
 -- the library tells a file, and it isn't too long
 pub record IsTold (h : Holding) (name : List ℕ) : Type 0 where

@@ -1,5 +1,5 @@
 -- The answers: their numbers, and the line that tells of each.
-use Rattle.std.specs.Prelude.{ℕ, List, [], ◌∷◌, Bool, true, false, codes}
+use Rattle.std.specs.Prelude.{ℕ, List, [], ◌∷◌, Bool, false, codes}
 use Rattle.std.specs.Fmt.{decimal}
 use Rattle.std.specs.List.{concat}
 use Rattle.platform_model.specs.Code.{platform_code_word as platform_word}

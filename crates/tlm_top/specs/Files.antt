@@ -1,17 +1,16 @@
 -- What a command line has loaded: a platform, and the scripts of its initiators.
-use Rattle.std.specs.Prelude.{ℕ, ◌≡◌, ◌<◌, ◌≤◌, List, [], ◌∷◌, length, take, Option, Some, None, IfSome, Result, Ok, Err, slice_get}
+use Rattle.std.specs.Prelude.{ℕ, ◌≡◌, ◌<◌, ◌≤◌, List, [], ◌∷◌, length, take, Option, Some, IfSome, Result, Ok, Err, slice_get}
 use Rattle.outside.specs.Causes.{Rose}
 use Rattle.tlm_model.specs.declared.operation.Operation.{Operation}
 use Rattle.tlm_model.specs.declared.platform.InitiatorRow.{InitiatorRow}
 use Rattle.tlm_model.specs.declared.platform.Platform.{Platform}
-use Rattle.tlm_model.specs.declared.trace.Trace.{Trace}
 use Rattle.tlm_model.specs.Plan.{Plan}
 use Rattle.platform_file.specs.Platform.{platform_of}
 use Rattle.platform_model.specs.Reading.{PlatformRefusal}
 use Rattle.tlm_types.specs.Reading.{◌>>=◌}
 use Rattle.traffic_script.specs.Lines.{script_of}
 use Rattle.traffic_script.specs.Reading.{ScriptRefusal}
-use Rattle.route_plan.specs.Shape.{checked_served, checked_shape}
+use Rattle.route_plan.specs.Shape.{checked_shape}
 use Rattle.route_plan.specs.Valid.{checked_plan}
 use Rattle.command_words.specs.Words.{CommandLine, run, script}
 use Rattle.tlm_top.specs.BuiltIn.{built_in_platform}
@@ -35,15 +34,15 @@ pub record IsText (h : Holding) (name text : List ℕ) : Type 0 where
   pub held : IfSome (h name) (λ bytes. text ≡ bytes)
   pub fits : length text ≤ file_limit
 
--- the platform that a text describes, if its shape is good and it is served, or its first refusal
-abbrev pub served_platform : List ℕ → Result Platform PlatformRefusal
-served_platform text = platform_of text >>= λ p. checked_shape p >>= λ _. checked_served p >>= λ _. Ok p
+-- the platform that a text describes, if its shape is good, or its first refusal
+abbrev pub shaped_platform : List ℕ → Result Platform PlatformRefusal
+shaped_platform text = platform_of text >>= λ p. checked_shape p >>= λ _. Ok p
 
 -- the platform of a file
 pub record IsFilePlatform (h : Holding) (file : List ℕ) (p : Platform) : Type 0 where
   pub text : List ℕ
   pub loaded : IsText h file text
-  pub read : served_platform text ≡ Ok p
+  pub read : shaped_platform text ≡ Ok p
 
 -- the platform that a command line asks for: that of its file, or the built-in one with its one script
 abbrev pub IsPlatform : Holding → CommandLine → Platform → Type 0
@@ -68,11 +67,11 @@ pub record IsPlan (h : Holding) (command : CommandLine) (plan : Plan) : Type 0 w
   pub platform : IsPlatform h command plan.platform
   pub scripts : AreScripts h plan.platform.version plan.platform.initiators plan.scripts
 
--- the text of a platform file is refused so, or its shape, or that it be served
+-- the text of a platform file is refused so, or its shape
 pub record IsFileRefused (h : Holding) (file : List ℕ) (refusal : PlatformRefusal) : Type 0 where
   pub text : List ℕ
   pub loaded : IsText h file text
-  pub refused : served_platform text ≡ Err refusal
+  pub refused : shaped_platform text ≡ Err refusal
 
 abbrev pub HasRefusedFile : Holding → CommandLine → PlatformRefusal → Type 0
 HasRefusedFile h (run file workers trace) refusal = IsFileRefused h file refusal
@@ -84,7 +83,7 @@ pub record HasRefusedPlan (h : Holding) (command : CommandLine) (refusal : Platf
   pub asked : IsPlan h command plan
   pub refused : checked_plan plan ≡ Err refusal
 
--- why a platform is refused: its text, its shape or that it be served, before any script is loaded, or its counts, after all were read
+-- why a platform is refused: its text or its shape, before any script is loaded, or its counts, after all were read
 pub data IsPlatformRefused (h : Holding) (command : CommandLine) (refusal : PlatformRefusal) : Type 0 where
   by_its_file : HasRefusedFile h command refusal → IsPlatformRefused h command refusal
   by_its_counts : HasRefusedPlan h command refusal → IsPlatformRefused h command refusal

@@ -5,12 +5,12 @@ use Rattle.tlm_model.specs.declared.platform.InitiatorRow.{InitiatorRow}
 use Rattle.traffic_script.specs.Lines.{script_of}
 use Rattle.traffic_script.specs.Reading.{ScriptRefusal}
 use Rattle.outside.specs.declared.traits.LoadFault.{LoadFault}
-use Rattle.outside.specs.declared.traits.LoadFault.TheVariants.{Failed, TooLong as load_too_long, Memory as load_memory}
+use Rattle.outside.specs.declared.traits.LoadFault.TheVariants.{Failed, TooLong as load_too_long}
 use Rattle.traffic_script.specs.declared.fault.ScriptFault.{ScriptFault}
-use Rattle.traffic_script.specs.declared.fault.ScriptFault.TheVariants.{Refused, Memory}
+use Rattle.traffic_script.specs.declared.fault.ScriptFault.TheVariants.{Refused}
 use Rattle.tlm_top.specs.Files.{Files, Holding, IsText, IsFileRefused, AreScripts, HasFailed, IsLong}
 use Rattle.tlm_top.specs.declared.exit.Exit.{Exit}
-use Rattle.tlm_top.specs.declared.exit.Exit.TheVariants.{Done, Usage, PlatformRefused, ScriptRefused, ReadFault, WriteFault, NoMemory, TooLong}
+use Rattle.tlm_top.specs.declared.exit.Exit.TheVariants.{PlatformRefused, ScriptRefused, ReadFault, NoMemory, TooLong}
 
 -- the load of a file failed
 abbrev pub IsLoadFault : Files → List ℕ → Exit → Type 0
@@ -19,7 +19,7 @@ IsLoadFault f name (TooLong n) = (n ≡ name) × IsLong f.holds name
 IsLoadFault f name NoMemory = Unit {0}
 IsLoadFault f name exit = ⊥
 
--- the load of a platform file failed, or its text, its shape or that it be served is refused
+-- the load of a platform file failed, or its text or its shape is refused
 abbrev pub IsFileFault : Files → List ℕ → Exit → Type 0
 IsFileFault f file (PlatformRefused code table key) = IsFileRefused f.holds file (record { code = code; table = table; key = key })
 IsFileFault f file exit = IsLoadFault f file exit

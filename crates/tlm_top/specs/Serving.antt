@@ -1,5 +1,5 @@
 -- What comes of a call over two streams.
-use Rattle.std.specs.Prelude.{ℕ, ◌≡◌, List, [], Bool}
+use Rattle.std.specs.Prelude.{ℕ, ◌≡◌, [], Bool}
 use Rattle.outside.specs.StreamState.{StreamState, collected, told_by}
 use Rattle.trace_print.specs.Writes.{SinkChange}
 use Rattle.tlm_top.specs.Exits.{exit_number}

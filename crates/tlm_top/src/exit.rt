@@ -8,16 +8,16 @@ use tlm_types::{Memory, Text};
 use traffic_script::ScriptCode;
 
 /// What came of a call. The order of refusals is: the words; the load of the platform file, its
-/// reading, its shape, whether it is served; for each initiator in order the load of its script, then
-/// its reading; the counted limits; the run; the writing. Want of memory may come at any of these places.
+/// reading, its shape; for each initiator in order the load of its script, then its reading; the
+/// counted limits; the run; the writing. Want of memory may come at any of these places.
 #[derive(Drop)]
 pub enum Exit {
     /// The report of this history, which was closed, was written whole.
     Done(PlatSealed),
     /// The words are no command line.
     Usage,
-    /// The platform is refused: its file, its shape, that it be served, or its counted limits, with the
-    /// code, and the texts of the table and of the key where the fault stands.
+    /// The platform is refused: its file, its shape or its counted limits, with the code, and the texts of
+    /// the table and of the key where the fault stands.
     PlatformRefused {
         code: PlatformCode,
         table: Text,

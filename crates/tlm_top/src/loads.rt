@@ -1,6 +1,6 @@
 // Loads what a command line asks for: a platform, and the scripts of its initiators.
 ghost use Rattle.std.specs.Prelude.{◌≡◌, ◌≤◌, ℕ, List, IfOk, IfErr};
-ghost use Rattle.tlm_top.specs.Files.{served_platform, IsText, IsFilePlatform, IsScript, AreScripts};
+ghost use Rattle.tlm_top.specs.Files.{shaped_platform, IsText, IsFilePlatform, IsScript, AreScripts};
 ghost use Rattle.tlm_top.specs.Loads.{IsLoadAnswer, IsLoadFault, IsFileFault, IsScriptAnswer, IsScriptFault, IsFirstFault};
 ghost use Rattle.platform_model.specs.Reading.{Gives};
 ghost use Rattle.std.specs.Prelude.{length};
@@ -8,7 +8,7 @@ ghost use Rattle.std.specs.Prelude.{length};
 use crate::exit::Exit;
 use outside::{Library, LoadFault};
 use platform_file::{PlatformFault, read_platform};
-use route_plan::{Shape, served, shape};
+use route_plan::{Shape, shape};
 use std::alloc::Global;
 use tlm_model::InitiatorRow;
 use tlm_types::Text;
@@ -49,17 +49,15 @@ fn load<L: Library>(alloc: Global, lib: &mut L, name: &str) -> Result<Vec<u8>, E
     }
 }
 
-// The shape of the platform that some bytes describe, which is served.
+// The shape of the platform that some bytes describe.
 fn read_shape(alloc: Global, bytes: &[u8]) -> Result<Shape, PlatformFault>
-    ensures { Gives result (served_platform bytes.now) }
+    ensures { Gives result (shaped_platform bytes.now) }
 {
     let platform = read_platform(alloc, bytes)?;
-    let shape = shape(alloc, &platform)?;
-    served(alloc, &shape)?;
-    Ok(shape)
+    shape(alloc, &platform)
 }
 
-/// The platform of a file, which is served.
+/// The platform of a file, whose shape is good.
 pub fn load_platform<L: Library>(alloc: Global, lib: &mut L, file: &str) -> Result<Shape, Exit>
     ensures same { (n : List ℕ) → L.holds lib.new n ≡ L.holds lib.old n }
     ensures later { (n : List ℕ) → L.faults lib.old n ≤ L.faults lib.new n }

@@ -3,7 +3,6 @@ ghost use Rattle.std.specs.Prelude.{◌≡◌, ◌≤◌, ℕ, List, IfOk, IfErr
 ghost use Rattle.command_words.specs.Commands.{line_of, texts};
 ghost use Rattle.trace_print.specs.Writes.{Tells};
 ghost use Rattle.tlm_top.specs.Files.{IsPlan, IsPlatform};
-ghost use Rattle.route_plan.specs.Shape.{IsServed};
 ghost use Rattle.route_plan.specs.Valid.{IsValid};
 ghost use Rattle.tlm_top.specs.Headline.{IsAnswer, IsExplained, IsRefusal, IsRunOf, trace_of, workers_of};
 ghost use Rattle.tlm_top.specs.Exits.{told_of};
@@ -44,7 +43,6 @@ fn shape_of<L: Library>(alloc: Global, lib: &mut L, command: Command) -> Result<
 fn plan_of<L: Library>(alloc: Global, lib: &mut L, command: Command) -> Result<Plan, Exit>
     ensures plan { IfOk result (λ p. IsPlan (L.holds lib.old) (line_of command.entry) p) }
     ensures valid { IfOk result IsValid }
-    ensures served { IfOk result (λ p. IsServed p.platform) }
     ensures refused { IfErr result (λ exit. IsRefusal exit (record {
       holds = L.holds lib.old;
       faults_before = L.faults lib.old;
@@ -79,7 +77,7 @@ fn workers_of(command: Command) -> u32
     }
 }
 
-// Runs a plan that is served by so many workers, and writes the report of the run.
+// Runs a plan by so many workers, and writes the report of the run.
 fn run_and_print<R: Threads + Wait + Sync, K: Sink, P: Pace + Sync>(
     rt: &R,
     alloc: Global,
@@ -89,7 +87,6 @@ fn run_and_print<R: Threads + Wait + Sync, K: Sink, P: Pace + Sync>(
     out: &mut K,
     pace: &P,
 ) -> Exit
-    requires { IsServed plan.now.platform }
     ensures outcome { IsRunOf result (record {
       taken_before = K.taken out.old;
       taken_after = K.taken out.new;

@@ -1,5 +1,5 @@
--- A good history of a valid plan that is served has few entries: an access has at most one at its memory, four at each of its hops,
--- and two and two more for each hop at its pool.
+-- A good history of a valid plan has few entries: a request has at most one answer at its memory, four calls at each of its hops, and
+-- two and two more for each hop at its pool; a gate is given once at most, and closed once.
 use Rattle.std.proofs.Common.{◌≡◌, ℕ, zero, suc, ◌+◌, ◌*◌, ◌<◌, ◌≤◌, Bool, true, false, cond, not, ◌&&◌, List, [], ◌∷◌, ◌++◌, length, Option, Some, None, eqb, refl, sym, ap, subst, ◌∙◌, ◌⊎◌, inl, inr, ⊎_elim, arith, append_assoc, length-append}
 use Rattle.std.specs.Prelude.{slice_get}
 use Rattle.std.specs.List.{AllByRecursion, filter, list_any}
@@ -16,16 +16,16 @@ use Rattle.tlm_types.specs.declared.words.RespMode.TheVariants as resp
 use Rattle.tlm_types.specs.declared.words.TxnId.{TxnId}
 use Rattle.tlm_types.specs.declared.entry.Entry.{Entry}
 use Rattle.tlm_types.specs.declared.entry.What.{What}
-use Rattle.tlm_types.specs.declared.entry.What.TheVariants.{Access as Accessed, Call, Take, Acquire, Release}
+use Rattle.tlm_types.specs.declared.entry.What.TheVariants.{Access as Accessed, Granted, Invalidated, Closed, Call, Take, Acquire, Release}
 use Rattle.tlm_model.specs.declared.operation.Operation.{Operation}
 use Rattle.tlm_model.specs.declared.operation.Operation.TheVariants.{Write, Read, Ignore, Debug, Copy, Add, FetchAdd, Wait, Sync, Fence, Invalidate}
 use Rattle.tlm_model.specs.declared.platform.Platform.{Platform}
 use Rattle.tlm_model.specs.Each.{EachFrom}
-use Rattle.tlm_model.specs.History.{entries_at, is_object, opening_store}
+use Rattle.tlm_model.specs.History.{entries_at, is_object}
 use Rattle.tlm_model.specs.Plan.{Plan, Initiator}
 use Rattle.tlm_model.specs.Requests.{Request, buffer_of, is_txn, requests_from, requests_of, using}
 use Rattle.tlm_model.specs.Route.{later, latency_of}
-use Rattle.tlm_model.specs.Scripts.{IsInOrder, OfRequest, has_answer, is_answer}
+use Rattle.tlm_model.specs.Scripts.{IsInOrder, IsPlaced, OfRequest, has_answer, is_answer}
 use Rattle.tlm_model.proofs.EachLemmas.{EachFrom-weaker, append_nil}
 use Rattle.tlm_model.proofs.HistoryLemmas.{AllByRecursion-weaker}
 use Rattle.base_phases.specs.Sequences.{Call as PhaseCall}
@@ -36,12 +36,15 @@ use Rattle.flow_model.specs.Events.{acquire_by, acquires}
 use Rattle.flow_model.specs.Counts.{release_time_by, release_times, take_by, takes}
 use Rattle.flow_model.specs.Platform.{world_of}
 use Rattle.good_history.specs.Good.{IsGood}
+use Rattle.grant_model.specs.Grants.{closes, gives, is_closed, is_given}
+use Rattle.grant_model.specs.Kept.{IsGateInOrder}
 use Rattle.traffic_script.specs.Proper.{AreProper}
 use Rattle.platform_model.specs.Bounded.{IsBounded}
 use Rattle.route_plan.specs.Valid.{IsObject, IsValid}
 use Rattle.route_plan.proofs.SinglePaths.{not_none, some_same}
 use Rattle.run_outcome.proofs.PlanLemmas.{initiator_number, initiator_within}
-use Rattle.trace_print.proofs.EntryKinds.{HaveKinds, IsKind}
+use Rattle.trace_print.proofs.AtMemories.{gate-few, memories-there}
+use Rattle.trace_print.proofs.EntryKinds.{HaveKinds, IsKind, Places}
 use Rattle.trace_print.proofs.OfRequests.{all-at, at-request, request-of, script-of}
 use Rattle.trace_print.proofs.Passages.{few-hops, is-passed}
 use Rattle.trace_print.proofs.Requested.{requests-few}
@@ -238,23 +241,29 @@ count-moves x (e ∷ log) all = go (is_of x e) e.what all.0 (count-moves x log a
     go true w is rest = absurd is
     go false w is rest = omega (arith, rest)
 
--- an object as a number, and an entry's initiator, request and object as one
+-- an object as a number, the gate that an entry gives or closes, and an entry's initiator, request, object and gate as one
 abbrev code : ObjectNo → ℕ
 code (Memory m) = m * 3
 code (Hop h) = h * 3 + 1
 code (Pool i) = i * 3 + 2
 
+abbrev gate_code : What → ℕ
+gate_code (Granted g f l k) = g * 2 + 1
+gate_code (Closed g) = g * 2 + 2
+gate_code w = 0
+
 key : Entry → ℕ
-key e = (e.txn.initiator * 262144 + e.txn.seq) * 1024 + code e.object
+key e = ((e.txn.initiator * 262144 + e.txn.seq) * 1024 + code e.object) * 4096 + gate_code e.what
 
 record IsKeyed (e : Entry) : Type 0 where
   small : e.txn.seq < 262144
   few : e.txn.initiator < 32
   coded : code e.object < 1024
+  gated : gate_code e.what < 4096
 
-key-small : (e : Entry) → IsKeyed e → key e < 8589934592
+key-small : (e : Entry) → IsKeyed e → key e < 35184372088832
 unfolding key
-key-small e k = omega (arith, k.small, k.few, k.coded)
+key-small e k = omega (arith, k.small, k.few, k.coded, k.gated)
 
 same-code : (o q : ObjectNo) → code q ≡ code o → is_object o q ≡ true
 same-code (Memory m) (Memory n) e = eq-eqb n m (omega (arith, e))
@@ -273,25 +282,63 @@ is-txn x d same number =
     let second = eq-eqb d.txn.seq x.seq number in
     λ i. first i && second i
 
--- an entry with the key of another one is of its request, at its object
+-- an entry with the key of another one is of its request, at its object, and of its gate
 record IsLike (e d : Entry) : Type 0 where
   own : is_of e.txn d ≡ true
   here : is_object e.object d.object ≡ true
+  gate : gate_code d.what ≡ gate_code e.what
 
 like : (e d : Entry) → IsKeyed e → IsKeyed d → key d ≡ key e → IsLike e d
 unfolding key
 like e d k l same =
-    let low = code d.object in
-    let txn : d.txn.initiator * 262144 + d.txn.seq ≡ e.txn.initiator * 262144 + e.txn.seq = omega (arith, same, k.coded, l.coded) in
+    let high : (d.txn.initiator * 262144 + d.txn.seq) * 1024 + code d.object ≡ (e.txn.initiator * 262144 + e.txn.seq) * 1024 + code e.object = omega (arith, same, k.gated, l.gated) in
+    let txn : d.txn.initiator * 262144 + d.txn.seq ≡ e.txn.initiator * 262144 + e.txn.seq = omega (arith, high, k.coded, l.coded) in
     let initiator : d.txn.initiator ≡ e.txn.initiator = omega (arith, txn, k.small, l.small) in
     let seq : d.txn.seq ≡ e.txn.seq = omega (arith, txn, initiator) in
-    record { own = is-txn e.txn d initiator seq; here = same-code e.object d.object (omega (arith, same, txn)) }
+    record { own = is-txn e.txn d initiator seq; here = same-code e.object d.object (omega (arith, high, txn)); gate = omega (arith, same, high) }
 
-answer-at-memory : (n : ℕ) (o : ObjectNo) (w : What) → IsKind o w → is_object (Memory n) o ≡ true → is_answer w ≡ true
-answer-at-memory n (Memory m) (Accessed way access status got) kind here = refl
-answer-at-memory n (Memory m) w kind here = absurd kind
-answer-at-memory n (Hop h) w kind here = absurd (true≢false (sym here))
-answer-at-memory n (Pool i) w kind here = absurd (true≢false (sym here))
+-- an entry at a memory that neither gives nor closes a gate is an answer
+answer-at-memory : (n : ℕ) (o : ObjectNo) (w : What) → IsKind o w → gate_code w ≡ 0 → is_object (Memory n) o ≡ true → is_answer w ≡ true
+answer-at-memory n (Memory m) (Accessed way access status got) kind none here = refl
+answer-at-memory n (Memory m) (Granted g f l k) kind none here = absurd (omega (arith, none))
+answer-at-memory n (Memory m) (Invalidated f l) kind none here = refl
+answer-at-memory n (Memory m) (Closed g) kind none here = absurd (omega (arith, none))
+answer-at-memory n (Memory m) w kind none here = absurd kind
+answer-at-memory n (Hop h) w kind none here = absurd (true≢false (sym here))
+answer-at-memory n (Pool i) w kind none here = absurd (true≢false (sym here))
+
+-- gates
+
+abbrev Gates : List Entry → Entry → Type 0
+Gates before e = IsGateInOrder before e.object e.what
+
+given-again : (g : ℕ) (w : What) → gate_code w ≡ g * 2 + 1 → gives g w ≡ true
+given-again g (Granted n f l k) same = eq-eqb n g (omega (arith, same))
+given-again g (Closed n) same = absurd (omega (arith, same))
+given-again g w same = absurd (omega (arith, same))
+
+closed-again : (g : ℕ) (w : What) → gate_code w ≡ g * 2 + 2 → closes g w ≡ true
+closed-again g (Granted n f l k) same = absurd (omega (arith, same))
+closed-again g (Closed n) same = eq-eqb n g (omega (arith, same))
+closed-again g w same = absurd (omega (arith, same))
+
+given-new : (g : ℕ) (before : List Entry) (o : ObjectNo) (w : What) → IsGateInOrder before o w → gives g w ≡ true → is_given g before ≡ false
+given-new g before o (Granted n f l k) order is = subst (λ (m : ℕ). is_given m before ≡ false) (eqb-true n g is) order.0
+given-new g before o w order is = absurd (true≢false (sym is))
+
+closed-new : (g : ℕ) (before : List Entry) (o : ObjectNo) (w : What) → IsGateInOrder before o w → closes g w ≡ true → is_closed g before ≡ false
+closed-new g before o (Closed n) order is = subst (λ (m : ℕ). is_closed m before ≡ false) (eqb-true n g is) order.1
+closed-new g before o w order is = absurd (true≢false (sym is))
+
+given-once : (g : ℕ) (h : List Entry) → EachFrom Gates [] h → length (filter (λ (d : Entry). gives g d.what) h) ≤ 1
+given-once g h gates =
+    once-from (λ (d : Entry). gives g d.what) [] h (omega arith)
+    (EachFrom-weaker Gates (λ before d. gives g d.what ≡ true → is_given g before ≡ false) (λ before d order. given-new g before d.object d.what order) [] h gates)
+
+closed-once : (g : ℕ) (h : List Entry) → EachFrom Gates [] h → length (filter (λ (d : Entry). closes g d.what) h) ≤ 1
+closed-once g h gates =
+    once-from (λ (d : Entry). closes g d.what) [] h (omega arith)
+    (EachFrom-weaker Gates (λ before d. closes g d.what ≡ true → is_closed g before ≡ false) (λ before d order. closed-new g before d.object d.what order) [] h gates)
 
 both-hold : {X : Type 0} (P Q : X → Type 0) (xs : List X) → AllByRecursion P xs → AllByRecursion Q xs → AllByRecursion (λ x. P x × Q x) xs
 both-hold P Q [] p q = tt
@@ -339,11 +386,25 @@ module _ (p : Plan) (valid : IsValid p) where
   code-small (Hop h) there = omega (arith, there, few-hops p.platform bounded)
   code-small (Pool i) there = omega (arith, there, bounded.initiator_count)
 
-  all-keyed : (before h : List Entry) → EachFrom (Order p) before h → AllByRecursion (λ (e : Entry). IsObject p.platform e.object) h → AllByRecursion IsKeyed h
-  all-keyed before [] orders there = tt
-  all-keyed before (e ∷ h) orders there = (
-    record { small = number-small before e orders.0; few = omega (arith, initiator-there before e orders.0, bounded.initiator_count); coded = code-small e.object there.0 },
-    all-keyed (before ++ e ∷ []) h orders.1 there.1,
+  gate-small : (n : ℕ) (o : ObjectNo) (w : What) → IsPlaced p.platform n o w → gate_code w < 4096
+  gate-small n (Memory m) (Granted g f l k) placed = omega (arith, gate-few p.platform bounded m g placed)
+  gate-small n (Memory m) (Closed g) placed = omega (arith, gate-few p.platform bounded m g placed)
+  gate-small n (Hop h) (Granted g f l k) placed = absurd placed
+  gate-small n (Hop h) (Closed g) placed = absurd placed
+  gate-small n (Pool i) (Granted g f l k) placed = absurd placed
+  gate-small n (Pool i) (Closed g) placed = absurd placed
+  gate-small n o w placed = omega arith
+
+  all-keyed : (before h : List Entry) → EachFrom (Order p) before h → EachFrom (Places p) before h → AllByRecursion (λ (e : Entry). IsObject p.platform e.object) h → AllByRecursion IsKeyed h
+  all-keyed before [] orders places there = tt
+  all-keyed before (e ∷ h) orders places there = (
+    record {
+      small = number-small before e orders.0;
+      few = omega (arith, initiator-there before e orders.0, bounded.initiator_count);
+      coded = code-small e.object there.0;
+      gated = gate-small e.txn.initiator e.object e.what places.0;
+    },
+    all-keyed (before ++ e ∷ []) h orders.1 places.1 there.1,
   )
 
   -- the answers of a request
@@ -369,9 +430,9 @@ module _ (p : Plan) (valid : IsValid p) where
     known : AllByRecursion (λ (d : Entry). IsKeyed d × IsKind d.object d.what) h
     known = both-hold IsKeyed (λ (d : Entry). IsKind d.object d.what) h keyed kinds
 
-    -- the entries with the key of one at a memory, which are answers
-    few-at-memory : (e : Entry) → IsKeyed e → (m : ℕ) → e.object ≡ Memory m → length (filter (has_key e) h) ≤ 32
-    few-at-memory e k m at =
+    -- the entries with the key of one at a memory that is an answer
+    few-answers : (e : Entry) → IsKeyed e → (m : ℕ) → e.object ≡ Memory m → gate_code e.what ≡ 0 → length (filter (has_key e) h) ≤ 32
+    few-answers e k m at none =
         let weak = AllByRecursion-weaker (λ (d : Entry). IsKeyed d × IsKind d.object d.what) (λ (d : Entry). has_key e d ≡ true → answers_it e.txn d ≡ true) h (λ d is same. answers d is.0 is.1 (like e d k is.0 (eqb-true (key d) (key e) same))) known in
         let sound = good.sound in
         let requests = sound.requests in
@@ -380,9 +441,27 @@ module _ (p : Plan) (valid : IsValid p) where
       where
         answers : (d : Entry) → IsKeyed d → IsKind d.object d.what → IsLike e d → answers_it e.txn d ≡ true
         answers d l kind likely =
-            let answer = answer-at-memory m d.object d.what kind (ap (λ (o : ObjectNo). is_object o d.object) (sym at) ∙ likely.here) in
+            let answer = answer-at-memory m d.object d.what kind (likely.gate ∙ none) (ap (λ (o : ObjectNo). is_object o d.object) (sym at) ∙ likely.here) in
             let own = likely.own in
             λ i. own i && answer i
+
+    -- those that have its gate
+    of-gate : (e : Entry) → IsKeyed e → (test : Entry → Bool) → ((d : Entry) → gate_code d.what ≡ gate_code e.what → test d ≡ true) → length (filter test h) ≤ 1 → length (filter (has_key e) h) ≤ 32
+    of-gate e k test same once =
+        let weak = AllByRecursion-weaker IsKeyed (λ (d : Entry). has_key e d ≡ true → test d ≡ true) h (λ d l is. (let likely = like e d k l (eqb-true (key d) (key e) is) in same d likely.gate)) keyed in
+        omega (arith, fewer (has_key e) test h weak, once)
+
+    -- and those of one that gives a gate, or closes one
+    few-at-memory : (e : Entry) → IsKeyed e → (m : ℕ) → e.object ≡ Memory m → length (filter (has_key e) h) ≤ 32
+    few-at-memory e k m at = by_what e.what refl
+      where
+        gates : EachFrom Gates [] h
+        gates = (let sound = good.sound in let grants = sound.grants in grants.gates)
+
+        by_what : (w : What) → e.what ≡ w → length (filter (has_key e) h) ≤ 32
+        by_what (Granted g f l q) is = of-gate e k (λ (d : Entry). gives g d.what) (λ d same. given-again g d.what (same ∙ ap gate_code is)) (given-once g h gates)
+        by_what (Closed g) is = of-gate e k (λ (d : Entry). closes g d.what) (λ d same. closed-again g d.what (same ∙ ap gate_code is)) (closed-once g h gates)
+        by_what w is = few-answers e k m at (ap gate_code is)
 
     -- the others with the key of one are of its request, in the log of its object
     at-object : (e : Entry) → IsKeyed e → (o : ObjectNo) → e.object ≡ o → length (filter (has_key e) h) ≤ length (filter (is_of e.txn) (entries_at o h))
@@ -434,26 +513,26 @@ module _ (p : Plan) (valid : IsValid p) where
         by_object (Hop o) at stands = few-at-hop e k o at stands
         by_object (Pool i) at stands = few-at-pool e k i at stands
 
-    few-entries-by : AllByRecursion (λ (e : Entry). Stands p e.txn e.object) h → length h ≤ 8589934592 * 32
+    few-entries-by : AllByRecursion (λ (e : Entry). Stands p e.txn e.object) h → length h ≤ 35184372088832 * 32
     few-entries-by stand =
-        few-by key 8589934592 h (AllByRecursion-weaker IsKeyed (λ (e : Entry). key e < 8589934592) h key-small keyed)
+        few-by key 35184372088832 h (AllByRecursion-weaker IsKeyed (λ (e : Entry). key e < 35184372088832) h key-small keyed)
         (λ k. ⊎_elim (λ (none : _). omega (arith, none)) (λ (few : _). few)
         (none-or (λ (d : Entry). eqb (key d) k) (λ (e : Entry). IsKeyed e × Stands p e.txn e.object) (length (filter (λ (d : Entry). eqb (key d) k) h) ≤ 32) h
         (both-hold IsKeyed (λ (e : Entry). Stands p e.txn e.object) h keyed stand)
         (λ e is same. subst (λ (n : ℕ). length (filter (λ (d : Entry). eqb (key d) n) h) ≤ 32) (eqb-true (key e) k same) (few-with-key e is.0 is.1))))
 
   -- the objects of a good history are there
-  pub good-objects : (h : List Entry) → IsGood p h → HaveKinds h → AllByRecursion (λ (e : Entry). Stands p e.txn e.object) h → AllByRecursion (λ (e : Entry). IsObject p.platform e.object) h
-  good-objects h good kinds stand =
+  pub good-objects : (h : List Entry) → IsGood p h → AllByRecursion (λ (e : Entry). Stands p e.txn e.object) h → AllByRecursion (λ (e : Entry). IsObject p.platform e.object) h
+  good-objects h good stand =
       let sound = good.sound in
       let requests = sound.requests in
       let scripts = requests.scripts in
-      objects-there p valid.shape (opening_store p.platform) h (initiators-there [] h scripts.order) kinds requests.legal stand
+      objects-there p valid.shape h (initiators-there [] h scripts.order) (memories-there p [] h scripts.replies scripts.places) stand
 
-  pub few-entries : (h : List Entry) → IsGood p h → HaveKinds h → AllByRecursion (λ (e : Entry). Stands p e.txn e.object) h → length h ≤ 274877906944
+  pub few-entries : (h : List Entry) → IsGood p h → HaveKinds h → AllByRecursion (λ (e : Entry). Stands p e.txn e.object) h → length h ≤ 1125899906842624
   few-entries h good kinds stand =
       let sound = good.sound in
       let requests = sound.requests in
       let scripts = requests.scripts in
-      let keyed = all-keyed [] h scripts.order (good-objects h good kinds stand) in
+      let keyed = all-keyed [] h scripts.order scripts.places (good-objects h good stand) in
       omega (arith, few-entries-by h good kinds keyed stand)

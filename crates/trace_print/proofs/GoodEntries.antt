@@ -1,14 +1,15 @@
--- The entries of a good history of a valid plan that is served can be told.
-use Rattle.std.proofs.Common.{◌≡◌, ◌≢◌, ℕ, zero, suc, ◌+◌, ◌-◌, ◌%◌, ◌^◌, ◌<◌, ◌≤◌, ◌==◌, Bool, true, false, List, [], ◌∷◌, ◌++◌, length, map, take, drop, Option, Some, None, leb, refl, sym, ap, subst, ◌∙◌, arith}
+-- The entries of a good history of a valid plan can be told.
+use Rattle.std.proofs.Common.{◌≡◌, ℕ, zero, suc, ◌+◌, ◌-◌, ◌%◌, ◌^◌, ◌<◌, ◌≤◌, ◌==◌, ◌&&◌, ◌||◌, Bool, true, false, List, [], ◌∷◌, ◌++◌, length, map, take, drop, Option, Some, None, leb, refl, sym, ap, subst, ◌∙◌, arith}
 use Rattle.std.specs.Prelude.{IfSome, if◌then◌else◌, slice_get, slice_index, slice_set}
-use Rattle.std.specs.List.{AllByRecursion}
+use Rattle.std.specs.List.{AllByRecursion, list_any}
 use Rattle.std.specs.Option.{option_map}
-use Rattle.std.proofs.lemmas.Bool.{and_parts, eq-eqb, leb-true}
+use Rattle.std.proofs.lemmas.Bool.{and_parts, eq-eqb, eqb-true, leb-true, true≢false}
 use Rattle.std.proofs.lemmas.List.{length-take, map-append}
 use Rattle.std.proofs.lemmas.Option.{slice_get-map, slice_get_within}
 use Rattle.addr_router.specs.Windows.{IsProper as IsProperWindow}
 use Rattle.tlm_types.specs.declared.words.Command.{Command}
 use Rattle.tlm_types.specs.declared.words.Command.TheVariants.{Read, Write, Ignore, FetchAdd}
+use Rattle.tlm_types.specs.declared.words.Kind.{Kind}
 use Rattle.tlm_types.specs.declared.words.ObjectNo.{ObjectNo}
 use Rattle.tlm_types.specs.declared.words.ObjectNo.TheVariants.{Memory as memory_object, Hop, Pool}
 use Rattle.tlm_types.specs.declared.words.Response.{Response}
@@ -36,10 +37,10 @@ use Rattle.tlm_types.specs.Log.{read_sends}
 use Rattle.tlm_model.specs.Numbers.{added, le_number}
 use Rattle.tlm_model.specs.Requests.{Asked, Transport, DebugRead, Invalidation, Request, got_in, requests_of}
 use Rattle.tlm_model.specs.Route.{Found, Route, into_memory, into_router, into_window, window_has, later, latency_of, before_of, route_of, walk, window_of}
-use Rattle.tlm_model.specs.Scripts.{HasWay, IsAccessOf, IsEntryOf, IsWay, OfRequest}
+use Rattle.tlm_model.specs.Scripts.{HasWay, IsAccessOf, IsEntryOf, IsInvalidationOf, IsPlaced, IsWay, OfRequest, has_gate}
 use Rattle.tlm_model.specs.Store.{got_by, got_of, is_enabled, place_of, put_from, store_after, stored_by, taken_from, zeros}
 use Rattle.tlm_model.specs.Times.{HasTime, decoupled_time}
-use Rattle.tlm_model.proofs.HistoryLemmas.{AllByRecursion-push}
+use Rattle.tlm_model.proofs.HistoryLemmas.{AllByRecursion-push, AllByRecursion-weaker}
 use Rattle.flow_model.specs.World.{Passage}
 use Rattle.flow_model.specs.Events.{Event, entries, number_in, numbered_from}
 use Rattle.flow_model.specs.Issue.{issue_time}
@@ -47,23 +48,25 @@ use Rattle.flow_model.specs.Platform.{passage_of, world_of}
 use Rattle.flow_model.specs.Points.{InOrderBy, TimedBy}
 use Rattle.flow_model.specs.Traffic.{IsIssuedBy, slots_of}
 use Rattle.generic_payload.proofs.Moves.{length-taken_from}
-use Rattle.platform_model.specs.Bounded.{IsBounded, IsBoundedRouter}
+use Rattle.grant_model.specs.Grants.{gives, serves}
+use Rattle.grant_model.specs.Kept.{GrantsAll, IsUse, IsWholeOf}
+use Rattle.platform_model.specs.Bounded.{IsBounded, IsBoundedMemory, IsBoundedRouter}
 use Rattle.platform_model.specs.Windows.{window_at}
 use Rattle.traffic_script.specs.Proper.{AreBytes, AreProper}
-use Rattle.route_plan.specs.Shape.{IsServed}
 use Rattle.route_plan.specs.Valid.{IsValid}
 use Rattle.route_plan.specs.Valid.{IsObject as IsObjectOf}
 use Rattle.route_plan.proofs.SinglePaths.{not_none, some_same}
 use Rattle.run_outcome.proofs.PlanLemmas.{initiator_within}
 use Rattle.trace_print.specs.Naming.{AreUsual, HasGate, HasNumbers, HasUsualBytes, IsObject, IsTellable}
+use Rattle.trace_print.proofs.AtMemories.{gate-few}
 use Rattle.trace_print.proofs.FewEntries.{few-entries, good-objects}
 use Rattle.trace_print.proofs.GoodNames.{all_got}
-use Rattle.trace_print.proofs.EntryKinds.{HaveKinds, IsKind, Replies, Ways, have-kinds, not-direct-at}
+use Rattle.trace_print.proofs.EntryKinds.{HaveKinds, IsKind, Places, Replies, Ways, have-kinds}
 use Rattle.trace_print.proofs.OfRequests.{all-at, at-request, request-of, script-of}
 use Rattle.trace_print.proofs.Passages.{count-hop-words, is-passed}
 use Rattle.trace_print.proofs.Requested.{IsBuffer, IsGotten, IsSentAsUsual, IsToldAsked, IsToldDebugRead, IsToldRequest, IsToldTransport, later-small, le-bytes, requests-few, requests-told, zeros-bytes}
 use Rattle.trace_print.proofs.SmallSlots.{HasSlot, IsSlotBelow, few-slots, have-slots}
-use Rattle.trace_print.proofs.SmallTimes.{HaveSmallTimes, IsSmallTime, debug-small, passed-small}
+use Rattle.trace_print.proofs.SmallTimes.{HaveSmallTimes, IsSmallTime, passed-small, unpassed-small}
 use Rattle.trace_print.proofs.Standing.{all-stand}
 
 -- bytes of memories
@@ -145,34 +148,35 @@ operand-bytes Write sent h = tt
 operand-bytes Ignore sent h = tt
 operand-bytes FetchAdd sent h = h
 
--- an access by blocking or non-blocking transport
+-- an access by blocking or non-blocking transport, or through a gate that can be told
 abbrev IsTransportWay : Way → Type 0
 IsTransportWay Blocking = Unit {0}
 IsTransportWay FourPhase = Unit {0}
-IsTransportWay way = ⊥
+IsTransportWay (Direct g) = g < 2 ^ 64
+IsTransportWay Debug = ⊥
 
-no-gate : (way : Way) → IsTransportWay way → HasGate way
-no-gate Blocking is = tt
-no-gate FourPhase is = tt
-no-gate (Direct g) is = absurd is
-no-gate Debug is = tt
+gate-of : (way : Way) → IsTransportWay way → HasGate way
+gate-of Blocking is = tt
+gate-of FourPhase is = tt
+gate-of (Direct g) is = is
+gate-of Debug is = tt
 
 got-is : (way : Way) → IsTransportWay way → (status : Response) (a : Access) (store : List ℕ) → got_of way status a store ≡ got_by a.command status a store
 got-is Blocking is status a store = refl
 got-is FourPhase is status a store = refl
-got-is (Direct g) is status a store = absurd is
+got-is (Direct g) is status a store = refl
 got-is Debug is status a store = absurd is
 
 stored-is : (way : Way) → IsTransportWay way → (status : Response) (a : Access) (store : List ℕ) → store_after way status a store ≡ stored_by a.command status a store
 stored-is Blocking is status a store = refl
 stored-is FourPhase is status a store = refl
-stored-is (Direct g) is status a store = absurd is
+stored-is (Direct g) is status a store = refl
 stored-is Debug is status a store = absurd is
 
 zeros-sent : (way : Way) → IsTransportWay way → (n : ℕ) → read_sends way n ≡ zeros n
 zeros-sent Blocking is n = refl
 zeros-sent FourPhase is n = refl
-zeros-sent (Direct g) is n = absurd is
+zeros-sent (Direct g) is n = refl
 zeros-sent Debug is n = absurd is
 
 usual-bytes : (c : Command) (way : Way) → IsTransportWay way → (r : Response) (a : Access) (offset : ℕ) (store got : List ℕ) → IsSentAsUsual c a → got ≡ got_by c r (record a { offset = offset }) store → AreUsual c way (record a { offset = offset }) got
@@ -200,7 +204,7 @@ transport-told p s stored way is m offset small a told status got legal =
     let e : got ≡ got_by a.command status b (s m) = answer-got row (s m) way b status got legal ∙ got-is way is status b (s m) in
     let buffer = subst IsBuffer (sym e) (got-buffer a.command status b (s m) told.bytes told.few (stored m)) in
     record {
-      numbers = (no-gate way is, small, told.count, told.wide, told.enabled, shown-bytes a.command b got told.bytes buffer.bytes, operand-bytes a.command a.sent told.bytes);
+      numbers = (gate-of way is, small, told.count, told.wide, told.enabled, shown-bytes a.command b got told.bytes buffer.bytes, operand-bytes a.command a.sent told.bytes);
       usual = usual-bytes a.command way is status a offset (s m) got told.usual e;
       gotten = buffer;
       stored = put-stored s stored m (store_after way status b (s m)) (subst AreBytes (sym (stored-is way is status b (s m))) (stored-bytes a.command status b (s m) told.bytes (stored m)));
@@ -225,11 +229,14 @@ debug-told p s stored m offset small a told status got legal =
       stored = put-stored s stored m (s m) (stored m);
     }
 
--- the way of an access of an initiator that isn't direct
-way-is : (style : Style) → style ≢ direct_style → (a : Access) (way : Way) → IsWay style (Transport a) way → IsTransportWay way
-way-is blocking_style other a way is = subst IsTransportWay (sym is) tt
-way-is direct_style other a way is = absurd (other refl)
-way-is fourphase_style other a way is = subst IsTransportWay (sym is) tt
+-- the way of an access, whose gate can be told
+way-is : (style : Style) (a : Access) (way : Way) → HasGate way → IsWay style (Transport a) way → IsTransportWay way
+way-is blocking_style a way gate is = subst IsTransportWay (sym is) tt
+way-is direct_style a Blocking gate is = tt
+way-is direct_style a (Direct g) gate is = gate
+way-is direct_style a FourPhase gate is = absurd is
+way-is direct_style a Debug gate is = absurd is
+way-is fourphase_style a way gate is = subst IsTransportWay (sym is) tt
 
 debug-way : (style : Style) (a : Access) (way : Way) → IsWay style (DebugRead a) way → Debug ≡ way
 debug-way blocking_style a way is = sym is
@@ -241,38 +248,93 @@ no-way blocking_style n way is = is
 no-way direct_style n way is = is
 no-way fourphase_style n way is = is
 
-told-access : (p : Platform) (s : Store) → HasStoredBytes s → (style : Style) → style ≢ direct_style → (route : Option Route) → ((r : Route) → route ≡ Some r → r.offset < 2 ^ 64) → (asked : Asked) → IsToldAsked asked
-    → (o : ObjectNo) (way : Way) (a : Access) (status : Response) (got : List ℕ) → IsAccessOf route asked o a → IsWay style asked way
+told-access : (p : Platform) (s : Store) → HasStoredBytes s → (style : Style) (route : Option Route) → ((r : Route) → route ≡ Some r → r.offset < 2 ^ 64) → (asked : Asked) → IsToldAsked asked
+    → (o : ObjectNo) (way : Way) (a : Access) (status : Response) (got : List ℕ) → HasGate way → IsAccessOf route asked o a → IsWay style asked way
     → IsLegalEntry p s o (Accessed way a status got) → IsToldWhat s o (Accessed way a status got)
-told-access p s stored style other None small asked told o way a status got is came legal = absurd is
-told-access p s stored style other (Some r) small (Transport b) told o way a status got is came legal =
+told-access p s stored style None small asked told o way a status got gate is came legal = absurd is
+told-access p s stored style (Some r) small (Transport b) told o way a status got gate is came legal =
     let P : ObjectNo × Access → Type 0 = λ x. IsLegalEntry p s x.0 (Accessed way x.1 status got) → IsToldWhat s x.0 (Accessed way x.1 status got) in
     let from : ObjectNo × Access = (memory_object r.memory, record b { offset = r.offset }) in
     let to : ObjectNo × Access = (o, a) in
     let same : from ≡ to = λ i. (sym is.0 i, sym is.1 i) in
-    subst P same (transport-told p s stored way (way-is style other b way came) r.memory r.offset (small r refl) b told status got) legal
-told-access p s stored style other (Some r) small (DebugRead b) told o way a status got is came legal =
+    subst P same (transport-told p s stored way (way-is style b way gate came) r.memory r.offset (small r refl) b told status got) legal
+told-access p s stored style (Some r) small (DebugRead b) told o way a status got gate is came legal =
     let P : ObjectNo × Way × Access → Type 0 = λ x. IsLegalEntry p s x.0 (Accessed x.1 x.2 status got) → IsToldWhat s x.0 (Accessed x.1 x.2 status got) in
     let from : ObjectNo × Way × Access = (memory_object r.memory, Debug, record b { offset = r.offset }) in
     let to : ObjectNo × Way × Access = (o, way, a) in
     let same : from ≡ to = λ i. (sym is.0 i, debug-way style b way came i, sym is.1 i) in
     subst P same (debug-told p s stored r.memory r.offset (small r refl) b told status got) legal
-told-access p s stored style other (Some r) small (Invalidation n) told o way a status got is came legal = absurd (no-way style n way came)
+told-access p s stored style (Some r) small (Invalidation n) told o way a status got gate is came legal = absurd (no-way style n way came)
+
+-- the numbers of a grant: it is of a whole memory
+granted-numbers : (p : Platform) → IsBounded p → (m g f l : ℕ) (k : Kind) → has_gate p m g ≡ true → (o : Option MemoryRow) → slice_get p.memories m ≡ o → IsWholeOf o f l k → (g < 2 ^ 64) × (f < 2 ^ 64) × (l < 2 ^ 64)
+granted-numbers p bounded m g f l k has None at whole = absurd whole
+granted-numbers p bounded m g f l k has (Some row) at whole =
+    let r = all_got IsBoundedMemory p.memories bounded.memories m row at in
+    (omega (arith, gate-few p bounded m g has), omega (arith, whole.0), omega (arith, whole.1, r.size))
+
+-- those of an invalidation
+invalidated-numbers : (route : Option Route) → ((r : Route) → route ≡ Some r → r.offset < 2 ^ 64) → (asked : Asked) (o : ObjectNo) (f l : ℕ) → IsInvalidationOf route asked o f l → (f < 2 ^ 64) × (l < 2 ^ 64)
+invalidated-numbers None small asked o f l is = absurd is
+invalidated-numbers (Some r) small (Transport b) o f l is = absurd is
+invalidated-numbers (Some r) small (DebugRead b) o f l is = absurd is
+invalidated-numbers (Some r) small (Invalidation n) o f l is = (omega (arith, is.1, small r refl), omega (arith, is.2))
 
 -- the slot of a move
 abbrev IsSlotSmall : What → Type 0
 IsSlotSmall w = IsSlotBelow (2 ^ 64) w
 
-told-what : (p : Platform) (s : Store) → HasStoredBytes s → (style : Style) → style ≢ direct_style → (route : Option Route) → ((r : Route) → route ≡ Some r → r.offset < 2 ^ 64) → (asked : Asked) → IsToldAsked asked
-    → (o : ObjectNo) (w : What) → IsKind o w → IsSlotSmall w → IsEntryOf route asked o w → HasWay style asked w → IsLegalEntry p s o w → IsToldWhat s o w
-told-what p s stored style other route small asked told (memory_object m) (Accessed way a status got) kind slot is came legal = told-access p s stored style other route small asked told (memory_object m) way a status got is came legal
-told-what p s stored style other route small asked told (memory_object m) w kind slot is came legal = absurd kind
-told-what p s stored style other route small asked told (Hop h) (Call c a) kind slot is came legal = record { numbers = tt; usual = tt; gotten = tt; stored = stored }
-told-what p s stored style other route small asked told (Hop h) w kind slot is came legal = absurd kind
-told-what p s stored style other route small asked told (Pool i) (Take k) kind slot is came legal = record { numbers = slot; usual = tt; gotten = tt; stored = stored }
-told-what p s stored style other route small asked told (Pool i) (Acquire k) kind slot is came legal = record { numbers = slot; usual = tt; gotten = tt; stored = stored }
-told-what p s stored style other route small asked told (Pool i) (Release k f) kind slot is came legal = record { numbers = slot; usual = tt; gotten = tt; stored = stored }
-told-what p s stored style other route small asked told (Pool i) w kind slot is came legal = absurd kind
+-- the gate of a direct access
+abbrev IsGateSmall : What → Type 0
+IsGateSmall (Accessed way a status got) = HasGate way
+IsGateSmall w = Unit {0}
+
+-- what is known of what happened, by itself: what it is, where, and that its slot and its gate are small
+record IsFit (p : Plan) (n : ℕ) (o : ObjectNo) (w : What) : Type 0 where
+  kind : IsKind o w
+  slot : IsSlotSmall w
+  gate : IsGateSmall w
+  placed : IsPlaced p.platform n o w
+  whole : GrantsAll p o w
+
+told-what : (p : Plan) → IsBounded p.platform → (s : Store) → HasStoredBytes s → (style : Style) (route : Option Route) → ((r : Route) → route ≡ Some r → r.offset < 2 ^ 64) → (asked : Asked) → IsToldAsked asked
+    → (n : ℕ) (o : ObjectNo) (w : What) → IsFit p n o w → IsEntryOf route asked o w → HasWay style asked w → IsLegalEntry p.platform s o w → IsToldWhat s o w
+told-what p bounded s stored style route small asked told n (memory_object m) (Accessed way a status got) fit is came legal = told-access p.platform s stored style route small asked told (memory_object m) way a status got fit.gate is came legal
+told-what p bounded s stored style route small asked told n (memory_object m) (Granted g f l k) fit is came legal =
+    record { numbers = granted-numbers p.platform bounded m g f l k fit.placed (slice_get p.platform.memories m) refl fit.whole; usual = tt; gotten = tt; stored = stored }
+told-what p bounded s stored style route small asked told n (memory_object m) (Invalidated f l) fit is came legal =
+    record { numbers = invalidated-numbers route small asked (memory_object m) f l is; usual = tt; gotten = tt; stored = stored }
+told-what p bounded s stored style route small asked told n (memory_object m) (Closed g) fit is came legal =
+    record { numbers = omega (arith, gate-few p.platform bounded m g fit.placed); usual = tt; gotten = tt; stored = stored }
+told-what p bounded s stored style route small asked told n (memory_object m) w fit is came legal = absurd fit.kind
+told-what p bounded s stored style route small asked told n (Hop h) (Call c a) fit is came legal = record { numbers = tt; usual = tt; gotten = tt; stored = stored }
+told-what p bounded s stored style route small asked told n (Hop h) w fit is came legal = absurd fit.kind
+told-what p bounded s stored style route small asked told n (Pool i) (Take k) fit is came legal = record { numbers = fit.slot; usual = tt; gotten = tt; stored = stored }
+told-what p bounded s stored style route small asked told n (Pool i) (Acquire k) fit is came legal = record { numbers = fit.slot; usual = tt; gotten = tt; stored = stored }
+told-what p bounded s stored style route small asked told n (Pool i) (Release k f) fit is came legal = record { numbers = fit.slot; usual = tt; gotten = tt; stored = stored }
+told-what p bounded s stored style route small asked told n (Pool i) w fit is came legal = absurd fit.kind
+
+-- A gate that a grant of these entries has given can be told: its grant can.
+given-small : (p : Platform) (g : ℕ) (test : Entry → Bool) (before : List Entry) → AllByRecursion (IsTellable p) before → list_any (λ x. gives g x.what && test x) before ≡ true → g < 2 ^ 64
+given-small p g test [] told given = absurd (true≢false (sym given))
+given-small p g test (e ∷ before) told given = go (λ rest. given-small p g test before told.1 rest) (gives g e.what) refl (test e) given
+  where
+    here : (w : What) → HasNumbers w → gives g w ≡ true → g < 2 ^ 64
+    here (Granted n f l k) numbers is = omega (arith, numbers.0, eqb-true n g is)
+    here w numbers is = absurd (true≢false (sym is))
+
+    go : (list_any (λ x. gives g x.what && test x) before ≡ true → g < 2 ^ 64) → (b : Bool) → gives g e.what ≡ b → (c : Bool) → ((b && c) || list_any (λ x. gives g x.what && test x) before) ≡ true → g < 2 ^ 64
+    go next true is true given = (let first = told.0 in here e.what first.numbers is)
+    go next true is false given = next given
+    go next false is c given = next given
+
+-- so can that of each use
+gate-used : (p : Plan) (before : List Entry) → AllByRecursion (IsTellable p.platform) before → (e : Entry) (i : Initiator) (r : Request) (w : What) → IsUse w p before e i r → IsGateSmall w
+gate-used p before told e i r (Accessed Blocking a status got) used = tt
+gate-used p before told e i r (Accessed FourPhase a status got) used = tt
+gate-used p before told e i r (Accessed (Direct g) a status got) used = given-small p.platform g (λ x. serves p.platform i x r.address a) before told used.2
+gate-used p before told e i r (Accessed Debug a status got) used = tt
+gate-used p before told e i r w used = tt
 
 -- where addresses lead
 
@@ -340,6 +402,9 @@ tellable-object p (Pool i) there = there
 abbrev pub Times : Plan → List Entry → Entry → Type 0
 Times p before e = OfRequest p before e (λ i r. HasTime i.row.style (decoupled_time p.platform i r e.what) e.time)
 
+abbrev Uses : Plan → List Entry → Entry → Type 0
+Uses p before e = OfRequest p before e (λ i r. IsUse e.what p before e i r)
+
 abbrev Issues : Plan → List Entry → Entry → Type 0
 Issues p before e = OfRequest p before e (λ i r. IsIssuedBy i.row.style e.time (issue_time p before e.txn) e.what)
 
@@ -359,6 +424,9 @@ record IsKnown (p : Plan) (e : Entry) : Type 0 where
 record IsSaid (p : Plan) (before : List Entry) (e : Entry) : Type 0 where
   reply : Replies p before e
   way : Ways p before e
+  place : Places p before e
+  whole : GrantsAll p e.object e.what
+  used : Uses p before e
   time : Times p before e
   issue : Issues p before e
 
@@ -368,7 +436,7 @@ record IsToldEntry (p : Platform) (s : Store) (e : Entry) : Type 0 where
   gotten : IsGotten e
   stored : HasStoredBytes (after e.object e.what s)
 
-module _ (p : Plan) (valid : IsValid p) (served : IsServed p.platform) where
+module _ (p : Plan) (valid : IsValid p) where
   -- the time of an entry of a four-phase initiator
   fourphase-small : (be : List Event) (before : List Entry) (e : Entry) (n : ℕ) → IsInTraffic p be before e n → HaveSmallTimes before → IsKind e.object e.what → (i : Initiator) (r : Request) → slice_get (initiators_of p) e.txn.initiator ≡ Some i
       → i.row.style ≡ fourphase_style → slice_get (requests_of p.platform i before) e.txn.seq ≡ Some r → IsEntryOf (route_of p.platform i r.address) r.asked e.object e.what → HasWay fourphase_style r.asked e.what
@@ -378,6 +446,9 @@ module _ (p : Plan) (valid : IsValid p) (served : IsServed p.platform) where
       all : HaveSmallTimes (entries be)
       all = subst HaveSmallTimes (sym traffic.same) small
 
+      issued_at : IsIssuedBy fourphase_style e.time (issue_time p (entries be) e.txn) e.what
+      issued_at = subst (λ (h : List Entry). IsIssuedBy fourphase_style e.time (issue_time p h e.txn) e.what) (sym traffic.same) issued
+
       order_at : (f : Option Passage) → passage_of p e.txn ≡ f → InOrderBy (world_of p) be e.txn f e.object n e.what
       order_at f at = subst (λ (g : Option Passage). InOrderBy (world_of p) be e.txn g e.object n e.what) at traffic.order
 
@@ -386,9 +457,9 @@ module _ (p : Plan) (valid : IsValid p) (served : IsServed p.platform) where
 
       by_passage : (f : Option Passage) → passage_of p e.txn ≡ f → e.time < 2 ^ 64
       by_passage None at =
-          debug-small p be all e.txn e.object e.what e.time n i r before kind (order_at None at) of_it style asked at is came
-          (subst (λ (h : List Entry). IsIssuedBy fourphase_style e.time (issue_time p h e.txn) e.what) (sym traffic.same) issued)
-      by_passage (Some pass) at = passed-small p be all e.txn pass (is-passed p valid.shape e.txn pass at) e.object e.what e.time n kind (timed_at (Some pass) at)
+          unpassed-small p be all e.txn e.object e.what e.time n i r before kind (order_at None at) of_it style asked at is came
+          issued_at
+      by_passage (Some pass) at = passed-small p be all e.txn pass (is-passed p valid.shape e.txn pass at) e.object e.what e.time n r.asked kind (timed_at (Some pass) at) came issued_at
 
   -- and of any one
   entry-small : (be : List Event) (before : List Entry) (e : Entry) (n : ℕ) → IsInTraffic p be before e n → HaveSmallTimes before → IsKind e.object e.what → (i : Initiator) (r : Request) → slice_get (initiators_of p) e.txn.initiator ≡ Some i
@@ -398,12 +469,13 @@ module _ (p : Plan) (valid : IsValid p) (served : IsServed p.platform) where
     where
       by_style : (s : Style) → i.row.style ≡ s → HasWay s r.asked e.what → HasTime s (decoupled_time p.platform i r e.what) e.time → IsIssuedBy s e.time (issue_time p before e.txn) e.what → e.time < 2 ^ 64
       by_style blocking_style style came time issued = omega (arith, time, time-small p.platform i r e.what few)
-      by_style direct_style style came time issued = absurd (not-direct-at p served e.txn.initiator i of_it style)
+      by_style direct_style style came time issued = omega (arith, time, time-small p.platform i r e.what few)
       by_style fourphase_style style came time issued = fourphase-small be before e n traffic small kind i r of_it style asked is came issued
 
-  told-entry : (be : List Event) (before : List Entry) → AllByRecursion IsGotten before → HaveSmallTimes before → (s : Store) → HasStoredBytes s → (e : Entry) (n : ℕ) → e.position < 2 ^ 64 → IsKnown p e → IsSaid p before e → IsInTraffic p be before e n
+  told-entry : (be : List Event) (before : List Entry) → AllByRecursion IsGotten before → AllByRecursion (IsTellable p.platform) before → (s : Store) → HasStoredBytes s → (e : Entry) (n : ℕ) → e.position < 2 ^ 64 → IsKnown p e → IsSaid p before e → IsInTraffic p be before e n
       → IsLegalEntry p.platform s e.object e.what → IsToldEntry p.platform s e
-  told-entry be before got small s stored e n position known said traffic legal =
+  told-entry be before got past s stored e n position known said traffic legal =
+      let small = AllByRecursion-weaker (IsTellable p.platform) IsSmallTime before (λ d told. told.time) past in
       let found = request-of p before e (λ i r. IsEntryOf (route_of p.platform i r.address) r.asked e.object e.what) said.reply in
       let i = found.initiator in
       let r = found.request in
@@ -417,8 +489,10 @@ module _ (p : Plan) (valid : IsValid p) (served : IsServed p.platform) where
       let came = at-request p before e (λ i r. HasWay i.row.style r.asked e.what) said.way found in
       let time = at-request p before e (λ i r. HasTime i.row.style (decoupled_time p.platform i r e.what) e.time) said.time found in
       let issued = at-request p before e (λ i r. IsIssuedBy i.row.style e.time (issue_time p before e.txn) e.what) said.issue found in
-      let what = told-what p.platform s stored i.row.style (not-direct-at p served e.txn.initiator i found.of_it) (route_of p.platform i r.address) (λ route leads. offset-small 9 p.platform shape.bounded i.row.bind r.address 0 route told.addressed leads) r.asked told.asks
-      e.object e.what known.kind known.slot is came legal in
+      let used = at-request p before e (λ i r. IsUse e.what p before e i r) said.used found in
+      let fit : IsFit p e.txn.initiator e.object e.what = record { kind = known.kind; slot = known.slot; gate = gate-used p before past e i r e.what used; placed = said.place; whole = said.whole } in
+      let what = told-what p shape.bounded s stored i.row.style (route_of p.platform i r.address) (λ route leads. offset-small 9 p.platform shape.bounded i.row.bind r.address 0 route told.addressed leads) r.asked told.asks
+      e.txn.initiator e.object e.what fit is came legal in
       record {
         entry = record {
           position = position;
@@ -433,20 +507,20 @@ module _ (p : Plan) (valid : IsValid p) (served : IsServed p.platform) where
         stored = what.stored;
       }
 
-  told-from : (n : ℕ) (be : List Event) (before h : List Entry) → entries be ≡ before → AllByRecursion IsGotten before → HaveSmallTimes before → (s : Store) → HasStoredBytes s → n + length h ≤ 2 ^ 64 → IsNumberedFrom n h
+  told-from : (n : ℕ) (be : List Event) (before h : List Entry) → entries be ≡ before → AllByRecursion IsGotten before → AllByRecursion (IsTellable p.platform) before → (s : Store) → HasStoredBytes s → n + length h ≤ 2 ^ 64 → IsNumberedFrom n h
       → AllByRecursion (IsKnown p) h → IsLegalFrom p.platform s h → EachFrom (IsSaid p) before h
       → EachFrom (λ be e. InOrderBy (world_of p) be e.txn (passage_of p e.txn) e.object e.number e.what) be (numbered_from before h)
       → EachFrom (λ be e. TimedBy (world_of p) (issue_time p) be e.txn (passage_of p e.txn) e.object e.time e.number e.what) be (numbered_from before h)
       → AllByRecursion (IsTellable p.platform) h
-  told-from n be before [] same got small s stored few numbered known legal said orders times = tt
-  told-from n be before (e ∷ h) same got small s stored few numbered known legal said orders times =
+  told-from n be before [] same got past s stored few numbered known legal said orders times = tt
+  told-from n be before (e ∷ h) same got past s stored few numbered known legal said orders times =
       let number = number_in before e.txn e.what in
       let event : Event = record { entry = e; number = number } in
-      let one = told-entry be before got small s stored e number (omega (arith, few, numbered.0)) known.0 said.0 (record { same = same; order = orders.0; timed = times.0 }) legal.0 in
+      let one = told-entry be before got past s stored e number (omega (arith, few, numbered.0)) known.0 said.0 (record { same = same; order = orders.0; timed = times.0 }) legal.0 in
       let tellable = one.entry in (
         tellable,
         told-from (n + 1) (be ++ event ∷ []) (before ++ e ∷ []) h (map-append (λ (d : Event). d.entry) be (event ∷ []) ∙ ap (λ (l : List Entry). l ++ e ∷ []) same) (AllByRecursion-push IsGotten before e got one.gotten)
-            (AllByRecursion-push IsSmallTime before e small tellable.time) (after e.object e.what s) one.stored (omega (arith, few)) numbered.1 known.1 legal.1 said.1 orders.1 times.1,
+            (AllByRecursion-push (IsTellable p.platform) before e past tellable) (after e.object e.what s) one.stored (omega (arith, few)) numbered.1 known.1 legal.1 said.1 orders.1 times.1,
       )
 
   known-each : (h : List Entry) → HaveKinds h → AllByRecursion (λ (e : Entry). IsObjectOf p.platform e.object) h → AllByRecursion (HasSlot p) h → AllByRecursion (IsKnown p) h
@@ -455,6 +529,9 @@ module _ (p : Plan) (valid : IsValid p) (served : IsServed p.platform) where
     where
       slot-of : (o : ObjectNo) (w : What) → IsKind o w → ((i : ℕ) → is_object (Pool i) o ≡ true → IsSlotBelow (slots_of p i) w) → IsSlotSmall w
       slot-of (memory_object m) (Accessed way a status got) kind f = tt
+      slot-of (memory_object m) (Granted g a l k) kind f = tt
+      slot-of (memory_object m) (Invalidated a l) kind f = tt
+      slot-of (memory_object m) (Closed g) kind f = tt
       slot-of (memory_object m) w kind f = absurd kind
       slot-of (Hop o) (Call c a) kind f = tt
       slot-of (Hop o) w kind f = absurd kind
@@ -463,10 +540,13 @@ module _ (p : Plan) (valid : IsValid p) (served : IsServed p.platform) where
       slot-of (Pool i) (Release k g) kind f = let shape = valid.shape in omega (arith, f i (eq-eqb i i refl), few-slots p shape.bounded i)
       slot-of (Pool i) w kind f = absurd kind
 
-  said-each : (before h : List Entry) → EachFrom (Replies p) before h → EachFrom (Ways p) before h → EachFrom (Times p) before h → EachFrom (Issues p) before h → EachFrom (IsSaid p) before h
-  said-each before [] replies ways times issues = tt
-  said-each before (e ∷ h) replies ways times issues =
-      (record { reply = replies.0; way = ways.0; time = times.0; issue = issues.0 }, said-each (before ++ e ∷ []) h replies.1 ways.1 times.1 issues.1)
+  said-each : (before h : List Entry) → EachFrom (Replies p) before h → EachFrom (Ways p) before h → EachFrom (Places p) before h → EachFrom (λ before e. GrantsAll p e.object e.what) before h → EachFrom (Uses p) before h
+      → EachFrom (Times p) before h → EachFrom (Issues p) before h → EachFrom (IsSaid p) before h
+  said-each before [] replies ways places wholes uses times issues = tt
+  said-each before (e ∷ h) replies ways places wholes uses times issues = (
+    record { reply = replies.0; way = ways.0; place = places.0; whole = wholes.0; used = uses.0; time = times.0; issue = issues.0 },
+    said-each (before ++ e ∷ []) h replies.1 ways.1 places.1 wholes.1 uses.1 times.1 issues.1,
+  )
 
   pub good-told : (h : List Entry) → IsGood p h → AllByRecursion (IsTellable p.platform) h
   good-told h good =
@@ -477,10 +557,11 @@ module _ (p : Plan) (valid : IsValid p) (served : IsServed p.platform) where
       let passes = traffic.passes in
       let pools = traffic.pools in
       let times = traffic.times in
-      let kinds = have-kinds p valid served h scripts in
+      let kinds = have-kinds p h scripts in
+      let grants = sound.grants in
       let stand = all-stand p [] [] h kinds passes.orders in
-      let there = good-objects p valid h good kinds stand in
+      let there = good-objects p valid h good stand in
       let few = few-entries p valid h good kinds stand in
       let known = known-each h kinds there (have-slots p h pools.counts) in
-      let said = said-each [] h scripts.replies scripts.ways kept.times times.others in
+      let said = said-each [] h scripts.replies scripts.ways scripts.places grants.wholes grants.uses kept.times times.others in
       told-from 0 [] [] h refl tt tt (opening_store p.platform) (λ m. zeros_of-bytes (slice_get p.platform.memories m)) (omega (arith, few)) kept.numbered known kept.legal said passes.orders times.calls

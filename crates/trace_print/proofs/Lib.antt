@@ -20,6 +20,7 @@ pub mod GoodNames
 pub mod Requested
 pub mod OfRequests
 pub mod EntryKinds
+pub mod AtMemories
 pub mod Passages
 pub mod Standing
 pub mod SmallSlots

@@ -51,7 +51,7 @@ pub record IsToldDebugRead (a : Access) : Type 0 where
 abbrev pub IsToldAsked : Asked → Type 0
 IsToldAsked (Transport a) = IsToldTransport a
 IsToldAsked (DebugRead a) = IsToldDebugRead a
-IsToldAsked (Invalidation n) = ⊥
+IsToldAsked (Invalidation n) = Unit {0}
 
 pub record IsToldRequest (r : Request) : Type 0 where
   pub addressed : r.address < 2 ^ 64
@@ -118,6 +118,10 @@ by-route : (route : Option Route) (n i s : ℕ) (h : List Entry) → AllByRecurs
 by-route None n i s h all small got e = subst IsBuffer (some_same (zeros n) got e) (zeros-buffer n small)
 by-route (Some r) n i s h all small got e = answered-buffer i s h all got e
 
+-- the address of a proper invalidation, whatever else is asked of one
+invalidation-addressed : (a n : ℕ) → IsProper (Invalidate a n) → a < 2 ^ 64
+invalidation-addressed a n proper = omega (arith, proper)
+
 pub requests-told : (p : Platform) (i : Initiator) (h : List Entry) → AllByRecursion IsGotten h → (s t g : ℕ) → t < 2 ^ 64 → (ops : List Operation) → AllByRecursion IsProper ops
     → AllByRecursion IsToldRequest (requests_from p i h s t g ops)
 requests-told p i h all s t g small [] proper = tt
@@ -174,7 +178,10 @@ requests-told p i h all s t g small (FetchAdd a n ∷ ops) proper = (
 requests-told p i h all s t g small (Wait n ∷ ops) proper = requests-told p i h all s (later t n) (g + 1) (later-small t n) ops proper.1
 requests-told p i h all s t g small (Sync ∷ ops) proper = requests-told p i h all s t (g + 1) small ops proper.1
 requests-told p i h all s t g small (Fence ∷ ops) proper = requests-told p i h all s t (g + 1) small ops proper.1
-requests-told p i h all s t g small (Invalidate a n ∷ ops) proper = absurd proper.0
+requests-told p i h all s t g small (Invalidate a n ∷ ops) proper = (
+  record { addressed = invalidation-addressed a n proper.0; timed = small; asks = tt },
+  requests-told p i h all (s + 1) t (g + 2) small ops proper.1,
+)
 
 used-few : (o : Option (List ℕ)) (next : List ℕ → List Request) (m : ℕ) → ((got : List ℕ) → length (next got) ≤ m) → length (using o next) ≤ m
 used-few None next m f = omega arith

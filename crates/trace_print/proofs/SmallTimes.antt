@@ -10,7 +10,7 @@ use Rattle.tlm_types.specs.declared.words.TxnId.{TxnId}
 use Rattle.tlm_types.specs.declared.words.Way.{Way}
 use Rattle.tlm_types.specs.declared.entry.Entry.{Entry}
 use Rattle.tlm_types.specs.declared.entry.What.{What}
-use Rattle.tlm_types.specs.declared.entry.What.TheVariants.{Access as Accessed, Call, Take, Acquire, Release}
+use Rattle.tlm_types.specs.declared.entry.What.TheVariants.{Access as Accessed, Granted, Invalidated, Closed, Call, Take, Acquire, Release}
 use Rattle.tlm_model.specs.declared.operation.Operation.{Operation}
 use Rattle.tlm_model.specs.declared.platform.Style.TheVariants.{FourPhase as fourphase_style}
 use Rattle.tlm_model.specs.Actions.{Action, Plain, Alone, Pair, Pause, action_of}
@@ -184,22 +184,26 @@ issue-small p h all x = go (slice_get (initiators_of p) x.initiator)
         (issues-small (λ s. access_end (world_of p) h (record { initiator = i.number; seq = s })) (λ s. (let y : TxnId = record { initiator = i.number; seq = s } in ended-small (world_of p) y h all (passage_of p y))) 0 0 (omega arith) i.script)
 
 module _ (p : Plan) (be : List Event) (all : HaveSmallTimes (entries be)) (x : TxnId) where
-  -- an entry of an access with a passage
-  pub passed-small : (pass : Passage) → IsPassed p.platform pass → (o : ObjectNo) (w : What) (t n : ℕ) → IsKind o w → TimedBy (world_of p) (issue_time p) be x (Some pass) o t n w → t < 2 ^ 64
-  passed-small pass is (Memory m) (Accessed way access status got) t n kind timed = found (world_of p) be x (event-small be all) (IsPhase x (hop_at pass is.last) BeginReq) t (timed is.last is.some)
-  passed-small pass is (Memory m) w t n kind timed = absurd kind
-  passed-small pass is (Hop h) (Call c a) t n kind timed = call-small (world_of p) be x (event-small be all) pass h c t all timed
-  passed-small pass is (Hop h) w t n kind timed = absurd kind
-  passed-small pass is (Pool i) (Take k) t n kind timed = omega (arith, timed, issue-small p (entries be) all x)
-  passed-small pass is (Pool i) (Acquire k) t n kind timed = arr (world_of p) be x (event-small be all) pass n t timed
-  passed-small pass is (Pool i) (Release k f) t n kind timed = end (world_of p) be x (event-small be all) pass timed.hop t timed.time
-  passed-small pass is (Pool i) w t n kind timed = absurd kind
+  -- an entry of a four-phase initiator, of a request with a passage
+  pub passed-small : (pass : Passage) → IsPassed p.platform pass → (o : ObjectNo) (w : What) (t n : ℕ) (asked : Asked) → IsKind o w → TimedBy (world_of p) (issue_time p) be x (Some pass) o t n w
+      → HasWay fourphase_style asked w → IsIssuedBy fourphase_style t (issue_time p (entries be) x) w → t < 2 ^ 64
+  passed-small pass is (Memory m) (Granted g f l k) t n asked kind timed came issued = absurd came
+  passed-small pass is (Memory m) (Invalidated f l) t n asked kind timed came issued = omega (arith, issued, issue-small p (entries be) all x)
+  passed-small pass is (Memory m) (Closed g) t n asked kind timed came issued = omega (arith, issued, issue-small p (entries be) all x)
+  passed-small pass is (Memory m) (Accessed way access status got) t n asked kind timed came issued = found (world_of p) be x (event-small be all) (IsPhase x (hop_at pass is.last) BeginReq) t (timed is.last is.some)
+  passed-small pass is (Memory m) w t n asked kind timed came issued = absurd kind
+  passed-small pass is (Hop h) (Call c a) t n asked kind timed came issued = call-small (world_of p) be x (event-small be all) pass h c t all timed
+  passed-small pass is (Hop h) w t n asked kind timed came issued = absurd kind
+  passed-small pass is (Pool i) (Take k) t n asked kind timed came issued = omega (arith, timed, issue-small p (entries be) all x)
+  passed-small pass is (Pool i) (Acquire k) t n asked kind timed came issued = arr (world_of p) be x (event-small be all) pass n t timed
+  passed-small pass is (Pool i) (Release k f) t n asked kind timed came issued = end (world_of p) be x (event-small be all) pass timed.hop t timed.time
+  passed-small pass is (Pool i) w t n asked kind timed came issued = absurd kind
 
-  -- only debug reads have none
-  pub debug-small : (o : ObjectNo) (w : What) (t n : ℕ) (i : Initiator) (r : Request) (before : List Entry) → IsKind o w → InOrderBy (world_of p) be x None o n w
+  -- and one of a request that has none
+  pub unpassed-small : (o : ObjectNo) (w : What) (t n : ℕ) (i : Initiator) (r : Request) (before : List Entry) → IsKind o w → InOrderBy (world_of p) be x None o n w
       → slice_get (initiators_of p) x.initiator ≡ Some i → i.row.style ≡ fourphase_style → slice_get (requests_of p.platform i before) x.seq ≡ Some r → passage_of p x ≡ None
       → IsEntryOf (route_of p.platform i r.address) r.asked o w → HasWay fourphase_style r.asked w → IsIssuedBy fourphase_style t (issue_time p (entries be) x) w → t < 2 ^ 64
-  debug-small (Memory m) (Accessed way access status got) t n i r before kind order is style asked none reply came issued = by_asked r.asked refl reply came
+  unpassed-small (Memory m) (Accessed way access status got) t n i r before kind order is style asked none reply came issued = by_asked r.asked refl reply came
     where
       by_asked : (a : Asked) → r.asked ≡ a → IsEntryOf (route_of p.platform i r.address) a (Memory m) (Accessed way access status got) → HasWay fourphase_style a (Accessed way access status got) → t < 2 ^ 64
       by_asked (Transport b) q reply came = let found = passes-some p before x i r b is style asked q in let wrong : Some found.0 ≡ None = sym found.1 ∙ none in cc
@@ -207,10 +211,13 @@ module _ (p : Plan) (be : List Event) (all : HaveSmallTimes (entries be)) (x : T
           let at : t ≡ issue_time p (entries be) x = subst (λ (v : Way). IsIssuedBy fourphase_style t (issue_time p (entries be) x) (Accessed v access status got)) came issued in
           omega (arith, at, issue-small p (entries be) all x)
       by_asked (Invalidation b) q reply came = absurd came
-  debug-small (Memory m) w t n i r before kind order is style asked none reply came issued = absurd kind
-  debug-small (Hop h) (Call c a) t n i r before kind order is style asked none reply came issued = absurd order
-  debug-small (Hop h) w t n i r before kind order is style asked none reply came issued = absurd kind
-  debug-small (Pool k) (Take s) t n i r before kind order is style asked none reply came issued = absurd order
-  debug-small (Pool k) (Acquire s) t n i r before kind order is style asked none reply came issued = absurd order
-  debug-small (Pool k) (Release s f) t n i r before kind order is style asked none reply came issued = absurd order
-  debug-small (Pool k) w t n i r before kind order is style asked none reply came issued = absurd kind
+  unpassed-small (Memory m) (Granted g f l k) t n i r before kind order is style asked none reply came issued = absurd came
+  unpassed-small (Memory m) (Invalidated f l) t n i r before kind order is style asked none reply came issued = omega (arith, issued, issue-small p (entries be) all x)
+  unpassed-small (Memory m) (Closed g) t n i r before kind order is style asked none reply came issued = omega (arith, issued, issue-small p (entries be) all x)
+  unpassed-small (Memory m) w t n i r before kind order is style asked none reply came issued = absurd kind
+  unpassed-small (Hop h) (Call c a) t n i r before kind order is style asked none reply came issued = absurd order
+  unpassed-small (Hop h) w t n i r before kind order is style asked none reply came issued = absurd kind
+  unpassed-small (Pool k) (Take s) t n i r before kind order is style asked none reply came issued = absurd order
+  unpassed-small (Pool k) (Acquire s) t n i r before kind order is style asked none reply came issued = absurd order
+  unpassed-small (Pool k) (Release s f) t n i r before kind order is style asked none reply came issued = absurd order
+  unpassed-small (Pool k) w t n i r before kind order is style asked none reply came issued = absurd kind

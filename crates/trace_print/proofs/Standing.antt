@@ -1,21 +1,13 @@
 -- The entries of a history stand at objects of the platform, and those at hops and pools are of four-phase accesses.
 use Rattle.std.proofs.Common.{◌≡◌, ℕ, ◌<◌, List, [], ◌∷◌, ◌++◌, length, Option, Some, None, refl, subst, arith}
-use Rattle.std.specs.Prelude.{slice_get}
 use Rattle.std.specs.List.{AllByRecursion}
-use Rattle.std.proofs.lemmas.Option.{slice_get_within}
 use Rattle.tlm_types.specs.declared.words.ObjectNo.{ObjectNo}
 use Rattle.tlm_types.specs.declared.words.ObjectNo.TheVariants.{Memory, Hop, Pool}
-use Rattle.tlm_types.specs.declared.words.Response.{Response}
 use Rattle.tlm_types.specs.declared.words.TxnId.{TxnId}
-use Rattle.tlm_types.specs.declared.words.Way.{Way}
-use Rattle.tlm_types.specs.declared.entry.Access.{Access}
 use Rattle.tlm_types.specs.declared.entry.Entry.{Entry}
 use Rattle.tlm_types.specs.declared.entry.What.{What}
-use Rattle.tlm_types.specs.declared.entry.What.TheVariants.{Access as Accessed, Call, Take, Acquire, Release}
-use Rattle.tlm_model.specs.declared.platform.MemoryRow.{MemoryRow}
-use Rattle.tlm_model.specs.declared.platform.Platform.{Platform}
+use Rattle.tlm_types.specs.declared.entry.What.TheVariants.{Call, Take, Acquire, Release}
 use Rattle.tlm_model.specs.Each.{EachFrom}
-use Rattle.tlm_model.specs.History.{IsAnswer, IsLegalEntry, IsLegalFrom, Store, after}
 use Rattle.tlm_model.specs.Plan.{Plan}
 use Rattle.flow_model.specs.World.{Passage, hop_at}
 use Rattle.flow_model.specs.World.{hop_count as passed_count}
@@ -24,6 +16,7 @@ use Rattle.flow_model.specs.Platform.{passage_of, world_of}
 use Rattle.flow_model.specs.Points.{InOrderBy}
 use Rattle.route_plan.specs.Shape.{IsShape}
 use Rattle.route_plan.specs.Valid.{IsObject, hop_count}
+use Rattle.trace_print.proofs.AtMemories.{IsMemoryThere}
 use Rattle.trace_print.proofs.EntryKinds.{HaveKinds, IsKind}
 use Rattle.trace_print.proofs.Passages.{hop-at-place, is-passed}
 
@@ -50,25 +43,18 @@ pub all-stand : (p : Plan) (be : List Event) (before h : List Entry) → HaveKin
 all-stand p be before [] kinds orders = tt
 all-stand p be before (e ∷ h) kinds orders = (stands-by p be e.txn (passage_of p e.txn) refl e.object _ e.what kinds.0 orders.0, all-stand p (be ++ record { entry = e; number = number_in before e.txn e.what } ∷ []) (before ++ e ∷ []) h kinds.1 orders.1)
 
--- a memory that has answered is there
-answer-there : (p : Platform) (m : ℕ) (o : Option MemoryRow) → slice_get p.memories m ≡ o → (bytes : List ℕ) (way : Way) (a : Access) (status : Response) (got : List ℕ) → IsAnswer o bytes way a status got → m < length p.memories
-answer-there p m None is bytes way a status got h = absurd h
-answer-there p m (Some row) is bytes way a status got h = slice_get_within p.memories m row is
-
-object-by : (p : Plan) → IsShape p.platform → (x : TxnId) → x.initiator < length p.platform.initiators → (s : Store) (o : ObjectNo) (w : What) → IsKind o w → IsLegalEntry p.platform s o w → Stands p x o → IsObject p.platform o
-object-by p shape x who s (Memory m) (Accessed way a status got) kind legal stands = answer-there p.platform m (slice_get p.platform.memories m) refl (s m) way a status got legal
-object-by p shape x who s (Memory m) w kind legal stands = absurd kind
-object-by p shape x who s (Hop o) w kind legal stands =
+object-by : (p : Plan) → IsShape p.platform → (x : TxnId) → x.initiator < length p.platform.initiators → (o : ObjectNo) → IsMemoryThere p.platform o → Stands p x o → IsObject p.platform o
+object-by p shape x who (Memory m) there stands = there
+object-by p shape x who (Hop o) there stands =
     let passed = is-passed p shape x stands.0 stands.1 in
     subst (λ (h : ℕ). h < hop_count p.platform) stands.4 (hop-at-place (λ h. h < hop_count p.platform) (let g = stands.0 in g.hops) stands.2 passed.there stands.3)
-object-by p shape x who s (Pool i) w kind legal stands = omega (arith, who, stands.2)
+object-by p shape x who (Pool i) there stands = omega (arith, who, stands.2)
 
 -- the initiator of each entry is there
 abbrev pub HaveInitiators : Plan → List Entry → Type 0
 HaveInitiators p h = AllByRecursion (λ (e : Entry). e.txn.initiator < length p.platform.initiators) h
 
 -- the objects of a history are there
-pub objects-there : (p : Plan) → IsShape p.platform → (s : Store) (h : List Entry) → HaveInitiators p h → HaveKinds h → IsLegalFrom p.platform s h → AllByRecursion (λ (e : Entry). Stands p e.txn e.object) h → AllByRecursion (λ (e : Entry). IsObject p.platform e.object) h
-objects-there p shape s [] whos kinds legal stand = tt
-objects-there p shape s (e ∷ h) whos kinds legal stand =
-    (object-by p shape e.txn whos.0 s e.object e.what kinds.0 legal.0 stand.0, objects-there p shape (after e.object e.what s) h whos.1 kinds.1 legal.1 stand.1)
+pub objects-there : (p : Plan) → IsShape p.platform → (h : List Entry) → HaveInitiators p h → AllByRecursion (λ (e : Entry). IsMemoryThere p.platform e.object) h → AllByRecursion (λ (e : Entry). Stands p e.txn e.object) h → AllByRecursion (λ (e : Entry). IsObject p.platform e.object) h
+objects-there p shape [] whos there stand = tt
+objects-there p shape (e ∷ h) whos there stand = (object-by p shape e.txn whos.0 e.object there.0 stand.0, objects-there p shape h whos.1 there.1 stand.1)

@@ -23,9 +23,9 @@ pub fn reports_of_valid_plans_name_histories()
     ensures { NamesValidHistories }
 {}
 
-/// The report of a run with all its entries names its history among the good ones of a valid plan that is
-/// served: each entry of one is an access, a call on a hop or a move of a pool, with numbers and bytes as a
-/// run has them.
+/// The report of a run with all its entries names its history among the good ones of a valid plan: each
+/// entry of one is an access, a grant, an invalidation or a closing at a memory, a call on a hop or a move
+/// of a pool, with numbers and bytes as a run has them.
 pub fn reports_name_good_histories()
     ensures { NamesGoodHistories }
 {}

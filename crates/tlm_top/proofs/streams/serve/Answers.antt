@@ -1,4 +1,4 @@
-use Rattle.std.proofs.Common.{◌≤◌, ℕ, List, Option, arith}
+use Rattle.std.proofs.Common.{ℕ, List, Option, arith}
 use Rattle.command_words.specs.Commands.{texts}
 use Rattle.outside.specs.StreamState.{collected, told_by}
 use Rattle.tlm_top.specs.Files.{Files}

@@ -1,13 +1,12 @@
-use Rattle.std.proofs.Common.{◌≡◌, ℕ, ◌∙◌, ◌≤◌, List, length, ap, sym, subst}
+use Rattle.std.proofs.Common.{ℕ, ◌∙◌, ◌≤◌, List, length, ap, sym, subst}
 use Rattle.std.proofs.lemmas.Result.{err_from_is_err_and}
 use Rattle.tlm_model.specs.declared.platform.InitiatorRow.{InitiatorRow}
 use Rattle.tlm_model.specs.declared.platform.Platform.{Platform}
 use Rattle.command_words.specs.Commands.{line_of}
-use Rattle.route_plan.specs.Shape.{IsServed}
-use Rattle.tlm_top.specs.Files.{Holding, IsPlatform, AreScripts}
+use Rattle.tlm_top.specs.Files.{Holding, IsPlatform}
 use Rattle.tlm_top.specs.Loads.{IsFirstFault}
 use Rattle.tlm_top.proofs.Loading.{files, held}
-use Rattle.tlm_top.proofs.Planning.{AreScripts-length, AreScripts-moved, asked_is_served, planned_is, plan_refused, scripts_refused, refusal-earlier}
+use Rattle.tlm_top.proofs.Planning.{AreScripts-length, AreScripts-moved, planned_is, plan_refused, scripts_refused, refusal-earlier}
 use Rattle.tlm_top.proofs.top.plan_of.Goals as goal
 
 pub load_scripts-requires : goal.load_scripts-requires
@@ -45,9 +44,6 @@ returns-clause-plan g c =
     let h : Holding = g.L.Library.holds c.shape_of.new.lib in
     let scripts = AreScripts-moved h0 h c.platform.result.now.version c.in_ok-shape.shape.version c.as_slice.result.now c.in_ok-shape.shape.initiators c.in_ok-scripts.scripts.items c.as_slice-2.result.now c.in_ok-shape.ensures.same version rows c.as_slice-2.ensures.value c.in_ok-scripts.ensures.scripts in
     planned_is h0 (line_of c.args.command) (record { platform = c.in_ok-shape.shape; scripts = c.as_slice-2.result.now }) c.in_ok-plan.field-0 c.in_ok-shape.ensures.platform scripts c.in_ok-plan.ensures.read
-
-pub returns-clause-served : goal.returns-clause-served
-returns-clause-served g c = subst IsServed (sym c.in_ok-plan.ensures.platform) (asked_is_served (g.L.Library.holds c.args.lib.now) (line_of c.args.command) c.in_ok-shape.shape c.in_ok-shape.ensures.platform)
 
 pub returns-in_err-plan-clause-refused : goal.returns-in_err-plan-clause-refused
 returns-in_err-plan-clause-refused g c =

@@ -5,6 +5,6 @@ use Rattle.trace_print.proofs.laws.reports_name_good_histories.Goals as goal
 
 pub returns : goal.returns
 returns c =
-    λ p valid served h g h_good g_good e.
+    λ p valid h g h_good g_good e.
     let shape = valid.shape in
-    names-histories p (names-plain p.platform shape.bounded) (names-own p.platform shape) h g (good-told p valid served h h_good) (good-told p valid served g g_good) e
+    names-histories p (names-plain p.platform shape.bounded) (names-own p.platform shape) h g (good-told p valid h h_good) (good-told p valid g g_good) e

@@ -22,7 +22,7 @@ invariant_of-result c =
     let size : length c.in_ok-runs.runs.items ≡ length p.platform.initiators =
     ap length c.in_ok-runs.ensures ∙ (length-map (initiators_of p) (begun_run p) ∙ count_initiators 0 p.platform.initiators p.scripts c.platform.ensures.valid.scripts) in
     let count : length c.as_slice.result.now ≡ length p.platform.initiators = ap length (c.as_slice.ensures ∙ ap (λ (x : Platform). x.initiators) c.platform.ensures.same) in (
-      core_begun p c.in_ok-runs.runs.items c.in_ok-regions.regions.items c.platform.ensures.valid c.requires c.in_ok-runs.ensures c.in_ok-regions.ensures (count_initiators 0 p.platform.initiators p.scripts c.platform.ensures.valid.scripts),
+      core_begun p c.in_ok-runs.runs.items c.in_ok-regions.regions.items c.platform.ensures.valid c.requires.blocking c.requires.quiet c.in_ok-runs.ensures c.in_ok-regions.ensures (count_initiators 0 p.platform.initiators p.scripts c.platform.ensures.valid.scripts),
       rounds_begun p _ c.in_ok-runs.runs.items c.in_ok-rounds.rounds c.in_ok-runs.ensures (no_history p c.in_ok-regions.regions.items _ c.in_ok-regions.ensures) (c.in_ok-rounds.ensures ∙ ap (λ (n : ℕ). replicate n new_member) (count ∙ sym size)),
       ap (λ (x : PayloadView). x.room) c.in_ok-payload.ensures,
     )

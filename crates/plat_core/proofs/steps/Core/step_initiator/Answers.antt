@@ -5,8 +5,10 @@ use Rattle.plat_core.specs.Core.{CoreView, GoesOn, HasRisen, HasStopped, IsStep,
 use Rattle.plat_core.specs.declared.steps.CoreStep.TheVariants.{Made, Waits, Finished}
 use Rattle.initiator_run.specs.declared.turn.Turn.TheVariants as turn
 use Rattle.initiator_run.specs.Turns.{HasRoomAt, IsTurn}
+use Rattle.initiator_run.proofs.RunLemmas.{IsUnderWay-kept}
 use Rattle.plat_core.proofs.CoreLemmas.{few_made, room_for_access, run_at, run_under_way, written}
 use Rattle.plat_core.proofs.ProgressLemmas.{few_steps, stops_done}
+use Rattle.plat_core.proofs.QuietLemmas.{never_invalidates}
 use Rattle.plat_core.proofs.SteppedLemmas.{Turns, flag_is, given_up, in_round, stepped_ended, stepped_made, stepped_waits}
 use Rattle.plat_core.proofs.ViewLemmas.{step_done, view}
 use Rattle.plat_core.proofs.steps.Core.step_initiator.Goals as goal
@@ -186,3 +188,10 @@ returns-in-NoMemory g c =
       err = subst (λ (v : CoreView). HasRisen v c.args.index next) c.self.view_is s.risen;
       few = few_steps c.self.inside.plan.now (set c.self.inside.runs.items c.args.index c.take_turn-turn.new.run) (written c.self.inside.regions.len c.take_turn-turn.new.regions c.self.inside.regions.items) c.take_turn-turn.new.rounds c.self.inside.made s.core s.rounds;
     }
+
+pub unreachable-requires : goal.unreachable-requires
+unreachable-requires g c =
+    let at = (run_at c.self.inside.runs.items c.args.index c.index_mut-run.result.now c.args.self.now.finished (ap (λ (v : CoreView). v.finished) c.self.view_is) c.requires c.index_mut-run.ensures.value) in
+    let way = run_under_way c.self.inside.plan.now c.self.inside.runs.items c.self.inside.regions.items c.self.inside.made c.args.index c.index_mut-run.result.now c.self.invariant.0 at in
+    let moved = c.in-Invalidates.ensures.turn in
+    absurd (never_invalidates c.self.inside.plan.now c.take_turn-turn.new.run c.in-Invalidates.field-0 c.self.invariant.0.quiet (IsUnderWay-kept c.self.inside.plan.now c.index_mut-run.result.now c.take_turn-turn.new.run way moved.keeps) moved.reached)
