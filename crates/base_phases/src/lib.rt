@@ -12,8 +12,6 @@
 
 pub mod laws;
 mod phases;
-#[cfg(test)]
-mod tests;
 pub mod worked;
 
 pub use phases::{LaneState, may};

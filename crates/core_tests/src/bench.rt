@@ -1,25 +1,29 @@
 // Plans, and rows to compare outcomes with.
+ghost use Rattle.grant_model.specs.Laws.{HasNoInvalidation};
 ghost use Rattle.route_plan.specs.Shape.{IsBlocking};
 
+use plat_core::can_run;
 use platform_file::read_platform;
-use route_plan::{Plan, is_blocking, plan, shape};
+use route_plan::{Plan, plan, shape};
 use run_outcome::{LogReader, Outcome};
 use std::alloc::Global;
 use std::process::Abort;
 use tlm_types::{EndOf, ObjectNo};
 use traffic_script::read_script;
 
-/// The plan of a platform of one blocking initiator with this script.
+/// The plan of a platform of one blocking initiator with this script, which doesn't invalidate.
 pub(crate) fn plan_of(rt: &impl Abort, alloc: Global, platform: &str, script: &str) -> Plan
-    ensures { IsBlocking result.platform }
+    ensures blocking { IsBlocking result.platform }
+    ensures quiet { HasNoInvalidation result }
 {
     let script = read_script(alloc, script.as_bytes(), 1).expect(rt, "a script");
     let scripts = vec![in alloc; script].expect(rt, "room");
     let platform = read_platform(alloc, platform.as_bytes()).expect(rt, "a platform");
     let shape = shape(alloc, &platform).expect(rt, "a shape");
-    assert!(rt; is_blocking(shape.platform()));
     assert!(rt; scripts.len() == shape.platform().initiators.as_slice().len());
-    plan(alloc, shape, scripts.as_slice()).expect(rt, "a plan")
+    let plan = plan(alloc, shape, scripts.as_slice()).expect(rt, "a plan");
+    assert!(rt; can_run(&plan));
+    plan
 }
 
 /// An entry: its time, its initiator, its number there, and its memory.

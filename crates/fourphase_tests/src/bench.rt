@@ -2,8 +2,7 @@
 ghost use Rattle.std.specs.Prelude.{◌≡◌, ◌<◌, true, All, IfSome, IsSomeAnd, Some, length, replicate, slice_get};
 ghost use Rattle.tlm_model.specs.declared.platform.Style.TheVariants.{FourPhase};
 ghost use Rattle.token_book.specs.Purse.{IsOf};
-ghost use Rattle.plat_build.specs.Kept.{IsStart};
-ghost use Rattle.plat_end.specs.Apart.{HasNoOthers};
+ghost use Rattle.plat_build.specs.Kept.{HasNoOthers, IsStart};
 ghost use Rattle.fourphase_tests.specs.Bench.{IsNode, IsRouting};
 
 use crate::rows::{Row, rows_of};
@@ -22,7 +21,7 @@ use std::process::Abort;
 use std::sync::Wait;
 use target_node::{Pumped as NodePumped, TargetNode};
 use tlm_model::Style;
-use tlm_types::{Bytes, EndOf, Memory};
+use tlm_types::{Bytes, EndOf};
 use token_book::Wallet;
 
 /// A memory of a net behind hops, with its note.
@@ -378,14 +377,13 @@ fn ends_of<N: Naming<Plan, TlmLaw>, R: Wait + Abort>(
     (wallets, ends)
 }
 
-// Takes a net apart and ends its history: its entries, and the bytes of its memories. Its only error is want
-// of memory.
+// Takes a net apart and ends its history: its entries, and the bytes of its memories.
 fn close<N: Naming<Plan, TlmLaw>, R: Wait + Abort>(
     rt: &R,
     alloc: Global,
     net: Net<N>,
     wallets: &mut [Wallet],
-) -> Result<(Vec<Row>, Vec<Bytes>), Memory>
+) -> (Vec<Row>, Vec<Bytes>)
     requires of { All (IsOf N.tokens) wallets.old }
     requires no_others { All (HasNoOthers N.frame.world.platform) wallets.old }
 {
@@ -397,15 +395,21 @@ fn close<N: Naming<Plan, TlmLaw>, R: Wait + Abort>(
         hops,
         pools,
     } = net.into_parts();
-    let Apart {
-        logs,
-        stores,
-        seats,
-    } = take_apart(rt, alloc, &tickets, memories, hops, pools, wallets)?;
+    let parted = take_apart(rt, alloc, &tickets, memories, hops, pools, wallets);
+    let Ok(
+        Apart {
+            logs,
+            stores,
+            seats,
+        },
+    ) = parted
+    else {
+        panic!(rt; "memory");
+    };
     let Closed::Done(sealed) = history.close(seats, Vec::new(alloc)) else {
         unreachable!()
     };
-    Ok((rows_of(rt, alloc, logs.as_slice(), sealed.len()), stores))
+    (rows_of(rt, alloc, logs.as_slice(), sealed.len()), stores)
 }
 
 /// Ends a run in which all ports have finished.
@@ -416,7 +420,7 @@ pub(crate) fn end_run<N: Naming<Plan, TlmLaw>, R: Wait + Abort>(
     ports: Vec<Port<N>>,
 ) -> Ran {
     let (mut wallets, ends) = ends_of(rt, alloc, &net, ports);
-    let (rows, stores) = close(rt, alloc, net, &mut wallets).expect(rt, "memory");
+    let (rows, stores) = close(rt, alloc, net, &mut wallets);
     Ran { rows, ends, stores }
 }
 

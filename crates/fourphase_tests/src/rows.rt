@@ -1,7 +1,7 @@
 // The entries of a history that has ended, in the order of their positions.
 ghost use Rattle.std.specs.Prelude.{◌<◌, length};
 
-use std::alloc::{AllocError, Global};
+use std::alloc::Global;
 use std::process::Abort;
 use tlm_types::{Command, Log, ObjectNo, Phase, Ps, Response, TlmSync, TxnId, What};
 
@@ -87,17 +87,17 @@ fn place_log(rt: &impl Abort, rows: &mut Vec<Option<Row>>, log: &Log) {
 }
 
 // So many places at which nothing stands.
-fn no_rows(alloc: Global, count: u64) -> Result<Vec<Option<Row>>, AllocError> {
+fn no_rows(rt: &impl Abort, alloc: Global, count: u64) -> Vec<Option<Row>> {
     let mut rows = Vec::new(alloc);
     for _place in 0..count {
-        rows.push(None)?;
+        rows.push(None).expect(rt, "memory");
     }
-    Ok(rows)
+    rows
 }
 
 /// The entries of these logs, which are so many, by their positions.
 pub(crate) fn rows_of(rt: &impl Abort, alloc: Global, logs: &[Log], count: u64) -> Vec<Row> {
-    let mut places = no_rows(alloc, count).expect(rt, "memory");
+    let mut places = no_rows(rt, alloc, count);
     for log in logs {
         place_log(rt, &mut places, log);
     }

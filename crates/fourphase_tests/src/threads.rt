@@ -22,10 +22,6 @@ const TWO: &str = "version = 1\n\
                    [[initiator]]\nname = 'b'\nstyle = 'fourphase'\nscript = 'b'\nbind = 'ram'\n\
                    [[memory]]\nname = 'ram'\nsize = 16\nlatency = 10\n";
 
-const ONE: &str = "version = 1\n\
-                   [[initiator]]\nname = 'a'\nstyle = 'fourphase'\nscript = 'a'\nbind = 'ram'\n\
-                   [[memory]]\nname = 'ram'\nsize = 16\nlatency = 10\n";
-
 /// Each of these makes 500 accesses.
 const WRITES: &str = "repeat 500\nwrite 0x0 aa\nend\n";
 
@@ -70,33 +66,6 @@ fn serve<N: Naming<Plan, TlmLaw>, R: Wait + Abort>(
     panic!(rt; "ports that don't finish");
 }
 
-// One port and the memory. How many entries there are.
-fn one<N: Naming<Plan, TlmLaw> + Send + Sync, R: Threads + Wait + Abort + Sync>(
-    rt: &R,
-    alloc: Global,
-    plan: &Plan,
-    opened: Opened,
-) -> usize
-    requires history { (opened.table ≡ N.table) × (opened.frame ≡ N.frame) }
-    requires tickets { opened.tokens ≡ N.tokens }
-    requires plan { plan.now ≡ N.frame.world }
-{
-    let Stand {
-        net,
-        mut ports,
-        nodes: Nodes { memory, .. },
-    } = stand_of::<N>(rt, alloc, plan, opened);
-    let port = ports.pop().expect(rt, "a port");
-    let done = AtomicU64::new(0);
-    let (port, ()) = join(
-        rt,
-        || finish_port::<N, R>(rt, &net, &done, port),
-        || serve::<N, R>(rt, &net, &done, 1, memory),
-    );
-    ports.push(port).expect(rt, "memory");
-    end_run(rt, alloc, net, ports).rows.len()
-}
-
 // Two ports and the memory. How many entries there are.
 fn two<N: Naming<Plan, TlmLaw> + Send + Sync, R: Threads + Wait + Abort + Sync>(
     rt: &R,
@@ -133,14 +102,6 @@ fn two<N: Naming<Plan, TlmLaw> + Send + Sync, R: Threads + Wait + Abort + Sync>(
 }
 
 // Each access has four calls on its hop, four entries at its pool and one at the memory.
-#[test]
-fn a_port_and_a_memory_go_on_at_once(rt: HostRuntime) {
-    let plan = plan_of(rt.alloc(), ONE, &[WRITES]).expect(&rt, "a plan");
-    let opened = Opened::new(rt.alloc(), &plan).expect(&rt, "a history");
-    let entries = one::<Brand, HostRuntime>(&rt, rt.alloc(), &plan, opened);
-    assert!(rt; entries == 4500);
-}
-
 #[test]
 fn two_ports_and_a_memory_go_on_at_once(rt: HostRuntime) {
     let plan = plan_of(rt.alloc(), TWO, &[WRITES, READS]).expect(&rt, "a plan");

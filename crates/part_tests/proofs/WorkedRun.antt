@@ -30,7 +30,7 @@ use Rattle.joined_runs.specs.Joined.{HasLogs}
 use Rattle.flow_model.specs.Called.{HasCalled}
 use Rattle.joined_traffic.specs.Driven.{IsDriven, spent_at}
 use Rattle.joined_traffic.specs.Ended.{HasFinished, HasSpent, HaveLeft}
-use Rattle.joined_traffic.specs.Issued.{HasIssued, HasWaited, IsIssued, IsReplyOf, issued_at}
+use Rattle.joined_traffic.specs.Issued.{HasIssued, HasWaited, IsIssued, IsMadeFor, issued_at}
 use Rattle.part_tests.specs.Worked.{CompletingHasEnded, at_once, ends_at, ends_by, one_call, three_left, written_once}
 
 abbrev plan : Plan
@@ -142,7 +142,7 @@ finished zero less = record {
     refl,
     record {
       driven = driven;
-      once = λ e f has also same. sym (has_one ((written 3 0).entry) e has) ∙ has_one ((written 3 0).entry) f also;
+      once = λ e f has also same first second. sym (has_one ((written 3 0).entry) e has) ∙ has_one ((written 3 0).entry) f also;
       routed = λ x pass e is has same. subst (λ (q : Passage). IsTrue q.routed) (one_access x.initiator x.seq pass is).1 refl;
     },
   );
@@ -197,7 +197,7 @@ has_issued : HasIssued plan completing at_once ends_at dma (written_once 0)
 unfolding lone
 has_issued = record {
   ended = refl;
-  served = λ e has. subst (λ (f : Entry). MatchOption (slice_get (requests_of plan.platform dma (written_once 0)) f.txn.seq) ⊥ (λ r. IsReplyOf plan dma f r)) (has_one ((written 3 0).entry) e has) (record { entry = (refl, refl); way = refl; access = refl; place = tt });
+  served = λ e has. subst (λ (f : Entry). MatchOption (slice_get (requests_of plan.platform dma (written_once 0)) f.txn.seq) ⊥ (λ r. IsMadeFor plan dma f r)) (has_one ((written 3 0).entry) e has) (record { entry = (refl, refl); way = refl; memory = 0; stands = refl; place = tt });
   accesses = λ x pass is own. subst (IsIssued plan completing dma (written_once 0) ends_at) (one_access x.initiator x.seq pass is).0 issued_first;
   times = λ x pass is own. subst (λ (y : TxnId). at_once y ≡ issued_at ends_at dma y.seq) (one_access x.initiator x.seq pass is).0 time_first;
   reads = λ e r has none asked. absurd (no_passage e.txn (ap (λ (f : Entry). f.txn) (has_one ((written 3 0).entry) e has)) none);

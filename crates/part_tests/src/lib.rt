@@ -3,7 +3,8 @@
 //!
 //! - `payloads` has the generic payload of `generic_payload`, `engines` the scripts of `script_engine`,
 //!   `lanes` the masked copies of `lane_copy`, `events` the queue of `event_queue`,
-//!   `generators` the loads of `traffic_gen`.
+//!   `generators` the loads of `traffic_gen`, `phases` the calls on a lane of `base_phases`, `keepers` the keeper of
+//!   `quantum_keeper`.
 //! - `sequences` has rows of four-phase calls by the checks of `flow_check`.
 //! - `laws` has a run by hand that leaves what the law of ended runs wants (`joined_traffic`).
 //! - `boards` has the rounds of `time_board`, `queues` the jobs of `run_queue`: by one thread, and by two at
@@ -22,10 +23,14 @@ mod events;
 #[cfg(test)]
 mod generators;
 #[cfg(test)]
+mod keepers;
+#[cfg(test)]
 mod lanes;
 pub mod laws;
 #[cfg(test)]
 mod payloads;
+#[cfg(test)]
+mod phases;
 #[cfg(test)]
 mod queues;
 #[cfg(test)]

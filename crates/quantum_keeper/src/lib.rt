@@ -14,8 +14,6 @@
 
 mod keeper;
 pub mod laws;
-#[cfg(test)]
-mod tests;
 pub mod worked;
 
 pub use keeper::QuantumKeeper;

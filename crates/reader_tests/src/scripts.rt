@@ -41,7 +41,7 @@ static SCRIPTS: [(&str, &str); 20] = [
         "line 4: too_many_operations",
     ),
     ("repeat 2\nsync\n", "line 1: repeat_without_end"),
-    ("sync\ninvalidate 0x0 1\n", "line 2: not_built"),
+    ("sync\ninvalidate 0x0 0\n", "line 2: bad_length"),
     ("\nread 0 0\nnothing", "line 2: bad_length"),
     ("end\nrepeat 1\nend", "line 1: end_without_repeat"),
 ];

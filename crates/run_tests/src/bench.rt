@@ -1,8 +1,8 @@
 // Plans.
-ghost use Rattle.route_plan.specs.Shape.{IsBlocking, IsServed};
+ghost use Rattle.route_plan.specs.Shape.{IsBlocking};
 
 use platform_file::read_platform;
-use route_plan::{Plan, is_blocking, plan, served, shape};
+use route_plan::{Plan, is_blocking, plan, shape};
 use std::alloc::Global;
 use std::process::Abort;
 use traffic_script::{Script, read_script};
@@ -16,14 +16,11 @@ fn scripts_of(rt: &impl Abort, alloc: Global, texts: &[&str]) -> Vec<Script> {
     scripts
 }
 
-/// The plan of this platform with these scripts, one for each initiator, which is served.
-pub(crate) fn plan_of(rt: &impl Abort, alloc: Global, platform: &str, scripts: &[&str]) -> Plan
-    ensures { IsServed result.platform }
-{
+/// The plan of this platform with these scripts, one for each initiator.
+pub(crate) fn plan_of(rt: &impl Abort, alloc: Global, platform: &str, scripts: &[&str]) -> Plan {
     let scripts = scripts_of(rt, alloc, scripts);
     let platform = read_platform(alloc, platform.as_bytes()).expect(rt, "a platform");
     let shape = shape(alloc, &platform).expect(rt, "a shape");
-    served(alloc, &shape).expect(rt, "a platform that is served");
     assert!(rt; scripts.len() == shape.platform().initiators.as_slice().len());
     plan(alloc, shape, scripts.as_slice()).expect(rt, "a plan")
 }

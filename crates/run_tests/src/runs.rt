@@ -1,6 +1,4 @@
 // Runs by worker threads.
-ghost use Rattle.route_plan.specs.Shape.{IsServed};
-
 use crate::bench::plan_of;
 use crate::paces::{Holding, InTurn, Watching};
 use outside::{NoPace, Pace};
@@ -36,9 +34,7 @@ pub(crate) fn run_of<P: Pace + Sync, R: Threads + Wait + Abort + Sync>(
     plan: &Plan,
     workers: u32,
     pace: &P,
-) -> Outcome
-    requires { IsServed plan.now.platform }
-{
+) -> Outcome {
     let (outcome, sealed) = run_plan(rt, alloc, plan, workers, pace).expect(rt, "a run");
     assert!(rt; outcome.complete);
     assert!(rt; sealed.len() == outcome.history.len());
@@ -68,17 +64,18 @@ fn workers_run_two_initiators(rt: HostRuntime) {
     }
 }
 
-/// A script with every operation, and with each access and debug read once more where nothing is.
+/// A script with every operation, and with each access, debug read and invalidation once more where nothing is.
 const EVERYTHING: &str = "write 0x0 aa\nread 0x0 1 be=ff\nignore 0x0\ndebug 0x0 1\n\
                           copy 0x0 0x100 1\nadd 0x8 1\nwait 7\nsync\nfence\n\
                           write 0x200 aa\nread 0x200 1\nignore 0x200\ndebug 0x200 1\n\
                           copy 0x200 0x0 1\ncopy 0x0 0x200 1\nadd 0x200 1\n\
-                          repeat 2\nread 0x0 1\nend\n";
+                          repeat 2\nread 0x0 1\nend\ninvalidate 0x0 1\ninvalidate 0x200 1\n";
 
 /// How many accesses and debug reads that script has: a copy and an add have two each.
 const ACCESSES: u64 = 4 + 4 + 4 + 6 + 2;
 
-// By one worker, the pace is told of the two initiators in turn, and of each access and debug read.
+// By one worker, the pace is told of the two initiators in turn, and of each access and debug read, but of no
+// invalidation: those are last, since each takes a number of its own.
 #[test]
 fn the_pace_is_told_of_every_access(rt: HostRuntime) {
     let plan = plan_of(&rt, rt.alloc(), BUS, &[EVERYTHING, EVERYTHING]);

@@ -7,6 +7,8 @@
 #[cfg(test)]
 mod bench;
 #[cfg(test)]
+mod direct;
+#[cfg(test)]
 mod faults;
 #[cfg(test)]
 mod fourphase;

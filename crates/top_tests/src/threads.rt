@@ -1,6 +1,7 @@
 // Runs by two worker threads.
-use crate::bench::{Came, call, calm, library};
+use crate::bench::{Came, call, calm, library, text_of};
 use outside::Pace;
+use std::alloc::Global;
 use std::process::Abort;
 use std::sync::Wait;
 use std::sync::atomic::{AtomicU64, Ordering};
@@ -168,50 +169,57 @@ fn two_at_once(rt: HostRuntime) {
     expect_first(&rt, 1, "0 0 one.0 ram blocking write 0x0 1 be=- sw=1 aa ok");
 }
 
-// The same two, of which the second has four phases.
-const MIXED: &str = "version = 1
-quantum = 1000000
-[[initiator]]
-name = 'one'
-style = 'blocking'
-script = 'one.txt'
-bind = 'ram'
-[[initiator]]
-name = 'two'
-style = 'fourphase'
-script = 'two.txt'
-bind = 'ram'
-[[memory]]
-name = 'ram'
-size = 16
-";
-
-static MIXED_FILES: [(&str, &str); 3] = [
-    ("p.toml", MIXED),
-    ("one.txt", "write 0x0 aa\nfence\nread 0x1 1\n"),
-    ("two.txt", "write 0x1 bb\nfence\nread 0x0 1\n"),
-];
-
-// With this initiator held, these accesses come in this order, among 2 entries of the one and 18 of the other.
-fn expect_accesses<R: AllocGlobal + Threads + Wait + Abort + Sync>(
-    rt: &R,
-    held: u32,
-    first: &str,
-    second: &str,
-) {
-    let came = held_run(rt, &MIXED_FILES, held);
-    let report = str::from_utf8(came.out.bytes()).expect(rt, "a text");
-    let mut lines = report.lines();
-    assert!(rt; lines.any(|line| line.contains(first)));
-    assert!(rt; lines.any(|line| line.contains(second)));
-    assert!(rt; report.ends_with("\nend 20\n"));
+// The same two, of which the second has this style.
+fn mixed(rt: &impl Abort, alloc: Global, style: &str) -> String {
+    let parts = [
+        "version = 1\nquantum = 1000000\n",
+        "[[initiator]]\nname = 'one'\nstyle = 'blocking'\nscript = 'one.txt'\nbind = 'ram'\n",
+        "[[initiator]]\nname = 'two'\nstyle = '",
+        style,
+        "'\nscript = 'two.txt'\nbind = 'ram'\n",
+        "[[memory]]\nname = 'ram'\nsize = 16\n",
+    ];
+    text_of(rt, alloc, &parts)
 }
 
-// With two workers, a blocking initiator can be held while a four-phase one goes on, and the other way round.
+// With this initiator held, these accesses come in this order, and the report ends so.
+fn expect_accesses<R: AllocGlobal + Threads + Wait + Abort + Sync>(
+    rt: &R,
+    platform: &str,
+    held: u32,
+    texts: [&str; 2],
+    end: &str,
+) {
+    let files = [
+        ("p.toml", platform),
+        ("one.txt", "write 0x0 aa\nfence\nread 0x1 1\n"),
+        ("two.txt", "write 0x1 bb\nfence\nread 0x0 1\n"),
+    ];
+    let came = held_run(rt, &files, held);
+    let report = str::from_utf8(came.out.bytes()).expect(rt, "a text");
+    let mut lines = report.lines();
+    for text in texts {
+        assert!(rt; lines.any(|line| line.contains(text)));
+    }
+    assert!(rt; report.ends_with(end));
+}
+
+// With two workers, a blocking initiator can be held while one of another style goes on, and the other way round.
+// There are 2 entries of the blocking one, and 18 of four phases, or 3 with a grant.
 #[test]
 fn two_styles_at_once(rt: HostRuntime) {
     let blocking = " one.0 ram blocking write 0x0 1 ";
-    let fourphase = " two.0 ram fourphase write 0x1 1 ";
-    expect_accesses(&rt, 0, fourphase, blocking);
-    expect_accesses(&rt, 1, blocking, fourphase);
+    let rows = [
+        (
+            "fourphase",
+            " two.0 ram fourphase write 0x1 1 ",
+            "\nend 20\n",
+        ),
+        ("direct", " two.0 ram blocking write 0x1 1 ", "\nend 5\n"),
+    ];
+    for (style, other, end) in rows {
+        let platform = mixed(&rt, rt.alloc(), style);
+        expect_accesses(&rt, platform.as_str(), 0, [other, blocking], end);
+        expect_accesses(&rt, platform.as_str(), 1, [blocking, other], end);
+    }
 }

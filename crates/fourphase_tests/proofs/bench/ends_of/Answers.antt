@@ -2,7 +2,7 @@ use Rattle.std.proofs.Common.{◌≡◌, ◌++◌, [], ◌∷◌, subst}
 use Rattle.std.specs.Prelude.{if◌then◌else◌}
 use Rattle.std.specs.Result.{is_ok}
 use Rattle.token_book.specs.Purse.{IsOf}
-use Rattle.plat_end.specs.Apart.{HasNoOthers}
+use Rattle.plat_build.specs.Kept.{HasNoOthers}
 use Rattle.fourphase_tests.proofs.Benches.{all_push}
 use Rattle.fourphase_tests.proofs.bench.ends_of.Goals as goal
 

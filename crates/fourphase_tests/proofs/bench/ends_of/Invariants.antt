@@ -1,6 +1,6 @@
 use Rattle.std.specs.Prelude.{All}
 use Rattle.token_book.specs.Purse.{IsOf}
-use Rattle.plat_end.specs.Apart.{HasNoOthers}
+use Rattle.plat_build.specs.Kept.{HasNoOthers}
 use Rattle.fourphase_tests.proofs.bench.ends_of.Given as goal
 
 abbrev pub invariant-loop-port : goal.invariant-loop-port
