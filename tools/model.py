@@ -117,6 +117,14 @@ class Run:
         self.entries.append(f"{head} {way} {command} {offset:#x} {length} {marks}")
         return data
 
+    def invalidate(self, i, address, count):
+        """An invalidation: one entry, where the address leads to a memory. Blocking initiators hold no grants, so none is ended."""
+        seq, i.numbers = i.numbers, i.numbers + 1
+        name, offset, _ = self.route(i.row["bind"], address)
+        if name is not None:
+            head = f"{len(self.entries)} {i.now + i.local} {i.row['name']}.{seq} {name}"
+            self.entries.append(f"{head} invalidated {offset:#x}-{min(offset + count - 1, 2**64 - 1):#x}")
+
     def step(self, i, words):
         """One access, or another operation; answers whether the operation has ended."""
         word, arguments = words[0], [it for it in words[1:] if "=" not in it]
@@ -133,6 +141,8 @@ class Run:
         elif word == "fetch_add":
             operand = bytearray(number(arguments[1]).to_bytes(4, "little"))
             self.access(i, "blocking", "fetch_add", number(arguments[0]), operand)
+        elif word == "invalidate":
+            self.invalidate(i, number(arguments[0]), number(arguments[1]))
         elif word == "wait":
             i.local += number(arguments[0])
         elif word in ("copy", "add") and i.buffer is None:

@@ -1,8 +1,9 @@
-"""A checker of reports with four-phase traffic, written from docs/FORMATS.md alone.
+"""A checker of reports with four-phase traffic or direct accesses, written from docs/FORMATS.md alone.
 
 It reads a platform, its scripts and a report, and tells each rule that the report breaks: the phases and answers of each
 transaction on each hop, that no second request or response is open, the lanes, the references of each payload, the orders and the
-times of all entries, what each access asks for, that its status and bytes are those of one plain store, and the lines at the end.
+times of all entries, what each access asks for, that its status and bytes are those of one plain store, which grants are given, used
+and ended, and the lines at the end.
 """
 
 import collections
@@ -34,7 +35,8 @@ class Entry:
         self.name, _, seq = txn.rpartition(".")
         self.seq, self.txn = int(seq), txn
         self.kind, _, self.rest = self.text.partition(" ")
-        self.is_access = self.kind in ("blocking", "fourphase", "debug")
+        self.kind, _, self.gate = self.kind.partition(":")
+        self.is_access = self.kind in ("blocking", "fourphase", "direct", "debug")
         self.is_call = self.kind in ("BEGIN_REQ", "END_REQ", "BEGIN_RESP", "END_RESP")
         if self.is_access:
             command, offset, length, enables, width, data, status = self.rest.split(" ")
@@ -42,6 +44,16 @@ class Entry:
             self.enables, self.width = enables.removeprefix("be=").replace("-", ""), int(width.removeprefix("sw="))
             sent, _, shown = data.rpartition(":")
             self.sent, self.data = sent, shown.replace("-", "")
+        if self.kind in ("granted", "invalidated"):
+            span = self.rest.split(" ")[-1 if self.kind == "invalidated" else 1]
+            self.first, self.last = (int(it, 16) for it in span.split("-"))
+        if self.kind in ("granted", "closed"):
+            self.gate = self.rest.split(" ")[0]
+        self.gate = int(self.gate) if self.gate else None
+
+    def is_cut_by(self, other):
+        """Whether this grant is overlapped by an invalidation that stands after it."""
+        return self.object == other.object and self.position < other.position and self.first <= other.last and other.first <= self.last
 
 
 class Request:
@@ -49,7 +61,9 @@ class Request:
 
     def __init__(self, seq, way, command, address, data, enables="", width=None, waits=False):
         self.seq, self.way, self.command, self.address, self.data = seq, way, command, address, data
-        self.enables, self.width, self.waits = enables, len(data) if width is None else width, waits
+        self.enables, self.waits = enables, waits
+        self.is_plain = way == "access" and command in ("read", "write") and not enables and width is None
+        self.width = len(data) if width is None else width
         self.issued = None
 
 
@@ -66,6 +80,8 @@ def asked_by(words):
         return [(way, "read", address, bytes(model.number(arguments[1])), enables, width)]
     if word == "ignore":
         return [("access", word, address, b"", "", None)]
+    if word == "invalidate":
+        return [("invalidate", word, address, b"", "", model.number(arguments[1]))]
     if word == "fetch_add":
         return [("access", word, address, model.number(arguments[1]).to_bytes(4, "little"), "", None)]
     if word in ("copy", "add"):
@@ -133,7 +149,8 @@ class Checker:
         it = requests[entry.seq]
         _, memory, offset, _ = self.route(entry.name, it.address)
         style = self.rows[entry.name]["style"]
-        self.expect(entry.kind == ("debug" if it.way == "debug" else style), f"{entry.txn}: way {entry.kind}")
+        ways = ("debug",) if it.way == "debug" else ("blocking", "direct") if style == "direct" else (style,)
+        self.expect(it.way != "invalidate" and entry.kind in ways, f"{entry.txn}: way {entry.kind}")
         self.expect((entry.object, entry.offset) == (memory, offset), f"{entry.txn}: not at its place")
         same = (entry.command, entry.length, entry.enables, entry.width) == (it.command, len(it.data), it.enables, it.width)
         self.expect(same, f"{entry.txn}: not what its script asks for")
@@ -156,14 +173,34 @@ class Checker:
         told = collections.Counter(it.txn for it in self.entries if it.is_access)
         for name, requests in self.requests.items():
             for it in requests:
-                wanted = 0 if self.route(name, it.address)[1] is None else 1
+                wanted = 0 if it.way == "invalidate" or self.route(name, it.address)[1] is None else 1
                 self.expect(told.pop(f"{name}.{it.seq}", 0) == wanted, f"{name}.{it.seq}: not answered {wanted} times")
         self.expect(not told, f"accesses of nobody: {list(told)}")
 
-    # blocking initiators
+    # blocking and direct initiators
 
-    def check_blocking(self, name):
-        """The times and syncs of a blocking initiator; answers its syncs, its end and its refused lines."""
+    def check_others(self, name, it, own, current, latencies):
+        """The entries of a request that are no accesses: of an invalidation, or the grant after an access."""
+        told = [e.kind for e in own if not e.is_access]
+        _, memory, offset, _ = self.route(name, it.address)
+        if it.way == "invalidate":
+            self.expect(told == ["invalidated"] * (memory is not None) + ["closed"] * (len(told) - 1), f"{name}.{it.seq}: {told}")
+            for e in own:
+                last = later(offset, it.width - 1)
+                self.expect((e.object, e.time) == (memory, current), f"{e.txn}: not at its place and time")
+                self.expect(e.kind == "closed" or (e.first, e.last) == (offset, last), f"{e.txn}: range {e.rest}")
+        elif it.way == "access":
+            self.expect(told in ([], ["granted"]), f"{name}.{it.seq}: {told}")
+            self.expect(all(e.time == later(current, latencies) for e in own if e.kind == "granted"), f"{name}.{it.seq}: time of the grant")
+        else:
+            self.expect(not told, f"{name}.{it.seq}: {told}")
+
+    def check_decoupled(self, name):
+        """The times and syncs of a blocking or direct initiator; answers its syncs, its end and its refused lines."""
+        of = collections.defaultdict(list)
+        for it in self.entries:
+            if it.name == name:
+                of[it.seq].append(it)
         now = local = syncs = number = 0
         last, refused = -1, []
         for words in self.scripts[name]:
@@ -171,15 +208,18 @@ class Checker:
                 it = self.requests[name][number]
                 _, memory, _, before = self.route(name, it.address)
                 entry, current = self.accesses.get(f"{name}.{number}"), later(now, local)
-                it.issued, is_debug = current, way == "debug"
-                if memory is None:
-                    refused.append((name, it, "debug" if is_debug else command))
+                it.issued, takes_time = current, way == "access"
+                latencies = before + (self.memories[memory].row.get("latency", 0) if memory else 0)
+                if memory is None and way != "invalidate":
+                    refused.append((name, it, "debug" if way == "debug" else command))
                 elif entry:
-                    self.expect(entry.time == (current if is_debug else later(current, before)), f"{entry.txn}: time {entry.time}")
-                    self.expect(entry.position > last, f"{entry.txn}: out of order")
-                    last = entry.position
-                if not is_debug:
-                    local = later(local, before + (self.memories[memory].row.get("latency", 0) if memory else 0))
+                    self.expect(entry.time == (later(current, before) if entry.kind == "blocking" else current), f"{entry.txn}: time {entry.time}")
+                self.check_others(name, it, of[number], current, latencies)
+                for e in of[number]:
+                    self.expect(e.position > last, f"{e.txn}: out of order")
+                    last = e.position
+                if takes_time:
+                    local = later(local, latencies)
                 number += 1
             if words[0] == "wait":
                 local = later(local, model.number(words[1]))
@@ -334,24 +374,92 @@ class Checker:
                 it.issued = current
                 self.expect(all(e.position > settled for e in own), f"{name}.{number}: begun too early")
                 is_routed = self.route(name, it.address)[1] is not None
-                if way == "debug":
+                if way == "invalidate":
+                    self.check_others(name, it, own, current, 0)
+                elif way == "debug":
                     self.expect(all(e.is_access and e.time == current for e in own), f"{name}.{number}: debug read")
                 else:
                     self.expect(own, f"{name}.{number}: nothing of it")
                     ends.append(self.check_passage(it, name, own, current) if own else 0)
-                if not is_routed:
+                if not is_routed and way != "invalidate":
                     refused.append((name, it, "debug" if way == "debug" else command))
                 number += 1
             if words[0] == "wait":
                 current = later(current, model.number(words[1]))
         return 0, max(current, *ends), refused
 
+    # grants
+
+    def serves(self, grant, name, it):
+        """Whether a grant of the initiator serves the request: its kind allows the command, and each byte leads into its range."""
+        if grant.name != name or not it.is_plain or grant.rest.split(" ")[2] not in (it.command, "both"):
+            return False
+        ways = (self.route(name, it.address + k) for k in range(len(it.data)))
+        return all(memory == grant.object and grant.first <= offset <= grant.last for _, memory, offset, _ in ways)
+
+    def asks(self, entry):
+        """Whether a grant is asked for after this entry of a direct initiator."""
+        if entry is None or entry.kind != "blocking" or self.rows[entry.name]["style"] != "direct":
+            return False
+        return self.requests[entry.name][entry.seq].is_plain and entry.status == "ok" and self.memories[entry.object].row.get("dmi", True)
+
+    def check_grants(self):
+        first, place = {}, 0
+        for name, memory in self.memories.items():
+            first[name], place = place, place + memory.row.get("gates", 16)
+        given, closed, cuts, last = {}, {}, [], collections.defaultdict(lambda: None)
+        for it in self.entries:
+            before, last[it.name] = last[it.name], it
+            if it.kind == "granted":
+                self.check_granted(it, before, first, given)
+                given[it.gate] = it
+            else:
+                self.check_answered(before, first, given)
+            if it.kind == "direct":
+                self.expect(it.gate in given and it.gate not in closed, f"{it.txn}: gate {it.gate} isn't open")
+                is_served = it.gate in given and self.serves(given[it.gate], it.name, self.requests[it.name][it.seq])
+                self.expect(is_served and it.status == "ok", f"{it.txn}: its grant doesn't serve it")
+            elif it.is_access and self.rows[it.name]["style"] == "direct":
+                held = [x for x in given.values() if self.serves(x, it.name, self.requests[it.name][it.seq])]
+                self.expect(all(any(x.is_cut_by(y) for y in cuts) for x in held), f"{it.txn}: a grant serves it")
+            for y in cuts:
+                if y.name == it.name and y.seq < it.seq:
+                    self.check_returned(y, given, closed)
+            if it.kind == "closed":
+                ended = it.gate in given and any(y.txn == it.txn and given[it.gate].is_cut_by(y) for y in cuts)
+                self.expect(ended and it.gate not in closed, f"{it.txn}: closes gate {it.gate}")
+                closed[it.gate] = it
+            if it.kind == "invalidated":
+                cuts.append(it)
+        for name in self.rows:
+            self.check_answered(last[name], first, given)
+        for y in cuts:
+            self.check_returned(y, given, closed)
+
+    def check_granted(self, it, before, first, given):
+        row, taken = self.memories[it.object].row, sum(x.object == it.object for x in given.values())
+        self.expect(it.gate == first[it.object] + taken and taken < row.get("gates", 16), f"{it.txn}: gate {it.gate}")
+        kinds = {(True, True): "both", (True, False): "read", (False, True): "write"}
+        kind = kinds[row.get("read", True), row.get("write", True)]
+        self.expect(it.rest.endswith(f" 0x0-{row['size'] - 1:#x} {kind}"), f"{it.txn}: granted {it.rest}")
+        self.expect(self.asks(before) and (before.txn, before.object) == (it.txn, it.object), f"{it.txn}: a grant that wasn't asked for")
+
+    def check_answered(self, before, first, given):
+        if self.asks(before):
+            gates = self.memories[before.object].row.get("gates", 16)
+            is_spent = all(first[before.object] + k in given for k in range(gates))
+            self.expect(is_spent, f"{before.txn}: no grant after it")
+
+    def check_returned(self, cut, given, closed):
+        for gate, x in given.items():
+            self.expect(not x.is_cut_by(cut) or gate in closed, f"{cut.txn}: gate {gate} isn't closed")
+
     # the whole report
 
     def check_ends(self):
         lines = []
         for name, row in self.rows.items():
-            check = self.check_blocking if row["style"] == "blocking" else self.check_fourphase
+            check = self.check_fourphase if row["style"] == "fourphase" else self.check_decoupled
             syncs, end, refused = check(name)
             counts = f"transactions {len(self.requests[name])} refused {len(refused)} syncs {syncs} end {end}"
             lines.append(f"initiator {name} {row['style']} {counts}")
@@ -379,6 +487,7 @@ class Checker:
                 self.check_hop(name, entries)
             elif name.endswith(".pool"):
                 self.check_pool(name.removesuffix(".pool"), entries)
+        self.check_grants()
         self.check_ends()
         return self.faults
 
