@@ -1,0 +1,5 @@
+pub mod Told
+pub mod Known
+pub mod Begun
+pub mod Asked
+pub mod Laws

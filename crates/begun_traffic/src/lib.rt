@@ -1,0 +1,21 @@
+//! What the parts of a run under way tell makes its history sound, whichever initiators have finished.
+//!
+//! At any moment the one who moves all parts can ask each of them: initiators for their entries, and what they have under way;
+//! hops, pools and memories for their logs; payloads, routers and memories for what is known of their access and for the
+//! tickets that they carry. By counting, the entries that are known are all.
+//!
+//! - `specs/Told` has these numbers, `specs/Known` says what is known of an access as far as it has come, `specs/Begun` what
+//!   stands of the run, `specs/Asked` which requests were issued, when, and what was waited for.
+//! - `specs/Laws` has the laws: the premises of the law of four-phase traffic, its points, those of requests, and that the history
+//!   is sound.
+//!
+//! Nothing here runs: each function carries a law.
+#![tactic(auto)]
+
+ghost use Rattle.begun_traffic.specs.Laws.{BegunHasPremises};
+
+/// What has begun has the premises of the law of four-phase traffic, for the times at which the initiators issued their
+/// accesses.
+pub fn begun_runs_have_premises()
+    ensures { BegunHasPremises }
+{}
