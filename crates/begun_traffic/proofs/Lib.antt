@@ -5,3 +5,9 @@ pub mod PoolLemmas
 pub mod MemoryLemmas
 pub mod AccessLemmas
 pub mod PremiseLemmas
+pub mod TimeLemmas
+pub mod ScriptLemmas
+pub mod OwnLemmas
+pub mod JoinLemmas
+pub mod GoodLemmas
+pub mod FinalLemmas

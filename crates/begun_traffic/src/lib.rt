@@ -12,10 +12,25 @@
 //! Nothing here runs: each function carries a law.
 #![tactic(auto)]
 
-ghost use Rattle.begun_traffic.specs.Laws.{BegunHasPremises};
+ghost use Rattle.begun_traffic.specs.Laws.{BegunHasPremises, BegunHasRequests, BegunHasTraffic, BegunIsSound};
 
 /// What has begun has the premises of the law of four-phase traffic, for the times at which the initiators issued their
 /// accesses.
 pub fn begun_runs_have_premises()
     ensures { BegunHasPremises }
+{}
+
+/// Where the initiators also issued their requests when they may, the history so far has the points of four-phase traffic.
+pub fn begun_runs_have_traffic()
+    ensures { BegunHasTraffic }
+{}
+
+/// It runs the scripts of the initiators as far as it has come.
+pub fn begun_runs_have_requests()
+    ensures { BegunHasRequests }
+{}
+
+/// A run under way has a sound history, where initiators of all styles run side by side and the points of grants hold.
+pub fn begun_runs_are_sound()
+    ensures { BegunIsSound }
 {}
