@@ -6,11 +6,12 @@ use Rattle.std.proofs.lemmas.List.{append-nil}
 use Rattle.std.proofs.lemmas.List.Sums.{sum_by-cons}
 use Rattle.tlm_types.specs.declared.words.Phase.{Phase}
 use Rattle.tlm_types.specs.declared.words.Phase.TheVariants.{BeginReq, EndReq, BeginResp, EndResp}
+use Rattle.tlm_types.specs.declared.words.TlmSync.{TlmSync}
 use Rattle.tlm_types.specs.declared.words.TxnId.{TxnId}
 use Rattle.tlm_types.specs.declared.entry.Entry.{Entry}
 use Rattle.tlm_types.specs.declared.entry.What.{What}
 use Rattle.tlm_types.specs.declared.entry.What.TheVariants.{Call as Called}
-use Rattle.base_phases.specs.Sequences.{Call, IsBegun, sequences}
+use Rattle.base_phases.specs.Sequences.{Call, IsBegun, IsSequence, sequences}
 use Rattle.base_phases.specs.Walks.{is_begin}
 use Rattle.base_phases.proofs.WalkLemmas.{begins-append, begins-cons}
 use Rattle.hop_model.specs.Calls.{calls_in, calls_of, is_of}
@@ -22,6 +23,14 @@ use Rattle.flow_law.proofs.OtherLaws.{counting_law}
 use Rattle.joined_traffic.proofs.HopEnds.{call_in}
 use Rattle.begun_traffic.proofs.Totals.{dec_among}
 use Rattle.begun_traffic.specs.Known.{HasBegun}
+use Rattle.std.specs.List.{AllByRecursion}
+use Rattle.flow_model.specs.World.{Passage, World, hop_at, row_of}
+use Rattle.flow_model.specs.Called.{HasCalled}
+use Rattle.hop_model.specs.Table.{sequences_of}
+use Rattle.tlm_types.specs.declared.words.ReqMode.{ReqMode}
+use Rattle.tlm_types.specs.declared.words.ReqMode.TheVariants as Req
+use Rattle.tlm_types.specs.declared.words.RespMode.{RespMode}
+use Rattle.tlm_types.specs.declared.words.RespMode.TheVariants as Resp
 
 -- the place of a phase in a sequence
 rank : Phase → ℕ
@@ -217,3 +226,91 @@ begins_once log xs spent differ pairs has few = record { once = λ x. go x (dec_
         let own : own_count x log ≡ 0 = all.none x m in
         let b : length (calls_of x log) ≤ own_count x log = calls_few x log in
         few_begin (calls_of x log) (omega arith)
+
+-- a sequence without its END_RESP
+record Trimmed (s : List Call) : Type 0 where
+  front : List Call
+  tail : List Call
+  is : s ≡ front ++ tail
+  early : (p : Phase) (a : TlmSync) → Among front (p, a) → p ≢ EndResp
+  short : length tail ≤ 1
+
+cons_trimmed : (p : Phase) (a : TlmSync) (cs : List Call) → p ≢ EndResp → Trimmed cs → Trimmed ((p, a) ∷ cs)
+cons_trimmed p a cs no_end t = record {
+  front = (p, a) ∷ t.front;
+  tail = t.tail;
+  is = ap (λ (l : List Call). (p, a) ∷ l) t.is;
+  early = λ q b m. elim m [ inl s ↦ (λ e. no_end (ap (λ (c : Call). c.0) s ∙ e)) | inr m ↦ t.early q b m ];
+  short = t.short;
+}
+
+few_ranks : (p : Phase) → rank p ≤ 3
+unfolding rank
+few_ranks BeginReq = omega arith
+few_ranks EndReq = omega arith
+few_ranks BeginResp = omega arith
+few_ranks EndResp = omega arith
+
+last : (n : ℕ) (l : List Call) → 4 ≤ n → Rises n l → length l ≡ 0
+last n [] few r = refl
+last n (c ∷ l) few r = let a : n ≤ rank c.0 = r.0 in let b = few_ranks c.0 in absurd (omega arith)
+
+trimmed : (n : ℕ) (s : List Call) → Rises n s → Trimmed s
+unfolding rank
+trimmed n [] r = record { front = []; tail = []; is = refl; early = λ p a m. absurd m; short = omega arith }
+trimmed n ((EndResp, a) ∷ cs) r = record { front = []; tail = (EndResp, a) ∷ cs; is = refl; early = λ p b m. absurd m; short = (let z : length cs ≡ 0 = last (3 + 1) cs (omega arith) r.1 in omega arith) }
+trimmed n ((BeginReq, a) ∷ cs) r = cons_trimmed BeginReq a cs (λ q. cc) (trimmed (0 + 1) cs r.1)
+trimmed n ((EndReq, a) ∷ cs) r = cons_trimmed EndReq a cs (λ q. cc) (trimmed (1 + 1) cs r.1)
+trimmed n ((BeginResp, a) ∷ cs) r = cons_trimmed BeginResp a cs (λ q. cc) (trimmed (2 + 1) cs r.1)
+
+among_front : (cs rest : List Call) (c : Call) → Among cs c → Among (cs ++ rest) c
+among_front [] rest c m = absurd m
+among_front (d ∷ cs) rest c (inl q) = inl q
+among_front (d ∷ cs) rest c (inr m) = inr (among_front cs rest c m)
+
+all_sequences : (rows : List (List Call)) → AllByRecursion IsSequence rows → (s : List Call) → Among rows s → IsSequence s
+all_sequences [] all s m = absurd m
+all_sequences (t ∷ rows) all s (inl q) = subst IsSequence q all.0
+all_sequences (t ∷ rows) all s (inr m) = all_sequences rows all.1 s m
+
+-- the rows of the table are of the eleven sequences
+rows : (req : ReqMode) (resp : RespMode) → AllByRecursion IsSequence (sequences_of req resp)
+rows Req.Accept Resp.Accept = ((5, refl), tt)
+rows Req.Accept Resp.EndResp = ((6, refl), tt)
+rows Req.Accept Resp.Complete = ((7, refl), tt)
+rows Req.Short Resp.Accept = ((8, refl), tt)
+rows Req.Short Resp.EndResp = ((9, refl), tt)
+rows Req.Short Resp.Complete = ((10, refl), tt)
+rows Req.EndReq Resp.Accept = ((2, refl), tt)
+rows Req.EndReq Resp.EndResp = ((3, refl), tt)
+rows Req.EndReq Resp.Complete = ((4, refl), tt)
+rows Req.BeginResp Resp.Accept = ((1, refl), ((2, refl), tt))
+rows Req.BeginResp Resp.EndResp = ((1, refl), ((3, refl), tt))
+rows Req.BeginResp Resp.Complete = ((1, refl), ((4, refl), tt))
+rows Req.Complete resp = ((0, refl), tt)
+
+-- the calls of a known sequence, all but its END_RESP, begin it
+pub called_begun : (w : World) (K : Event → Type 0) (x : TxnId) (pass : Passage) (k n : ℕ) → HasCalled w K x pass k n
+    → HasBegun K x (hop_at pass k) n ⊎ ((m : ℕ) × (n ≡ m + 1) × HasBegun K x (hop_at pass k) m)
+called_begun w K x pass k n called = go t.tail refl
+  where
+    sequence : IsSequence called.sequence
+    sequence = all_sequences _ (rows (row_of w pass k) (w.hop (hop_at pass k)).resp) called.sequence called.given
+
+    t : Trimmed called.sequence
+    t = trimmed 0 called.sequence (sequences_rise sequence.0 called.sequence sequence.1)
+
+    long : length t.front + length t.tail ≡ n
+    long = sym (length-append t.front t.tail) ∙ (ap length (sym t.is) ∙ called.long)
+
+    begun : (m : ℕ) → length t.front ≡ m → HasBegun K x (hop_at pass k) m
+    begun m q = record {
+      calls = t.front;
+      begun = (sequence.0, t.tail, sequence.1 ∙ ap Some t.is);
+      long = q;
+      known = λ p a m. called.known p a (subst (λ (l : List Call). Among l (p, a)) (sym t.is) (among_front t.front t.tail (p, a) m)) (t.early p a m);
+    }
+
+    go : (tail : List Call) → t.tail ≡ tail → HasBegun K x (hop_at pass k) n ⊎ ((m : ℕ) × (n ≡ m + 1) × HasBegun K x (hop_at pass k) m)
+    go [] q = inl (begun n (let z : length t.tail ≡ 0 = ap length q in let l = long in omega arith))
+    go (c ∷ rest) q = inr (length t.front, (let z : length t.tail ≡ suc (length rest) = ap length q in let s = t.short in let l = long in omega arith), begun (length t.front) refl)

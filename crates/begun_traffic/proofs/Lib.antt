@@ -11,3 +11,7 @@ pub mod OwnLemmas
 pub mod JoinLemmas
 pub mod GoodLemmas
 pub mod FinalLemmas
+pub mod PoolOwed
+pub mod ReplyLemmas
+pub mod PartLemmas
+pub mod EndLemmas

@@ -63,22 +63,22 @@ family log P one (n ∷ ns) d f =
     }
 
 -- the numbers below n
-below : ℕ → List ℕ
+pub below : ℕ → List ℕ
 below zero = []
 below (suc n) = n ∷ below n
 
-below_less : (n k : ℕ) → Among (below n) k → k < n
+pub below_less : (n k : ℕ) → Among (below n) k → k < n
 unfolding below
 below_less zero k m = absurd m
 below_less (suc n) k (inl q) = omega arith
 below_less (suc n) k (inr m) = let l : k < n = below_less n k m in omega arith
 
-below_length : (n : ℕ) → length (below n) ≡ n
+pub below_length : (n : ℕ) → length (below n) ≡ n
 unfolding below
 below_length zero = refl
 below_length (suc n) = ap suc (below_length n)
 
-below_distinct : (n : ℕ) → AreDistinct (below n)
+pub below_distinct : (n : ℕ) → AreDistinct (below n)
 unfolding below
 below_distinct zero = tt
 below_distinct (suc n) = (λ has. (let l : n < n = below_less n n (has_among (below n) n has) in omega arith), below_distinct n)

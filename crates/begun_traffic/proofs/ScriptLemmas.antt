@@ -12,8 +12,9 @@ use Rattle.tlm_model.specs.declared.platform.Style.{Style}
 use Rattle.tlm_model.specs.declared.platform.Style.TheVariants.{FourPhase}
 use Rattle.tlm_model.specs.History.{IsNumberedFrom}
 use Rattle.tlm_model.specs.Plan.{Plan, Initiator, initiators_of}
-use Rattle.tlm_model.specs.Requests.{Request, got_in, requests_of}
-use Rattle.tlm_model.specs.Scripts.{HasWay, IsPlaced, is_answer}
+use Rattle.tlm_model.specs.Requests.{Asked, Request, Transport, got_in, requests_of}
+use Rattle.tlm_model.specs.Route.{route_of}
+use Rattle.tlm_model.specs.Scripts.{HasWay, IsEntryOf, IsPlaced, is_answer}
 use Rattle.flow_model.specs.World.{Passage}
 use Rattle.flow_model.specs.Backed.{BackedBy, IsBacked}
 use Rattle.flow_model.specs.Events.{Among, Event, Finds, IsTake, at, entries}
@@ -30,7 +31,7 @@ use Rattle.joined_traffic.proofs.AccessLemmas.{entry_among, split_later}
 use Rattle.joined_traffic.proofs.AskedLemmas.{IsPast}
 use Rattle.joined_traffic.proofs.HopEnds.{InLog, entry_fits, entry_from}
 use Rattle.joined_traffic.proofs.MemoryLemmas.{among_has}
-use Rattle.joined_traffic.proofs.StartLemmas.{IsKind, has_passage, hop_kind, memory_kind, pool_kind, taken}
+use Rattle.joined_traffic.proofs.StartLemmas.{IsKind, has_passage, hop_kind, made_got, memory_kind, pool_kind, taken}
 use Rattle.begun_traffic.specs.Asked.{HasAsked, HaveAsked}
 use Rattle.begun_traffic.specs.Begun.{HasTraffic, HaveBegun}
 use Rattle.begun_traffic.specs.Told.{Told}
@@ -122,7 +123,18 @@ module _ (p : Plan) (h : List Event) (told : Told) (begun : HaveBegun p h told)
 
     -- an entry of an access at a memory is an access
     pub access_got : (e : Event) (pass : Passage) → Among h e → e.txn.initiator ≡ i.number → passage_of p e.txn ≡ Some pass → (m : ℕ) → e.object ≡ Memory m → IsSome (got_in e.what)
-    access_got e pass among own there m place = has.accessed e.entry pass (known m e among own place) there
+    access_got e pass among own there m place =
+        let mem = known m e among own place in
+        let s = served e.entry mem in
+        let a = has.issues e.txn pass there own (has.begun e.entry pass mem there) in
+        let same : s.request ≡ a.request = some_request s.request a.request (sym s.asked ∙ a.asked) in
+        let asks : s.request.asked ≡ Transport a.access = ap (λ (r : Request). r.asked) same ∙ a.transport in
+        made_got i.row.style (route_of p.platform i s.request.address) m a.access e.what (subst (λ (o : ObjectNo). IsKind o e.what) place (kind_of e among own))
+        (subst (λ (d : Asked). HasWay i.row.style d e.what) asks s.made.way)
+        (subst (λ (o : ObjectNo). IsEntryOf (route_of p.platform i s.request.address) (Transport a.access) o e.what) place (subst (λ (d : Asked). IsEntryOf (route_of p.platform i s.request.address) d e.object e.what) asks s.made.entry))
+      where
+        some_request : (q r : Request) → Some q ≡ Some r → q ≡ r
+        some_request q r e = cc
 
     -- the entries before one of its entries, in a list that rises
     pub past : (l b a : List Entry) (e : Entry) → l ≡ b ++ e ∷ a → IsRising (λ g. g.position) l → ((f : Entry) → Among l f → Among (entries h) f) → ((f : Entry) → Has (told.mine i.number) f → Among l f) → IsPast i (told.mine i.number) b e.position

@@ -15,11 +15,11 @@ use Rattle.joined_traffic.specs.Accesses.{sum_below}
 use Rattle.begun_traffic.specs.Begun.{HasMade, HasSpent}
 use Rattle.begun_traffic.specs.Told.{Told, known_at, left_at}
 
-sum_below_add : (f g : ℕ → ℕ) (n : ℕ) → sum_below (λ k. f k + g k) n ≡ sum_below f n + sum_below g n
+pub sum_below_add : (f g : ℕ → ℕ) (n : ℕ) → sum_below (λ k. f k + g k) n ≡ sum_below f n + sum_below g n
 sum_below_add f g zero = refl
 sum_below_add f g (suc n) = let r : sum_below (λ k. f k + g k) n ≡ sum_below f n + sum_below g n = sum_below_add f g n in omega arith
 
-sum_below_less : (f g : ℕ → ℕ) (n : ℕ) → ((k : ℕ) → k < n → f k ≤ g k) → sum_below f n ≤ sum_below g n
+pub sum_below_less : (f g : ℕ → ℕ) (n : ℕ) → ((k : ℕ) → k < n → f k ≤ g k) → sum_below f n ≤ sum_below g n
 sum_below_less f g zero less = omega arith
 sum_below_less f g (suc n) less =
     let r : sum_below f n ≤ sum_below g n = sum_below_less f g n (λ k l. less k (omega arith)) in
@@ -39,7 +39,7 @@ sum_by_number f (x ∷ xs) =
     omega arith
 
 -- the shares of an object add up
-shares : (p : Plan) (o : ObjectNo) → sum_below (λ k. share_at p k o) (length (initiators_of p)) ≡ planned_at p o
+pub shares : (p : Plan) (o : ObjectNo) → sum_below (λ k. share_at p k o) (length (initiators_of p)) ≡ planned_at p o
 unfolding planned_at
 shares p o = sum_by_number (share_by p o) (initiators_of p)
 

@@ -3,3 +3,4 @@ pub mod Known
 pub mod Begun
 pub mod Asked
 pub mod Laws
+pub mod Parts

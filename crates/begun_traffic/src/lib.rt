@@ -13,6 +13,7 @@
 #![tactic(auto)]
 
 ghost use Rattle.begun_traffic.specs.Laws.{BegunHasPremises, BegunHasRequests, BegunHasTraffic, BegunIsSound};
+ghost use Rattle.begun_traffic.specs.Parts.{CalledHasBegun, ChargedIsSpent, EndedHasBegun, NothingHasBegun, OpenedIsOwed, ReleasedHasClosed, RepliesAreOwn};
 
 /// What has begun has the premises of the law of four-phase traffic, for the times at which the initiators issued their
 /// accesses.
@@ -33,4 +34,29 @@ pub fn begun_runs_have_requests()
 /// A run under way has a sound history, where initiators of all styles run side by side and the points of grants hold.
 pub fn begun_runs_are_sound()
     ensures { BegunIsSound }
+{}
+
+/// Every run has begun, before its first entry: nothing is known, and each initiator has its whole share. A run that has ended has begun
+/// too, with nothing on the way.
+pub fn runs_begin_and_end()
+    ensures beginning { NothingHasBegun }
+    ensures end { EndedHasBegun }
+{}
+
+/// What is known of the calls of an access on a hop: where END_RESP is owed, the others begin the sequence; where its reference there is
+/// released, it has ended there; and a reference that was taken or acquired is out or released.
+pub fn known_calls_are_begun_or_closed()
+    ensures owed { CalledHasBegun }
+    ensures released { ReleasedHasClosed }
+    ensures opened { OpenedIsOwed }
+{}
+
+/// What a four-phase initiator asks for by replies that stand in the history, it asks for by its known entries.
+pub fn replies_are_own()
+    ensures { RepliesAreOwn }
+{}
+
+/// Where each charge of an initiator's share of a hop or a pool is spent on known entries or on the way, the share is spent or left.
+pub fn charges_are_spent()
+    ensures { ChargedIsSpent }
 {}
