@@ -20,7 +20,7 @@ use Rattle.joined_traffic.proofs.AccessLemmas.{entry_among, has_answer_of, split
 use Rattle.joined_traffic.proofs.MemoryLemmas.{among_has, has_among}
 use Rattle.joined_traffic.proofs.OnceLemmas.{owner}
 use Rattle.joined_traffic.proofs.RequestLemmas.{at_split, number_of}
-use Rattle.begun_traffic.specs.Begun.{HasRun, HaveBegun}
+use Rattle.begun_traffic.specs.Begun.{IsRunning, HaveBegun}
 use Rattle.begun_traffic.specs.Told.{Told}
 use Rattle.begun_traffic.proofs.MemoryLemmas.{known_there}
 
@@ -54,7 +54,7 @@ false_true : false ≡ true → ⊥
 false_true q = cc
 
 -- who runs its script answers no request twice
-no_second : (p : Plan) (mine : List Entry) → HasRun p mine → (e f : Entry) → Has mine e → Has mine f → f.position < e.position → f.txn ≡ e.txn → is_answer f.what ≡ true → is_answer e.what ≡ true → ⊥
+no_second : (p : Plan) (mine : List Entry) → IsRunning p mine → (e f : Entry) → Has mine e → Has mine f → f.position < e.position → f.txn ≡ e.txn → is_answer f.what ≡ true → is_answer e.what ≡ true → ⊥
 no_second p mine run e f m n less same fa ea =
     let s = split_at mine run.rising e f (has_among mine e m) (has_among mine f n) less in
     by_initiator s.before s.has (slice_get (initiators_of p) e.txn.initiator) refl

@@ -22,7 +22,7 @@ use Rattle.flow_law.proofs.Forms.{AllDiffer}
 use Rattle.flow_law.proofs.OtherLaws.{counting_law}
 use Rattle.joined_traffic.proofs.HopEnds.{call_in}
 use Rattle.begun_traffic.proofs.Totals.{dec_among}
-use Rattle.begun_traffic.specs.Known.{HasBegun}
+use Rattle.begun_traffic.specs.Known.{HasFirstCalls}
 use Rattle.std.specs.List.{AllByRecursion}
 use Rattle.flow_model.specs.World.{Passage, World, hop_at, row_of}
 use Rattle.flow_model.specs.Called.{HasCalled}
@@ -191,8 +191,8 @@ pub record HasCalls (log : List Entry) (x : TxnId) (n : ℕ) : Type 0 where
   pub long : length calls ≡ n
   pub all : (c : Call) → Among calls c → Among (calls_of x log) c
 
-pub calls_begun : (x : TxnId) (o : ℕ) (h : List Event) (n : ℕ) → HasBegun (Among h) x o n → HasCalls (hop_log o h) x n
-calls_begun x o h n b = record { calls = b.calls; begun = b.begun; long = b.long; all = λ c m. call_in x o h c.0 c.1 (b.known c.0 c.1 m) }
+pub calls_first : (x : TxnId) (o : ℕ) (h : List Event) (n : ℕ) → HasFirstCalls (Among h) x o n → HasCalls (hop_log o h) x n
+calls_first x o h n b = record { calls = b.calls; begun = b.begun; long = b.long; all = λ c m. call_in x o h c.0 c.1 (b.known c.0 c.1 m) }
 
 pub calls_whole : (x : TxnId) (log : List Entry) (n : ℕ) → HasSequence log x n → HasCalls log x n
 calls_whole x log n s = record { calls = s.sequence; begun = (s.is.0, [], s.is.1 ∙ ap Some (sym (append-nil s.sequence))); long = s.long; all = s.all }
@@ -290,9 +290,9 @@ rows Req.BeginResp Resp.Complete = ((1, refl), ((4, refl), tt))
 rows Req.Complete resp = ((0, refl), tt)
 
 -- the calls of a known sequence, all but its END_RESP, begin it
-pub called_begun : (w : World) (K : Event → Type 0) (x : TxnId) (pass : Passage) (k n : ℕ) → HasCalled w K x pass k n
-    → HasBegun K x (hop_at pass k) n ⊎ ((m : ℕ) × (n ≡ m + 1) × HasBegun K x (hop_at pass k) m)
-called_begun w K x pass k n called = go t.tail refl
+pub called_first : (w : World) (K : Event → Type 0) (x : TxnId) (pass : Passage) (k n : ℕ) → HasCalled w K x pass k n
+    → HasFirstCalls K x (hop_at pass k) n ⊎ ((m : ℕ) × (n ≡ m + 1) × HasFirstCalls K x (hop_at pass k) m)
+called_first w K x pass k n called = go t.tail refl
   where
     sequence : IsSequence called.sequence
     sequence = all_sequences _ (rows (row_of w pass k) (w.hop (hop_at pass k)).resp) called.sequence called.given
@@ -303,7 +303,7 @@ called_begun w K x pass k n called = go t.tail refl
     long : length t.front + length t.tail ≡ n
     long = sym (length-append t.front t.tail) ∙ (ap length (sym t.is) ∙ called.long)
 
-    begun : (m : ℕ) → length t.front ≡ m → HasBegun K x (hop_at pass k) m
+    begun : (m : ℕ) → length t.front ≡ m → HasFirstCalls K x (hop_at pass k) m
     begun m q = record {
       calls = t.front;
       begun = (sequence.0, t.tail, sequence.1 ∙ ap Some t.is);
@@ -311,6 +311,6 @@ called_begun w K x pass k n called = go t.tail refl
       known = λ p a m. called.known p a (subst (λ (l : List Call). Among l (p, a)) (sym t.is) (among_front t.front t.tail (p, a) m)) (t.early p a m);
     }
 
-    go : (tail : List Call) → t.tail ≡ tail → HasBegun K x (hop_at pass k) n ⊎ ((m : ℕ) × (n ≡ m + 1) × HasBegun K x (hop_at pass k) m)
+    go : (tail : List Call) → t.tail ≡ tail → HasFirstCalls K x (hop_at pass k) n ⊎ ((m : ℕ) × (n ≡ m + 1) × HasFirstCalls K x (hop_at pass k) m)
     go [] q = inl (begun n (let z : length t.tail ≡ 0 = ap length q in let l = long in omega arith))
     go (c ∷ rest) q = inr (length t.front, (let z : length t.tail ≡ suc (length rest) = ap length q in let s = t.short in let l = long in omega arith), begun (length t.front) refl)

@@ -16,7 +16,7 @@ use Rattle.joined_traffic.proofs.OnceLemmas.{owner}
 use Rattle.begun_traffic.specs.Begun.{HaveBegun}
 use Rattle.begun_traffic.specs.Known.{HasCome}
 use Rattle.begun_traffic.specs.Told.{Told, entries_of}
-use Rattle.begun_traffic.proofs.CallCounts.{HasCalls, begins_once, calls_begun, calls_none, calls_whole}
+use Rattle.begun_traffic.proofs.CallCounts.{HasCalls, begins_once, calls_first, calls_none, calls_whole}
 use Rattle.begun_traffic.proofs.Totals.{few_entries}
 
 same_initiator : (i j : Initiator) → Some i ≡ Some j → i ≡ j
@@ -37,7 +37,7 @@ module _ (p : Plan) (h : List Event) (t : Told) (begun : HaveBegun p h t) where
   calls_on : (x : TxnId) (pass : Passage) → (k : ℕ) → k < hop_count pass → HasCome (world_of p) (Among h) x pass (t.issued x) (t.calls x) (t.moves x) → HasCalls (hop_log (hop_at pass k) h) x (t.calls x (hop_at pass k))
   calls_on x pass k below (inl a) = subst (HasCalls (hop_log (hop_at pass k) h) x) (sym (a.silent k below)) (calls_none x (hop_log (hop_at pass k) h))
   calls_on x pass k below (inr u) = elim (u.called k below) [
-    | inl b ↦ calls_begun x (hop_at pass k) h (t.calls x (hop_at pass k)) b
+    | inl b ↦ calls_first x (hop_at pass k) h (t.calls x (hop_at pass k)) b
     | inr c ↦ calls_whole x (hop_log (hop_at pass k) h) (t.calls x (hop_at pass k)) (sequence_of (world_of p) h x pass k (begun.objects.hops (hop_at pass k)) (t.calls x (hop_at pass k)) c.called c.ended)
   ]
 

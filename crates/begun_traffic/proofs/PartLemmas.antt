@@ -16,13 +16,13 @@ use Rattle.flow_law.proofs.More.{is_backed_more}
 use Rattle.flow_law.proofs.Reading.{backed_release}
 use Rattle.flow_law.proofs.Splits.{among_split, among_whole}
 use Rattle.joined_traffic.specs.Accesses.{accesses_below, chosen, numbers_by, sum_below, txn_of, visits}
-use Rattle.begun_traffic.specs.Parts.{CalledHasBegun, ChargedIsSpent, ReleasedHasClosed, known_of, where_it_visits}
+use Rattle.begun_traffic.specs.Parts.{OwedCallsAreFirst, ChargedIsSpent, ReleasedCallsAreWhole, known_of, where_it_visits}
 use Rattle.begun_traffic.specs.Told.{Told, entries_of, known_at}
-use Rattle.begun_traffic.proofs.CallCounts.{called_begun}
+use Rattle.begun_traffic.proofs.CallCounts.{called_first}
 use Rattle.begun_traffic.proofs.Totals.{sum_below_add, sum_below_less}
 
-pub called_has_begun : CalledHasBegun
-called_has_begun w known x pass k n called = called_begun w (Among known) x pass k n called
+pub owed_calls_are_first : OwedCallsAreFirst
+owed_calls_are_first w known x pass k n called = called_first w (Among known) x pass k n called
 
 some_passage : (a b : Passage) → Some a ≡ Some b → a ≡ b
 some_passage a b q = cc
@@ -30,8 +30,8 @@ some_passage a b q = cc
 number_itself : (k : ℕ) → k < 15 → released_hop k ≡ k
 number_itself k few = grind arith
 
-pub released_has_closed : ReleasedHasClosed
-released_has_closed w h backed x pass is k n few release called =
+pub released_calls_are_whole : ReleasedCallsAreWhole
+released_calls_are_whole w h backed x pass is k n few release called =
     let s = among_split h release.event release.known in
     let b = backed_release w (Among h) x k release.is.freed release.event
     (is_backed_more w (Among s.before) (Among h) (λ f m. among_whole h s.before s.after release.event f s.is m) release.event (at_each (λ before f. IsBacked w (Among before) f) h backed s.before release.event s.after s.is)) release.is.release in

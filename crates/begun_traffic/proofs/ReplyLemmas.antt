@@ -27,7 +27,7 @@ use Rattle.joined_traffic.proofs.HopEnds.{InLog, entry_fits, entry_from}
 use Rattle.joined_traffic.proofs.MemoryLemmas.{among_has, has_among}
 use Rattle.joined_traffic.proofs.StartLemmas.{IsKind, hop_kind, pool_kind}
 use Rattle.joined_traffic.proofs.ToldLemmas.{answered_by, only_any, requests_kept}
-use Rattle.begun_traffic.specs.Begun.{HasTraffic, HaveBegun}
+use Rattle.begun_traffic.specs.Begun.{IsDriving, HaveBegun}
 use Rattle.begun_traffic.specs.Parts.{RepliesAreOwn}
 use Rattle.begun_traffic.specs.Told.{Told}
 use Rattle.begun_traffic.proofs.MemoryLemmas.{known_there}
@@ -69,7 +69,7 @@ module _ (p : Plan) (h : List Event) (told : Told) (begun : HaveBegun p h told) 
     below : i.number < length (initiators_of p)
     below = slice_get_within (initiators_of p) i.number i is
 
-    drives : HasTraffic p h told i.number
+    drives : IsDriving p h told i.number
     drives =
         let f = begun.initiators i.number below in
         elim f.by_style [

@@ -33,7 +33,7 @@ use Rattle.joined_traffic.proofs.HopEnds.{InLog, entry_fits, entry_from}
 use Rattle.joined_traffic.proofs.MemoryLemmas.{among_has}
 use Rattle.joined_traffic.proofs.StartLemmas.{IsKind, has_passage, hop_kind, made_got, memory_kind, pool_kind, taken}
 use Rattle.begun_traffic.specs.Asked.{HasAsked, HaveAsked}
-use Rattle.begun_traffic.specs.Begun.{HasTraffic, HaveBegun}
+use Rattle.begun_traffic.specs.Begun.{IsDriving, HaveBegun}
 use Rattle.begun_traffic.specs.Told.{Told}
 use Rattle.begun_traffic.proofs.MemoryLemmas.{known_there}
 use Rattle.begun_traffic.proofs.PoolLemmas.{has_moved}
@@ -78,7 +78,7 @@ module _ (p : Plan) (h : List Event) (told : Told) (begun : HaveBegun p h told)
     below : i.number < length (initiators_of p)
     below = slice_get_within (initiators_of p) i.number i at_number
 
-    pub drives : HasTraffic p h told i.number
+    pub drives : IsDriving p h told i.number
     drives =
         let f = begun.initiators i.number below in
         elim f.by_style [

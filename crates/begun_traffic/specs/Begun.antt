@@ -42,7 +42,7 @@ pub record HaveMade (p : Plan) (h : List Event) (t : Told) : Type 0 where
   pub memories : HasLogs p.platform (entries h)
   pub made : (o : ObjectNo) → HasMade p h t o
 
--- Of initiator k entries at memories are known, none of them twice, and its tickets are spent on known entries or left: no more of them may be gone.
+-- Of initiator k entries at memories are known, none of them twice. Its tickets are spent on known entries or left: no more of them may be gone.
 pub record HasSpent (p : Plan) (h : List Event) (t : Told) (k : ℕ) : Type 0 where
   pub within : Within (t.mine k) (entries h)
   pub distinct : AreDistinct (t.mine k)
@@ -51,13 +51,13 @@ pub record HasSpent (p : Plan) (h : List Event) (t : Told) (k : ℕ) : Type 0 wh
 
 -- It is a four-phase initiator: its accesses have come somewhere. A request has one answer at a memory at most, and an access without a route has no
 -- entry there.
-pub record HasTraffic (p : Plan) (h : List Event) (t : Told) (k : ℕ) : Type 0 where
+pub record IsDriving (p : Plan) (h : List Event) (t : Told) (k : ℕ) : Type 0 where
   pub come : (x : TxnId) (pass : Passage) → passage_of p x ≡ Some pass → x.initiator ≡ k → HasCome (world_of p) (Among h) x pass (t.issued x) (t.calls x) (t.moves x)
   pub once : (e f : Entry) → Has (t.mine k) e → Has (t.mine k) f → e.txn ≡ f.txn → IsTrue (is_answer e.what) → IsTrue (is_answer f.what) → e ≡ f
   pub routed : (x : TxnId) (pass : Passage) (e : Entry) → passage_of p x ≡ Some pass → Has (t.mine k) e → e.txn ≡ x → IsTrue pass.routed
 
 -- Another initiator: its own entries, in order, run its script as far as it has come.
-pub record HasRun (p : Plan) (mine : List Entry) : Type 0 where
+pub record IsRunning (p : Plan) (mine : List Entry) : Type 0 where
   pub rising : IsRising (λ e. e.position) mine
   pub keeps : KeepsOwn p mine
 
@@ -66,7 +66,7 @@ pub record HasStarted (p : Plan) (h : List Event) (t : Told) (k : ℕ) : Type 0 
   pub initiator : Initiator
   pub at : slice_get (initiators_of p) k ≡ Some initiator
   pub spent : HasSpent p h t k
-  pub by_style : ((initiator.row.style ≡ FourPhase) × HasTraffic p h t k) ⊎ ((initiator.row.style ≡ FourPhase → ⊥) × HasRun p (t.mine k))
+  pub by_style : ((initiator.row.style ≡ FourPhase) × IsDriving p h t k) ⊎ ((initiator.row.style ≡ FourPhase → ⊥) × IsRunning p (t.mine k))
 
 -- The run has come as far as its parts tell.
 pub record HaveBegun (p : Plan) (h : List Event) (t : Told) : Type 0 where

@@ -22,7 +22,7 @@ use Rattle.joined_traffic.specs.Ended.{HaveEnded}
 use Rattle.joined_traffic.specs.Issued.{HaveIssued}
 use Rattle.begun_traffic.specs.Asked.{HaveAsked}
 use Rattle.begun_traffic.specs.Begun.{HaveBegun}
-use Rattle.begun_traffic.specs.Known.{HasBegun, HasClosed}
+use Rattle.begun_traffic.specs.Known.{HasFirstCalls, HasWholeCalls}
 use Rattle.begun_traffic.specs.Told.{Told, entries_of, known_at, left_at}
 
 -- Before its first entry: nothing is known, and each initiator has its whole share.
@@ -63,14 +63,14 @@ EndedHasBegun = (p : Plan) (h : List Event) (issued ends : TxnId → ℕ) (calls
     → HasNoCycle p.platform → HaveEnded p h issued calls mine left → HaveIssued p h issued ends mine → StandsAs p h (told_all p issued ends calls mine left)
 
 -- Of a sequence that is known but for its END_RESP the other calls begin it: all n, or one less.
-abbrev pub CalledHasBegun : Type 0
-CalledHasBegun = (w : World) (known : List Event) (x : TxnId) (pass : Passage) (k n : ℕ) → HasCalled w (Among known) x pass k n
-    → HasBegun (Among known) x (hop_at pass k) n ⊎ ((m : ℕ) × (n ≡ m + 1) × HasBegun (Among known) x (hop_at pass k) m)
+abbrev pub OwedCallsAreFirst : Type 0
+OwedCallsAreFirst = (w : World) (known : List Event) (x : TxnId) (pass : Passage) (k n : ℕ) → HasCalled w (Among known) x pass k n
+    → HasFirstCalls (Among known) x (hop_at pass k) n ⊎ ((m : ℕ) × (n ≡ m + 1) × HasFirstCalls (Among known) x (hop_at pass k) m)
 
 -- Where the reference of hop k is released, the access has ended there.
-abbrev pub ReleasedHasClosed : Type 0
-ReleasedHasClosed = (w : World) (h : List Event) → AtEach (λ before e. IsBacked w (Among before) e) h → (x : TxnId) (pass : Passage) → w.passage x ≡ Some pass
-    → (k n : ℕ) → k < 15 → Finds (Among h) (IsReleased x k) → HasCalled w (Among h) x pass k n → HasClosed w (Among h) x pass k n
+abbrev pub ReleasedCallsAreWhole : Type 0
+ReleasedCallsAreWhole = (w : World) (h : List Event) → AtEach (λ before e. IsBacked w (Among before) e) h → (x : TxnId) (pass : Passage) → w.passage x ≡ Some pass
+    → (k n : ℕ) → k < 15 → Finds (Among h) (IsReleased x k) → HasCalled w (Among h) x pass k n → HasWholeCalls w (Among h) x pass k n
 
 -- a live slot of x owes the Release numbered n
 pub record IsOwed (s : Slots) (x : TxnId) (n : ℕ) : Type 0 where

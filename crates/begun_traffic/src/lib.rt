@@ -13,7 +13,7 @@
 #![tactic(auto)]
 
 ghost use Rattle.begun_traffic.specs.Laws.{BegunHasPremises, BegunHasRequests, BegunHasTraffic, BegunIsSound};
-ghost use Rattle.begun_traffic.specs.Parts.{CalledHasBegun, ChargedIsSpent, EndedHasBegun, NothingHasBegun, OpenedIsOwed, ReleasedHasClosed, RepliesAreOwn};
+ghost use Rattle.begun_traffic.specs.Parts.{OwedCallsAreFirst, ChargedIsSpent, EndedHasBegun, NothingHasBegun, OpenedIsOwed, ReleasedCallsAreWhole, RepliesAreOwn};
 
 /// What has begun has the premises of the law of four-phase traffic, for the times at which the initiators issued their
 /// accesses.
@@ -45,9 +45,9 @@ pub fn runs_begin_and_end()
 
 /// What is known of the calls of an access on a hop: where END_RESP is owed, the others begin the sequence; where its reference there is
 /// released, it has ended there; and a reference that was taken or acquired is out or released.
-pub fn known_calls_are_begun_or_closed()
-    ensures owed { CalledHasBegun }
-    ensures released { ReleasedHasClosed }
+pub fn known_calls_are_first_or_whole()
+    ensures owed { OwedCallsAreFirst }
+    ensures released { ReleasedCallsAreWhole }
     ensures opened { OpenedIsOwed }
 {}
 
