@@ -22,7 +22,10 @@ use Rattle.tlm_model.specs.Scripts.{HasWay, IsEntryOf, IsPlaced, is_answer}
 use Rattle.flow_model.specs.World.{Passage, hop_at}
 use Rattle.flow_model.specs.Events.{Among, Event, entries}
 use Rattle.flow_model.specs.Platform.{passage_of, world_of}
+use Rattle.flow_law.specs.Counting.{own_count}
 use Rattle.flow_law.proofs.More.{end_more}
+use Rattle.flow_plan.specs.Valid.{HasNoCycle}
+use Rattle.flow_plan.proofs.Ways.{world_law}
 use Rattle.route_plan.specs.Counted.{share_at}
 use Rattle.joined_traffic.specs.Accesses.{numbers_by, sum_below, txn_of}
 use Rattle.joined_traffic.specs.Issued.{Before, EndsBefore, HasWaited, IsIssued, IsMadeFor, issued_at}
@@ -35,6 +38,7 @@ use Rattle.begun_traffic.specs.Begun.{HasSpent, HaveBegun, IsDriving}
 use Rattle.begun_traffic.specs.Known.{HasCome}
 use Rattle.begun_traffic.specs.Told.{Told, known_at, left_at}
 use Rattle.begun_traffic.proofs.PartLemmas.{charged_is_spent}
+use Rattle.begun_traffic.proofs.Totals.{sum_below_add, sum_below_less}
 use Rattle.begun_traffic.proofs.ReplyLemmas.{replies_are_own}
 use Rattle.port_model.specs.Laws.{Knows}
 use Rattle.port_model.specs.Stages.{Ahead, Back, IsBack, Stage, Under, charged, count_of, end_by}
@@ -42,6 +46,7 @@ use Rattle.port_model.specs.Way.{Agrees, HasWaitedFor, IsBegun, IsReply, IsUnder
 use Rattle.port_model.proofs.Origins.{address_by, has_address, origin}
 use Rattle.begun_end.specs.Ports.{HasOnTheWay, IsToldOf, PortsTell}
 use Rattle.begun_end.proofs.AskingLemmas.{asked_made, made_asked}
+use Rattle.begun_end.proofs.ChargeLemmas.{charge_covered, charge_there, few_owned}
 
 -- what is made at a memory for an access has a route
 entry_routed : (p : Platform) (i : ℕ) (o : Option Route) (access : Access) (m : ℕ) (w : What) → IsPlaced p i (Memory m) w → HasWay FourPhase (Transport access) w → IsEntryOf o (Transport access) (Memory m) w → is_some o ≡ true
@@ -114,7 +119,7 @@ one_request : (q r : Request) (o : Option Request) → o ≡ Some q → o ≡ So
 one_request q r o a b = cc
 
 module _ (p : Plan) (i : Initiator) (port : Port) (known : List Event) (seen : ℕ) (left : ObjectNo → ℕ) (h : List Event) (t : Told) (more : List Entry)
-    (u : IsUnderWay p i port known seen left) (is : slice_get (initiators_of p) i.number ≡ Some i) (style : i.row.style ≡ FourPhase) (knows : Knows known h)
+    (free : HasNoCycle p.platform) (u : IsUnderWay p i port known seen left) (is : slice_get (initiators_of p) i.number ≡ Some i) (style : i.row.style ≡ FourPhase) (knows : Knows known h)
     (told : IsToldOf i u.stage u.mine more left t) (on : HasOnTheWay p h i u.stage more t) where
   -- an access by its number
   same_txn : (x : TxnId) → x.initiator ≡ i.number → txn_of i.number x.seq ≡ x
@@ -208,12 +213,20 @@ module _ (p : Plan) (i : Initiator) (port : Port) (known : List Event) (seen : �
       let paid = u.tickets.paid o in
       let l : t.left i.number o ≡ left o = told.left_is o in
       let s : sum_below (λ s. charged p i o s (u.stage s)) (numbers_by (slice_get (initiators_of p) i.number)) ≡ sum_below (λ s. charged p i o s (u.stage s)) (count_of i) = ap (sum_below (λ s. charged p i o s (u.stage s))) numbers_here in
-      charged_is_spent p t i.number o (λ s. charged p i o s (u.stage s)) not (omega arith) (λ s less. on.charges o not s (subst (λ (n : ℕ). s < n) numbers_here less))
+      charged_is_spent p t i.number o (λ s. charged p i o s (u.stage s)) not (omega arith) (λ s less. charge_covered p i is style (world_law p free) t s o not (u.stage s) (λ pass passes started. on.covered s pass passes started))
+
+  charges_there : (m : ℕ) → sum_below (λ s. charged p i (Memory m) s (u.stage s)) (count_of i) ≤ length (entries_at (Memory m) more) + sum_below (λ s. t.carried (txn_of i.number s) (Memory m)) (count_of i)
+  charges_there m =
+      let a : sum_below (λ s. charged p i (Memory m) s (u.stage s)) (count_of i) ≤ sum_below (λ s. own_count (txn_of i.number s) (entries_at (Memory m) more) + t.carried (txn_of i.number s) (Memory m)) (count_of i) =
+      sum_below_less (λ s. charged p i (Memory m) s (u.stage s)) (λ s. own_count (txn_of i.number s) (entries_at (Memory m) more) + t.carried (txn_of i.number s) (Memory m)) (count_of i) (λ s less. charge_there p i t m s (entries_at (Memory m) more) (u.stage s) (λ q. on.served_there s m q)) in
+      let b = sum_below_add (λ s. own_count (txn_of i.number s) (entries_at (Memory m) more)) (λ s. t.carried (txn_of i.number s) (Memory m)) (count_of i) in
+      let c = few_owned i.number (count_of i) (entries_at (Memory m) more) in
+      omega arith
 
   spent_at_memory : (m : ℕ) → share_at p i.number (Memory m) ≤ known_at p t i.number (Memory m) + left_at p t i.number (Memory m)
   spent_at_memory m =
       let paid = u.tickets.paid (Memory m) in
-      let there = on.charges_there m in
+      let there = charges_there m in
       let l : t.left i.number (Memory m) ≡ left (Memory m) = told.left_is (Memory m) in
       let s : sum_below (λ s. t.carried (txn_of i.number s) (Memory m)) (numbers_by (slice_get (initiators_of p) i.number)) ≡ sum_below (λ s. t.carried (txn_of i.number s) (Memory m)) (count_of i) = ap (sum_below (λ s. t.carried (txn_of i.number s) (Memory m))) numbers_here in
       let long : length (entries_at (Memory m) (t.mine i.number)) ≡ length (entries_at (Memory m) u.mine) + length (entries_at (Memory m) more) =
@@ -316,8 +329,8 @@ module _ (p : Plan) (i : Initiator) (port : Port) (known : List Event) (seen : �
       in_both e m = subst (λ (l : List Entry). Has l e) told.mine_is m
 
 pub ports_tell : PortsTell
-ports_tell p i port known seen left h t more u is style knows told on = record {
-  spent = spends p i port known seen left h t more u is style knows told on;
-  driving = drives p i port known seen left h t more u is style knows told on;
-  asked = asks p i port known seen left h t more u is style knows told on;
+ports_tell p i port known seen left h t more free u is style knows told on = record {
+  spent = spends p i port known seen left h t more free u is style knows told on;
+  driving = drives p i port known seen left h t more free u is style knows told on;
+  asked = asks p i port known seen left h t more free u is style knows told on;
 }

@@ -1,8 +1,8 @@
 -- What a four-phase initiator under way tells of a run.
-use Rattle.std.specs.Prelude.{ℕ, ◌≡◌, ◌+◌, ◌<◌, ◌≤◌, List, ◌++◌, length, Some, None, slice_get, ◌⊎◌}
+use Rattle.std.specs.Prelude.{ℕ, ◌≡◌, ◌+◌, ◌*◌, ◌<◌, ◌≤◌, List, ◌++◌, Some, None, slice_get, ◌⊎◌}
 use Rattle.view_lists.specs.Lists.{AreDistinct, Has}
 use Rattle.tlm_types.specs.declared.words.ObjectNo.{ObjectNo}
-use Rattle.tlm_types.specs.declared.words.ObjectNo.TheVariants.{Memory}
+use Rattle.tlm_types.specs.declared.words.ObjectNo.TheVariants.{Memory, Hop, Pool}
 use Rattle.tlm_types.specs.declared.entry.Entry.{Entry}
 use Rattle.tlm_model.specs.declared.platform.Style.TheVariants.{FourPhase}
 use Rattle.tlm_model.specs.History.{entries_at}
@@ -10,15 +10,16 @@ use Rattle.tlm_model.specs.Plan.{Plan, Initiator, initiators_of}
 use Rattle.flow_model.specs.World.{Passage, hop_at, hop_count}
 use Rattle.flow_model.specs.Events.{Among, Event, entries}
 use Rattle.flow_model.specs.Platform.{passage_of, world_of}
-use Rattle.joined_traffic.specs.Accesses.{sum_below, txn_of}
+use Rattle.flow_law.specs.Counting.{own_count}
+use Rattle.flow_plan.specs.Valid.{HasNoCycle}
+use Rattle.joined_traffic.specs.Accesses.{txn_of}
 use Rattle.joined_traffic.specs.Issued.{issued_at}
 use Rattle.begun_traffic.specs.Asked.{HasAsked}
 use Rattle.begun_traffic.specs.Begun.{HasSpent, HaveBegun, IsDriving}
 use Rattle.begun_traffic.specs.Known.{HasFirstCalls, HasMoved, HasWholeCalls}
-use Rattle.begun_traffic.specs.Parts.{known_of}
 use Rattle.begun_traffic.specs.Told.{Told}
 use Rattle.port_model.specs.Laws.{Knows}
-use Rattle.port_model.specs.Stages.{Ahead, Stage, Under, charged, count_of, end_by}
+use Rattle.port_model.specs.Stages.{Ahead, Back, Stage, Under, end_by, price}
 use Rattle.port_model.specs.Way.{IsReply, IsUnderWay, Port}
 
 -- What is told of a port's requests is what their stages say. Its entries at memories come first, and then those of its accesses that haven't come back.
@@ -31,12 +32,26 @@ pub record IsToldOf (i : Initiator) (stage : ℕ → Stage) (mine more : List En
   pub none : (s : ℕ) → stage s ≡ Ahead → t.moves (txn_of i.number s) ≡ 0
   pub silent : (s o : ℕ) → stage s ≡ Ahead → t.calls (txn_of i.number s) o ≡ 0
 
+-- what an access owes a hop: four calls while it is under way, and those that it told once it is back
+abbrev pub due_at : Stage → ℕ → ℕ
+due_at Ahead o = 0
+due_at Under o = 4
+due_at (Back end calls) o = calls o
+
+-- What it owes each of its hops and its pool is known or on the way.
+pub record IsCovered (i : Initiator) (s : ℕ) (stage : Stage) (pass : Passage) (t : Told) : Type 0 where
+  pub hops : (k : ℕ) → k < hop_count pass → due_at stage (hop_at pass k) ≤ t.calls (txn_of i.number s) (hop_at pass k) + t.carried (txn_of i.number s) (Hop (hop_at pass k))
+  pub pool : 2 + 2 * hop_count pass ≤ t.moves (txn_of i.number s) + t.carried (txn_of i.number s) (Pool i.number)
+
 -- What payloads, routers and memories tell of the accesses that a port has taken: their calls and moves, and the entries of those that haven't come
--- back; and what each was charged is spent on known entries or on the way.
+-- back.
 pub record HasOnTheWay (p : Plan) (h : List Event) (i : Initiator) (stage : ℕ → Stage) (more : List Entry) (t : Told) : Type 0 where
   pub called : (s : ℕ) (pass : Passage) → passage_of p (txn_of i.number s) ≡ Some pass → (stage s ≡ Ahead → ⊥) → (k : ℕ) → k < hop_count pass
       → HasFirstCalls (Among h) (txn_of i.number s) (hop_at pass k) (t.calls (txn_of i.number s) (hop_at pass k)) ⊎ HasWholeCalls (world_of p) (Among h) (txn_of i.number s) pass k (t.calls (txn_of i.number s) (hop_at pass k))
   pub moved : (s : ℕ) (pass : Passage) → passage_of p (txn_of i.number s) ≡ Some pass → (stage s ≡ Ahead → ⊥) → HasMoved (Among h) (txn_of i.number s) (t.moves (txn_of i.number s))
+  pub covered : (s : ℕ) (pass : Passage) → passage_of p (txn_of i.number s) ≡ Some pass → (stage s ≡ Ahead → ⊥) → IsCovered i s (stage s) pass t
+  -- of each that is under way the entry at its memory is known, or its ticket is on the way
+  pub served_there : (s m : ℕ) → stage s ≡ Under → price p i (Memory m) s ≤ own_count (txn_of i.number s) (entries_at (Memory m) more) + t.carried (txn_of i.number s) (Memory m)
   pub stand : (e : Entry) → Has more e → Among (entries h) e
   pub distinct : AreDistinct more
   pub own : (e : Entry) → Has more e → e.txn.initiator ≡ i.number
@@ -44,8 +59,6 @@ pub record HasOnTheWay (p : Plan) (h : List Event) (i : Initiator) (stage : ℕ 
   pub accesses : (e : Entry) → Has more e → passage_of p e.txn ≡ None → ⊥
   pub once : (e f : Entry) → Has more e → Has more f → e.txn ≡ f.txn → e ≡ f
   pub served : (e : Entry) → Has more e → IsReply p i h e
-  pub charges : (o : ObjectNo) → ((m : ℕ) → o ≡ Memory m → ⊥) → (s : ℕ) → s < count_of i → charged p i o s (stage s) ≤ known_of p t o i.number s + t.carried (txn_of i.number s) o
-  pub charges_there : (m : ℕ) → sum_below (λ s. charged p i (Memory m) s (stage s)) (count_of i) ≤ length (entries_at (Memory m) more) + sum_below (λ s. t.carried (txn_of i.number s) (Memory m)) (count_of i)
 
 -- what the law of runs under way asks of a four-phase initiator
 pub record TellsOfRun (p : Plan) (h : List Event) (t : Told) (i : Initiator) : Type 0 where
@@ -56,5 +69,5 @@ pub record TellsOfRun (p : Plan) (h : List Event) (t : Told) (i : Initiator) : T
 -- A port under way, wherever its script has come, tells what the law asks of it.
 abbrev pub PortsTell : Type 0
 PortsTell = (p : Plan) (i : Initiator) (port : Port) (known : List Event) (seen : ℕ) (left : ObjectNo → ℕ) (h : List Event) (t : Told) (more : List Entry)
-    → (u : IsUnderWay p i port known seen left) → slice_get (initiators_of p) i.number ≡ Some i → i.row.style ≡ FourPhase → Knows known h
+    → HasNoCycle p.platform → (u : IsUnderWay p i port known seen left) → slice_get (initiators_of p) i.number ≡ Some i → i.row.style ≡ FourPhase → Knows known h
     → IsToldOf i u.stage u.mine more left t → HasOnTheWay p h i u.stage more t → TellsOfRun p h t i
