@@ -1,3 +1,5 @@
 pub mod AskingLemmas
 pub mod ChargeLemmas
 pub mod PortLemmas
+pub mod CargoLemmas
+pub mod WholeLemmas

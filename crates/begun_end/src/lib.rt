@@ -2,13 +2,39 @@
 //!
 //! - `specs/Ports`: a port under way, with what is told of the accesses that it has taken, tells what the law of runs under way
 //!   asks of a four-phase initiator.
+//! - `specs/Cargos`: what a travelling payload tells of the accesses: their calls on each hop with the tickets that are on the way,
+//!   their entries in the pool, and the entry at their memory.
+//! - `specs/Whole`: what objects, ports and the other initiators tell makes the history sound.
 //!
 //! Nothing here runs: each function carries a law.
 #![tactic(auto)]
 
+ghost use Rattle.begun_end.specs.Cargos.{HopsAreCovered, MovesAreKnown, RepliesAreThere};
 ghost use Rattle.begun_end.specs.Ports.{PortsTell};
+ghost use Rattle.begun_end.specs.Whole.{PartsMakeSound};
 
 /// A four-phase initiator under way, wherever its script has come, tells what the law of runs under way asks of it.
 pub fn ports_tell()
     ensures { PortsTell }
+{}
+
+/// On each hop of an access the calls that are known are four with the tickets that are on the way: of its payload, or of a component
+/// that has an END_REQ or END_RESP to make.
+pub fn hops_are_covered()
+    ensures { HopsAreCovered }
+{}
+
+/// The entries in the pool that are known of a payload on its way.
+pub fn moves_are_known()
+    ensures { MovesAreKnown }
+{}
+
+/// A payload on its way up has its entry at the memory.
+pub fn replies_are_there()
+    ensures { RepliesAreThere }
+{}
+
+/// The history of a run under way is sound, where the points of grants hold.
+pub fn parts_make_sound()
+    ensures { PartsMakeSound }
 {}

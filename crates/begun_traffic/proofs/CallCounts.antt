@@ -289,13 +289,16 @@ rows Req.BeginResp Resp.EndResp = ((1, refl), ((3, refl), tt))
 rows Req.BeginResp Resp.Complete = ((1, refl), ((4, refl), tt))
 rows Req.Complete resp = ((0, refl), tt)
 
+pub row_sequence : (req : ReqMode) (resp : RespMode) (s : List Call) → Among (sequences_of req resp) s → IsSequence s
+row_sequence req resp s m = all_sequences (sequences_of req resp) (rows req resp) s m
+
 -- the calls of a known sequence, all but its END_RESP, begin it
 pub called_first : (w : World) (K : Event → Type 0) (x : TxnId) (pass : Passage) (k n : ℕ) → HasCalled w K x pass k n
     → HasFirstCalls K x (hop_at pass k) n ⊎ ((m : ℕ) × (n ≡ m + 1) × HasFirstCalls K x (hop_at pass k) m)
 called_first w K x pass k n called = go t.tail refl
   where
     sequence : IsSequence called.sequence
-    sequence = all_sequences _ (rows (row_of w pass k) (w.hop (hop_at pass k)).resp) called.sequence called.given
+    sequence = row_sequence (row_of w pass k) (w.hop (hop_at pass k)).resp called.sequence called.given
 
     t : Trimmed called.sequence
     t = trimmed 0 called.sequence (sequences_rise sequence.0 called.sequence sequence.1)

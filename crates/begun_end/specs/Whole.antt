@@ -1,0 +1,29 @@
+-- What all parts of a run under way tell.
+use Rattle.std.specs.Prelude.{◌≡◌, List, None, Some, slice_get}
+use Rattle.tlm_types.specs.declared.words.TxnId.{TxnId}
+use Rattle.tlm_model.specs.declared.platform.Style.TheVariants.{FourPhase}
+use Rattle.tlm_model.specs.Plan.{Plan, Initiator, initiators_of}
+use Rattle.flow_model.specs.Events.{Event, entries}
+use Rattle.flow_model.specs.Platform.{passage_of}
+use Rattle.flow_plan.specs.Valid.{HasNoCycle}
+use Rattle.grant_model.specs.Kept.{KeepsGrants}
+use Rattle.good_history.specs.Good.{IsSound}
+use Rattle.begun_traffic.specs.Begun.{HasSpent, HaveMade, IsRunning}
+use Rattle.begun_traffic.specs.Told.{Told}
+use Rattle.begun_end.specs.Ports.{TellsOfRun}
+
+-- what an initiator of another style tells: its own entries, and the tickets that it has left
+pub record TellsOfOwn (p : Plan) (h : List Event) (t : Told) (i : Initiator) : Type 0 where
+  pub spent : HasSpent p h t i.number
+  pub running : IsRunning p (t.mine i.number)
+
+-- objects have made their logs, and each initiator tells of its part; requests that are no accesses have no end
+pub record AllTell (p : Plan) (h : List Event) (t : Told) : Type 0 where
+  pub objects : HaveMade p h t
+  pub ports : (i : Initiator) → slice_get (initiators_of p) i.number ≡ Some i → i.row.style ≡ FourPhase → TellsOfRun p h t i
+  pub others : (i : Initiator) → slice_get (initiators_of p) i.number ≡ Some i → (i.row.style ≡ FourPhase → ⊥) → TellsOfOwn p h t i
+  pub no_ends : (x : TxnId) → passage_of p x ≡ None → t.ends x ≡ 0
+
+-- So its history is sound, where the points of grants hold.
+abbrev pub PartsMakeSound : Type 0
+PartsMakeSound = (p : Plan) (h : List Event) (t : Told) → HasNoCycle p.platform → AllTell p h t → KeepsGrants p (entries h) → IsSound p (entries h)
