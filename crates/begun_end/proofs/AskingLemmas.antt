@@ -1,6 +1,6 @@
 -- What a port under way has asked for, by its entries and more of them.
-use Rattle.std.proofs.Common.{◌≡◌, ℕ, zero, suc, ◌+◌, ◌≤◌, Bool, true, false, List, [], ◌∷◌, ◌++◌, length, Option, Some, None, refl, sym, ap, ◌∙◌, subst, ◌⊎◌, inl, inr, arith}
 use Rattle.std.specs.Prelude.{slice_get}
+use Rattle.std.proofs.Common.{◌≡◌, ℕ, zero, suc, ◌+◌, ◌≤◌, Bool, true, false, List, [], ◌∷◌, ◌++◌, length, Option, Some, None, refl, sym, ap, ◌∙◌, subst, ◌⊎◌, inl, inr, arith}
 use Rattle.std.proofs.lemmas.Grind.{common_steps}
 use Rattle.std.proofs.lemmas.List.{append-nil}
 use Rattle.tlm_types.specs.declared.words.ObjectNo.{ObjectNo}
@@ -15,11 +15,11 @@ use Rattle.tlm_model.specs.Route.{latency_of, later}
 use Rattle.tlm_model.specs.Store.{zeros}
 use Rattle.flow_model.specs.Events.{Event}
 use Rattle.joined_traffic.proofs.IssueLemmas.{Least, least_cons, least_from, least_less, least_using}
+use Rattle.script_engine.specs.declared.part.Part.TheVariants.{Asks}
+use Rattle.script_engine.specs.declared.part.Transfer.{Transfer}
 use Rattle.script_engine.specs.Asking.{request_for, requests_after, requests_at}
 use Rattle.script_engine.specs.Part.{is_fenced, part_of}
 use Rattle.script_engine.specs.State.{Due, next_of, op_at, op_for, op_of, payload_at, payload_of}
-use Rattle.script_engine.specs.declared.part.Part.TheVariants.{Asks}
-use Rattle.script_engine.specs.declared.part.Transfer.{Transfer}
 use Rattle.port_model.specs.Way.{IsUnderWay, Port, pending, top}
 use Rattle.port_model.proofs.Kept.{get_kept, get_new}
 use Rattle.port_model.proofs.NextAsks.{get_after}

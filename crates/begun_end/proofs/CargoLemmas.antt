@@ -1,14 +1,14 @@
 -- What a travelling payload tells of a run.
-use Rattle.std.proofs.Common.{◌≡◌, ◌≢◌, ℕ, zero, suc, ◌+◌, ◌≤◌, List, [], ◌∷◌, Some, refl, sym, ap, ◌∙◌, subst, inl, inr, arith}
 use Rattle.std.specs.Prelude.{slice_get}
+use Rattle.std.proofs.Common.{◌≡◌, ◌≢◌, ℕ, zero, suc, ◌+◌, ◌≤◌, List, [], ◌∷◌, Some, refl, sym, ap, ◌∙◌, subst, inl, inr, arith}
 use Rattle.std.proofs.lemmas.List.{append-nil}
 use Rattle.tlm_types.specs.declared.words.Phase.{Phase}
 use Rattle.tlm_types.specs.declared.words.Phase.TheVariants.{BeginReq, EndReq, BeginResp, EndResp}
 use Rattle.tlm_types.specs.declared.words.ReqMode.{ReqMode}
-use Rattle.tlm_types.specs.declared.words.ReqMode.TheVariants as Req
 use Rattle.tlm_types.specs.declared.words.TlmSync.{TlmSync}
 use Rattle.tlm_types.specs.declared.words.TlmSync.TheVariants.{Accepted}
 use Rattle.tlm_types.specs.declared.words.TxnId.{TxnId}
+use Rattle.tlm_types.specs.declared.words.ReqMode.TheVariants as Req
 use Rattle.tlm_model.specs.Requests.{requests_of}
 use Rattle.base_phases.specs.Sequences.{Call, IsBegun}
 use Rattle.flow_model.specs.World.{Passage, World, hop_at, hop_count, row_of}
@@ -17,10 +17,10 @@ use Rattle.flow_model.specs.Events.{Among, Event, Finds, IsCall}
 use Rattle.joined_traffic.proofs.ScriptLemmas.{made_for}
 use Rattle.begun_traffic.specs.Known.{HasFirstCalls}
 use Rattle.begun_traffic.proofs.CallCounts.{called_first, row_sequence}
-use Rattle.cargo_end.proofs.Arrival.{replied}
 use Rattle.cargo_model.specs.Called.{IsAnswerIn, IsReturned, ends_in, with_end}
 use Rattle.cargo_model.specs.Counts.{calls_down}
 use Rattle.cargo_model.proofs.Called.{sent_returned}
+use Rattle.cargo_end.proofs.Arrival.{replied}
 use Rattle.begun_end.specs.Cargos.{CoversHop, HopsAreCovered, IsGranted, IsRequested, MovesAreKnown, RepliesAreThere}
 
 -- BEGIN_REQ with an answer of its row begins a sequence

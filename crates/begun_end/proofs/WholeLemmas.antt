@@ -1,14 +1,13 @@
--- What all parts tell makes the history sound.
-use Rattle.std.proofs.Common.{◌≡◌, ℕ, zero, suc, ◌+◌, ◌<◌, List, [], ◌∷◌, length, Some, refl, ap, ◌∙◌, subst, inl, inr, arith}
+-- Where all parts tell of it, a run has begun.
 use Rattle.std.specs.Prelude.{slice_get}
+use Rattle.std.proofs.Common.{◌≡◌, ℕ, zero, suc, ◌+◌, ◌<◌, List, [], ◌∷◌, length, Some, refl, ap, ◌∙◌, subst, inl, inr, arith}
 use Rattle.tlm_model.specs.Plan.{Plan, Initiator, initiators_of}
 use Rattle.tlm_model.proofs.InitiatorLemmas.{initiator_from}
 use Rattle.flow_model.specs.Events.{Event}
 use Rattle.joined_traffic.proofs.JoinLemmas.{style_case}
 use Rattle.begun_traffic.specs.Begun.{HasSpent, HasStarted, HaveBegun, IsDriving, IsRunning}
 use Rattle.begun_traffic.specs.Told.{Told}
-use Rattle.begun_traffic.proofs.FinalLemmas.{begun_is_sound}
-use Rattle.begun_end.specs.Whole.{AllTell, PartsMakeSound}
+use Rattle.begun_end.specs.Whole.{AllTell, ToldHasBegun}
 
 -- there is an initiator for each number below their count
 at_number : (l : List Initiator) (k : ℕ) → k < length l → (i : Initiator) × (slice_get l k ≡ Some i)
@@ -40,7 +39,7 @@ module _ (p : Plan) (h : List Event) (t : Told) (all : AllTell p h t) where
   begun : HaveBegun p h t
   begun = record { objects = all.objects; initiators = started }
 
-pub parts_make_sound : PartsMakeSound
-parts_make_sound p h t free all grants =
+pub told_has_begun : ToldHasBegun
+told_has_begun p h t all =
     let run = begun p h t all in
-    begun_is_sound p h t free run (record { initiators = λ i at four. (all.ports i at four).asked run; no_ends = all.no_ends }) grants
+    record { begun = run; asked = record { initiators = λ i at four. (all.ports i at four).asked run; no_ends = all.no_ends } }

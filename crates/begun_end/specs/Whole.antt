@@ -3,12 +3,10 @@ use Rattle.std.specs.Prelude.{◌≡◌, List, None, Some, slice_get}
 use Rattle.tlm_types.specs.declared.words.TxnId.{TxnId}
 use Rattle.tlm_model.specs.declared.platform.Style.TheVariants.{FourPhase}
 use Rattle.tlm_model.specs.Plan.{Plan, Initiator, initiators_of}
-use Rattle.flow_model.specs.Events.{Event, entries}
+use Rattle.flow_model.specs.Events.{Event}
 use Rattle.flow_model.specs.Platform.{passage_of}
-use Rattle.flow_plan.specs.Valid.{HasNoCycle}
-use Rattle.grant_model.specs.Kept.{KeepsGrants}
-use Rattle.good_history.specs.Good.{IsSound}
 use Rattle.begun_traffic.specs.Begun.{HasSpent, HaveMade, IsRunning}
+use Rattle.begun_traffic.specs.Parts.{StandsAs}
 use Rattle.begun_traffic.specs.Told.{Told}
 use Rattle.begun_end.specs.Ports.{TellsOfRun}
 
@@ -24,6 +22,6 @@ pub record AllTell (p : Plan) (h : List Event) (t : Told) : Type 0 where
   pub others : (i : Initiator) → slice_get (initiators_of p) i.number ≡ Some i → (i.row.style ≡ FourPhase → ⊥) → TellsOfOwn p h t i
   pub no_ends : (x : TxnId) → passage_of p x ≡ None → t.ends x ≡ 0
 
--- So its history is sound, where the points of grants hold.
-abbrev pub PartsMakeSound : Type 0
-PartsMakeSound = (p : Plan) (h : List Event) (t : Told) → HasNoCycle p.platform → AllTell p h t → KeepsGrants p (entries h) → IsSound p (entries h)
+-- So the run has begun as the law of runs under way has it, and its history is sound.
+abbrev pub ToldHasBegun : Type 0
+ToldHasBegun = (p : Plan) (h : List Event) (t : Told) → AllTell p h t → StandsAs p h t

@@ -4,14 +4,14 @@
 //!   asks of a four-phase initiator.
 //! - `specs/Cargos`: what a travelling payload tells of the accesses: their calls on each hop with the tickets that are on the way,
 //!   their entries in the pool, and the entry at their memory.
-//! - `specs/Whole`: what objects, ports and the other initiators tell makes the history sound.
+//! - `specs/Whole`: where objects, ports and the other initiators tell of their parts, the run has begun as that law has it.
 //!
 //! Nothing here runs: each function carries a law.
 #![tactic(auto)]
 
 ghost use Rattle.begun_end.specs.Cargos.{HopsAreCovered, MovesAreKnown, RepliesAreThere};
 ghost use Rattle.begun_end.specs.Ports.{PortsTell};
-ghost use Rattle.begun_end.specs.Whole.{PartsMakeSound};
+ghost use Rattle.begun_end.specs.Whole.{ToldHasBegun};
 
 /// A four-phase initiator under way, wherever its script has come, tells what the law of runs under way asks of it.
 pub fn ports_tell()
@@ -34,7 +34,7 @@ pub fn replies_are_there()
     ensures { RepliesAreThere }
 {}
 
-/// The history of a run under way is sound, where the points of grants hold.
-pub fn parts_make_sound()
-    ensures { PartsMakeSound }
+/// Where objects and initiators tell of their parts, the run has begun as the law of runs under way has it, so its history is sound.
+pub fn told_runs_have_begun()
+    ensures { ToldHasBegun }
 {}

@@ -1,6 +1,6 @@
 -- By counting, no access is served twice, and none without a route.
-use Rattle.std.proofs.Common.{◌≡◌, ◌+◌, ◌<◌, Bool, true, false, ◌&&◌, List, [], ◌∷◌, ◌++◌, length, Option, Some, None, MatchOption, nat_eq, eq-eqb, refl, sym, ap, ◌∙◌, subst, inl, inr, arith}
 use Rattle.std.specs.Prelude.{slice_get}
+use Rattle.std.proofs.Common.{◌≡◌, ◌+◌, ◌<◌, Bool, true, false, ◌&&◌, List, [], ◌∷◌, ◌++◌, length, Option, Some, None, MatchOption, nat_eq, eq-eqb, refl, sym, ap, ◌∙◌, subst, inl, inr, arith}
 use Rattle.view_lists.specs.Lists.{Has}
 use Rattle.tlm_types.specs.declared.words.TxnId.{TxnId}
 use Rattle.tlm_types.specs.declared.entry.Entry.{Entry}
@@ -9,12 +9,12 @@ use Rattle.tlm_model.specs.History.{IsNumberedFrom}
 use Rattle.tlm_model.specs.Plan.{Plan, Initiator, initiators_of}
 use Rattle.tlm_model.specs.Requests.{Request, is_txn, requests_of}
 use Rattle.tlm_model.specs.Scripts.{IsInOrder, OfRequest, is_answer}
+use Rattle.tlm_model.proofs.InitiatorLemmas.{initiator_from}
 use Rattle.flow_model.specs.World.{Passage}
 use Rattle.flow_model.specs.Events.{Among, Event, Finds, IsAccess, entries}
 use Rattle.flow_model.specs.Platform.{passage_of}
 use Rattle.flow_law.proofs.Each.{each_from}
 use Rattle.flow_law.proofs.Splits.{among_self, among_whole}
-use Rattle.tlm_model.proofs.InitiatorLemmas.{initiator_from}
 use Rattle.joined_runs.specs.Counting.{IsRising}
 use Rattle.joined_traffic.proofs.AccessLemmas.{entry_among, has_answer_of, split_later}
 use Rattle.joined_traffic.proofs.MemoryLemmas.{among_has, has_among}

@@ -1,7 +1,8 @@
 -- Calls that begin one of the eleven sequences: they differ, and one of them at most is a BEGIN_REQ. Where a log has no more calls of a
 -- transaction than these, it begins once at most.
-use Rattle.std.proofs.Common.{◌≡◌, ◌≢◌, ℕ, zero, suc, ◌+◌, ◌≤◌, Bool, true, false, cond, List, [], ◌∷◌, ◌++◌, length, Some, refl, ap, sym, ◌∙◌, subst, inl, inr, arith, ◌⊎◌, length-append}
 use Rattle.std.specs.Prelude.{AllPairs, count_by, slice_get, sum_by}
+use Rattle.std.specs.List.{AllByRecursion}
+use Rattle.std.proofs.Common.{◌≡◌, ◌≢◌, ℕ, zero, suc, ◌+◌, ◌≤◌, Bool, true, false, cond, List, [], ◌∷◌, ◌++◌, length, Some, refl, ap, sym, ◌∙◌, subst, inl, inr, arith, ◌⊎◌, length-append}
 use Rattle.std.proofs.lemmas.List.{append-nil}
 use Rattle.std.proofs.lemmas.List.Sums.{sum_by-cons}
 use Rattle.tlm_types.specs.declared.words.Phase.{Phase}
@@ -11,26 +12,25 @@ use Rattle.tlm_types.specs.declared.words.TxnId.{TxnId}
 use Rattle.tlm_types.specs.declared.entry.Entry.{Entry}
 use Rattle.tlm_types.specs.declared.entry.What.{What}
 use Rattle.tlm_types.specs.declared.entry.What.TheVariants.{Call as Called}
+use Rattle.tlm_types.specs.declared.words.ReqMode.{ReqMode}
+use Rattle.tlm_types.specs.declared.words.RespMode.{RespMode}
+use Rattle.tlm_types.specs.declared.words.ReqMode.TheVariants as Req
+use Rattle.tlm_types.specs.declared.words.RespMode.TheVariants as Resp
 use Rattle.base_phases.specs.Sequences.{Call, IsBegun, IsSequence, sequences}
 use Rattle.base_phases.specs.Walks.{is_begin}
 use Rattle.base_phases.proofs.WalkLemmas.{begins-append, begins-cons}
 use Rattle.hop_model.specs.Calls.{calls_in, calls_of, is_of}
 use Rattle.hop_model.specs.Protocol.{BeginsOnce}
+use Rattle.hop_model.specs.Table.{sequences_of}
 use Rattle.flow_model.specs.Events.{Among, Event, hop_log}
+use Rattle.flow_model.specs.World.{Passage, World, hop_at, row_of}
+use Rattle.flow_model.specs.Called.{HasCalled}
 use Rattle.flow_law.specs.Counting.{AllKnown, HasSequence, own_count}
 use Rattle.flow_law.proofs.Forms.{AllDiffer}
 use Rattle.flow_law.proofs.OtherLaws.{counting_law}
 use Rattle.joined_traffic.proofs.HopEnds.{call_in}
-use Rattle.begun_traffic.proofs.Totals.{dec_among}
 use Rattle.begun_traffic.specs.Known.{HasFirstCalls}
-use Rattle.std.specs.List.{AllByRecursion}
-use Rattle.flow_model.specs.World.{Passage, World, hop_at, row_of}
-use Rattle.flow_model.specs.Called.{HasCalled}
-use Rattle.hop_model.specs.Table.{sequences_of}
-use Rattle.tlm_types.specs.declared.words.ReqMode.{ReqMode}
-use Rattle.tlm_types.specs.declared.words.ReqMode.TheVariants as Req
-use Rattle.tlm_types.specs.declared.words.RespMode.{RespMode}
-use Rattle.tlm_types.specs.declared.words.RespMode.TheVariants as Resp
+use Rattle.begun_traffic.proofs.Totals.{dec_among}
 
 -- the place of a phase in a sequence
 rank : Phase → ℕ

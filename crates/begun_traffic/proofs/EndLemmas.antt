@@ -1,12 +1,14 @@
 -- A run has begun before its first entry, and when it has ended.
-use Rattle.std.proofs.Common.{◌≡◌, ℕ, zero, suc, ◌+◌, ◌*◌, ◌<◌, List, [], ◌∷◌, length, Option, Some, None, refl, ap, subst, inl, inr, arith}
 use Rattle.std.specs.Prelude.{slice_get}
+use Rattle.std.proofs.Common.{◌≡◌, ℕ, zero, suc, ◌+◌, ◌*◌, ◌<◌, List, [], ◌∷◌, length, Option, Some, None, refl, ap, subst, inl, inr, arith}
 use Rattle.view_lists.proofs.Members.{has_none}
 use Rattle.tlm_types.specs.declared.words.ObjectNo.{ObjectNo}
 use Rattle.tlm_types.specs.declared.words.ObjectNo.TheVariants.{Memory, Hop, Pool}
 use Rattle.tlm_types.specs.declared.words.TxnId.{TxnId}
 use Rattle.tlm_types.specs.declared.entry.Entry.{Entry}
+use Rattle.tlm_model.specs.declared.platform.MemoryRow.{MemoryRow}
 use Rattle.tlm_model.specs.Plan.{Plan, Initiator, initiators_of}
+use Rattle.hop_model.specs.Board.{start}
 use Rattle.flow_model.specs.World.{Passage, hop_at, hop_count}
 use Rattle.flow_model.specs.Events.{Among, Event, Finds, IsAcquire, IsReleased, IsTake, at}
 use Rattle.flow_model.specs.Platform.{passage_of, world_of}
@@ -15,6 +17,7 @@ use Rattle.flow_law.proofs.Lives.{AcquireOf, ReleaseOf}
 use Rattle.flow_law.proofs.Splits.{from_at}
 use Rattle.flow_plan.specs.Valid.{HasNoCycle}
 use Rattle.flow_plan.proofs.Ways.{world_law}
+use Rattle.joined_runs.specs.Joined.{IsLogOf}
 use Rattle.route_plan.specs.Counted.{share_at}
 use Rattle.joined_traffic.specs.Accesses.{numbers_by, pool_entries, sum_below, txn_of}
 use Rattle.joined_traffic.specs.Driven.{IsDriven, spent_at}
@@ -22,6 +25,7 @@ use Rattle.joined_traffic.specs.Ended.{HasFinished, HaveEnded}
 use Rattle.joined_traffic.specs.Issued.{HaveIssued}
 use Rattle.joined_traffic.proofs.DrivenLemmas.{HasReference, ended_at, own_released, reference}
 use Rattle.joined_traffic.proofs.MemoryLemmas.{has_among}
+use Rattle.joined_traffic.proofs.JoinLemmas.{style_case}
 use Rattle.begun_traffic.specs.Asked.{HaveAsked}
 use Rattle.begun_traffic.specs.Begun.{HasMade, HasStarted, HaveBegun}
 use Rattle.begun_traffic.specs.Known.{IsUnderWay}
@@ -29,10 +33,6 @@ use Rattle.begun_traffic.specs.Parts.{EndedHasBegun, NothingHasBegun, told_all, 
 use Rattle.begun_traffic.specs.Told.{Told, known_at, left_at}
 use Rattle.begun_traffic.proofs.PoolLemmas.{below, below_distinct, below_length, below_less}
 use Rattle.begun_traffic.proofs.Totals.{shares}
-use Rattle.tlm_model.specs.declared.platform.MemoryRow.{MemoryRow}
-use Rattle.hop_model.specs.Board.{start}
-use Rattle.joined_runs.specs.Joined.{IsLogOf}
-use Rattle.joined_traffic.proofs.JoinLemmas.{style_case}
 
 no_sum : (n : ℕ) → sum_below (λ s. 0) n ≡ 0
 no_sum zero = refl

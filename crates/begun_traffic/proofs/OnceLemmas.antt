@@ -1,6 +1,6 @@
 -- By counting, no access begins twice on a hop.
-use Rattle.std.proofs.Common.{◌≡◌, ℕ, ◌<◌, List, length, Option, Some, None, true, refl, ap, sym, ◌∙◌, subst, inl, inr, arith}
 use Rattle.std.specs.Prelude.{sum_by}
+use Rattle.std.proofs.Common.{◌≡◌, ℕ, ◌<◌, List, length, Option, Some, None, true, refl, ap, sym, ◌∙◌, subst, inl, inr, arith}
 use Rattle.tlm_types.specs.declared.words.ObjectNo.TheVariants.{Hop}
 use Rattle.tlm_types.specs.declared.words.TxnId.{TxnId}
 use Rattle.tlm_model.specs.Plan.{Plan, Initiator, initiators_of}

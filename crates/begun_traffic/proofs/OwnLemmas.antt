@@ -1,6 +1,6 @@
 -- The own entries of a four-phase initiator run its script.
-use Rattle.std.proofs.Common.{◌≡◌, ℕ, ◌<◌, Bool, true, false, not, ◌||◌, is_none, IsSome, List, [], ◌∷◌, ◌++◌, length, Option, Some, None, nat_eq, eq-eqb, refl, sym, ap, ◌∙◌, subst, inl, inr, arith}
 use Rattle.std.specs.Prelude.{IsTrue, slice_get}
+use Rattle.std.proofs.Common.{◌≡◌, ℕ, ◌<◌, Bool, true, false, not, ◌||◌, is_none, IsSome, List, [], ◌∷◌, ◌++◌, length, Option, Some, None, nat_eq, eq-eqb, refl, sym, ap, ◌∙◌, subst, inl, inr, arith}
 use Rattle.std.proofs.lemmas.Bool.{eqb-true}
 use Rattle.std.proofs.lemmas.Option.{slice_get_within}
 use Rattle.view_lists.specs.Lists.{Has}

@@ -1,12 +1,13 @@
 -- The times at which initiators issue their requests are those of the history before.
-use Rattle.std.proofs.Common.{◌≡◌, ℕ, ◌+◌, ◌<◌, ◌≤◌, List, ◌∷◌, ◌++◌, Option, Some, None, refl, sym, ap, ◌∙◌, subst, arith, get_or}
 use Rattle.std.specs.Prelude.{slice_get}
+use Rattle.std.proofs.Common.{◌≡◌, ℕ, ◌+◌, ◌<◌, ◌≤◌, List, ◌∷◌, ◌++◌, Option, Some, None, refl, sym, ap, ◌∙◌, subst, arith, get_or}
 use Rattle.tlm_types.specs.declared.words.ObjectNo.TheVariants.{Pool}
 use Rattle.tlm_types.specs.declared.words.TxnId.{TxnId}
 use Rattle.tlm_model.specs.Each.{AtEach}
 use Rattle.tlm_model.specs.History.{IsNumberedFrom}
 use Rattle.tlm_model.specs.Plan.{Plan, Initiator, initiators_of}
 use Rattle.tlm_model.specs.Requests.{Request, requests_of}
+use Rattle.tlm_model.proofs.InitiatorLemmas.{initiator_from}
 use Rattle.flow_model.specs.World.{Passage, hop_at, hop_count}
 use Rattle.flow_model.specs.Ends.{end_by}
 use Rattle.flow_model.specs.Events.{Among, Event, Finds, IsTake, IsTakeOf, at, entries}
@@ -21,7 +22,6 @@ use Rattle.flow_law.proofs.More.{end_more}
 use Rattle.flow_law.proofs.Once.{once_same}
 use Rattle.flow_law.proofs.Reading.{backed_call}
 use Rattle.flow_law.proofs.Splits.{among_at, among_self, among_split}
-use Rattle.tlm_model.proofs.InitiatorLemmas.{initiator_from}
 use Rattle.joined_traffic.specs.Accesses.{txn_of}
 use Rattle.joined_traffic.specs.Issued.{Before, EndsBefore, HasWaited, issued_at}
 use Rattle.joined_traffic.proofs.BeginningLemmas.{end_there, front}

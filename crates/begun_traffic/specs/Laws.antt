@@ -1,7 +1,11 @@
 -- Laws of runs under way.
-use Rattle.std.specs.Prelude.{List}
+use Rattle.std.specs.Prelude.{ℕ, ◌≡◌, List, Some, slice_get}
+use Rattle.view_lists.specs.Lists.{Has}
+use Rattle.tlm_types.specs.declared.entry.Entry.{Entry}
+use Rattle.tlm_types.specs.declared.words.ObjectNo.TheVariants.{Memory}
+use Rattle.tlm_model.specs.declared.platform.Style.TheVariants.{FourPhase}
 use Rattle.tlm_model.specs.Kept.{KeepsRequests}
-use Rattle.tlm_model.specs.Plan.{Plan}
+use Rattle.tlm_model.specs.Plan.{Plan, Initiator, initiators_of}
 use Rattle.flow_model.specs.Events.{Event, entries}
 use Rattle.flow_model.specs.Platform.{world_of}
 use Rattle.flow_model.specs.Traffic.{slots_of}
@@ -9,7 +13,10 @@ use Rattle.flow_law.specs.Law.{Premises}
 use Rattle.flow_plan.specs.Plans.{KeepsTraffic}
 use Rattle.flow_plan.specs.Valid.{HasNoCycle}
 use Rattle.grant_model.specs.Kept.{KeepsGrants}
+use Rattle.grant_model.specs.Laws.{HasNoDirect, HasNoInvalidation}
 use Rattle.good_history.specs.Good.{IsSound}
+use Rattle.joined_runs.specs.Own.{own}
+use Rattle.joined_grants.specs.Parts.{HasGrantParts}
 use Rattle.begun_traffic.specs.Asked.{HaveAsked}
 use Rattle.begun_traffic.specs.Begun.{HaveBegun}
 use Rattle.begun_traffic.specs.Told.{Told}
@@ -29,3 +36,18 @@ BegunHasRequests = (p : Plan) (h : List Event) (t : Told) → HasNoCycle p.platf
 -- And with the points of grants it is sound.
 abbrev pub BegunIsSound : Type 0
 BegunIsSound = (p : Plan) (h : List Event) (t : Told) → HasNoCycle p.platform → HaveBegun p h t → HaveAsked p h t → KeepsGrants p (entries h) → IsSound p (entries h)
+
+-- It has them where each initiator, each memory and the gates keep their parts of it, and where no initiator is direct and no script invalidates.
+abbrev pub BegunHasGrants : Type 0
+BegunHasGrants = (p : Plan) (h : List Event) (t : Told) → HasNoCycle p.platform → HaveBegun p h t → HaveAsked p h t → HasGrantParts p (entries h) → KeepsGrants p (entries h)
+
+abbrev pub UngrantedHasGrants : Type 0
+UngrantedHasGrants = (p : Plan) (h : List Event) (t : Told) → HasNoDirect p → HasNoInvalidation p → HasNoCycle p.platform → HaveBegun p h t → HaveAsked p h t → KeepsGrants p (entries h)
+
+-- Each entry at a memory is known of its initiator. The known entries of one that isn't four-phase are its own entries of the history.
+pub record OwnIsKnown (p : Plan) (h : List Event) (t : Told) : Type 0 where
+  pub there : (m : ℕ) (e : Entry) → Has (entries h) e → e.object ≡ Memory m → Has (t.mine e.txn.initiator) e
+  pub others : (i : Initiator) → slice_get (initiators_of p) i.number ≡ Some i → (i.row.style ≡ FourPhase → ⊥) → own i.number (entries h) ≡ t.mine i.number
+
+abbrev pub BegunIsKnown : Type 0
+BegunIsKnown = (p : Plan) (h : List Event) (t : Told) → HasNoCycle p.platform → HaveBegun p h t → HaveAsked p h t → OwnIsKnown p h t

@@ -7,12 +7,12 @@
 //! - `specs/Told` has these numbers, `specs/Known` says what is known of an access as far as it has come, `specs/Begun` what
 //!   stands of the run, `specs/Asked` which requests were issued, when, and what was waited for.
 //! - `specs/Laws` has the laws: the premises of the law of four-phase traffic, its points, those of requests, and that the history
-//!   is sound.
+//!   is sound. `specs/Parts` says how parts supply what they ask for, and that they hold before the first entry and at the end.
 //!
 //! Nothing here runs: each function carries a law.
 #![tactic(auto)]
 
-ghost use Rattle.begun_traffic.specs.Laws.{BegunHasPremises, BegunHasRequests, BegunHasTraffic, BegunIsSound};
+ghost use Rattle.begun_traffic.specs.Laws.{BegunHasGrants, BegunHasPremises, BegunHasRequests, BegunHasTraffic, BegunIsKnown, BegunIsSound, UngrantedHasGrants};
 ghost use Rattle.begun_traffic.specs.Parts.{OwedCallsAreFirst, ChargedIsSpent, EndedHasBegun, NothingHasBegun, OpenedIsOwed, ReleasedCallsAreWhole, RepliesAreOwn};
 
 /// What has begun has the premises of the law of four-phase traffic, for the times at which the initiators issued their
@@ -34,6 +34,18 @@ pub fn begun_runs_have_requests()
 /// A run under way has a sound history, where initiators of all styles run side by side and the points of grants hold.
 pub fn begun_runs_are_sound()
     ensures { BegunIsSound }
+{}
+
+/// Its points of grants hold where each initiator, each memory and the gates keep their parts of them, and where there are no direct
+/// initiators and no invalidations.
+pub fn begun_runs_have_grants()
+    ensures parts { BegunHasGrants }
+    ensures ungranted { UngrantedHasGrants }
+{}
+
+/// Each entry at a memory is known of its initiator, and the own entries of one that isn't four-phase are all known.
+pub fn begun_runs_are_known()
+    ensures { BegunIsKnown }
 {}
 
 /// Every run has begun, before its first entry: nothing is known, and each initiator has its whole share. A run that has ended has begun
