@@ -3,3 +3,4 @@ pub mod ChargeLemmas
 pub mod PortLemmas
 pub mod CargoLemmas
 pub mod WholeLemmas
+pub mod ObjectLemmas

@@ -1,3 +1,4 @@
 pub mod Ports
 pub mod Cargos
+pub mod Objects
 pub mod Whole

@@ -4,12 +4,14 @@
 //!   asks of a four-phase initiator.
 //! - `specs/Cargos`: what a travelling payload tells of the accesses: their calls on each hop with the tickets that are on the way,
 //!   their entries in the pool, and the entry at their memory.
+//! - `specs/Objects`: what hops, pools and memories tell that are taken apart, wherever the run has come.
 //! - `specs/Whole`: where objects, ports and the other initiators tell of their parts, the run has begun as that law has it.
 //!
 //! Nothing here runs: each function carries a law.
 #![tactic(auto)]
 
 ghost use Rattle.begun_end.specs.Cargos.{HopsAreCovered, MovesAreKnown, RepliesAreThere};
+ghost use Rattle.begun_end.specs.Objects.{ObjectsTell};
 ghost use Rattle.begun_end.specs.Ports.{PortsTell};
 ghost use Rattle.begun_end.specs.Whole.{ToldHasBegun};
 
@@ -32,6 +34,12 @@ pub fn moves_are_known()
 /// A payload on its way up has its entry at the memory.
 pub fn replies_are_there()
     ensures { RepliesAreThere }
+{}
+
+/// The objects of a net that is taken apart have made the log of its closed history, less the tickets that were handed back, also where
+/// slots of pools are live and lanes of hops are in use.
+pub fn objects_tell()
+    ensures { ObjectsTell }
 {}
 
 /// Where objects and initiators tell of their parts, the run has begun as the law of runs under way has it, so its history is sound.
