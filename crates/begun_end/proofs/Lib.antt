@@ -4,3 +4,4 @@ pub mod PortLemmas
 pub mod CargoLemmas
 pub mod WholeLemmas
 pub mod ObjectLemmas
+pub mod RunLemmas

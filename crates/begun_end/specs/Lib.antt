@@ -1,4 +1,5 @@
 pub mod Ports
+pub mod Runs
 pub mod Cargos
 pub mod Objects
 pub mod Whole

@@ -5,15 +5,11 @@ use Rattle.tlm_model.specs.declared.platform.Style.TheVariants.{FourPhase}
 use Rattle.tlm_model.specs.Plan.{Plan, Initiator, initiators_of}
 use Rattle.flow_model.specs.Events.{Event}
 use Rattle.flow_model.specs.Platform.{passage_of}
-use Rattle.begun_traffic.specs.Begun.{HasSpent, HaveMade, IsRunning}
+use Rattle.begun_traffic.specs.Begun.{HaveMade}
 use Rattle.begun_traffic.specs.Parts.{StandsAs}
 use Rattle.begun_traffic.specs.Told.{Told}
 use Rattle.begun_end.specs.Ports.{TellsOfRun}
-
--- what an initiator of another style tells: its own entries, and the tickets that it has left
-pub record TellsOfOwn (p : Plan) (h : List Event) (t : Told) (i : Initiator) : Type 0 where
-  pub spent : HasSpent p h t i.number
-  pub running : IsRunning p (t.mine i.number)
+use Rattle.begun_end.specs.Runs.{TellsOfOwn}
 
 -- objects have made their logs, and each initiator tells of its part; requests that are no accesses have no end
 pub record AllTell (p : Plan) (h : List Event) (t : Told) : Type 0 where

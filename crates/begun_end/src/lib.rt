@@ -2,6 +2,7 @@
 //!
 //! - `specs/Ports`: a port under way, with what is told of the accesses that it has taken, tells what the law of runs under way
 //!   asks of a four-phase initiator.
+//! - `specs/Runs`: so does a blocking or direct initiator with its own entries.
 //! - `specs/Cargos`: what a travelling payload tells of the accesses: their calls on each hop with the tickets that are on the way,
 //!   their entries in the pool, and the entry at their memory.
 //! - `specs/Objects`: what hops, pools and memories tell that are taken apart, wherever the run has come.
@@ -13,11 +14,17 @@
 ghost use Rattle.begun_end.specs.Cargos.{HopsAreCovered, MovesAreKnown, RepliesAreThere};
 ghost use Rattle.begun_end.specs.Objects.{ObjectsTell};
 ghost use Rattle.begun_end.specs.Ports.{PortsTell};
+ghost use Rattle.begun_end.specs.Runs.{RunsTell};
 ghost use Rattle.begun_end.specs.Whole.{ToldHasBegun};
 
 /// A four-phase initiator under way, wherever its script has come, tells what the law of runs under way asks of it.
 pub fn ports_tell()
     ensures { PortsTell }
+{}
+
+/// So does a blocking or direct one, with its own entries and the tickets that it has left.
+pub fn runs_tell()
+    ensures { RunsTell }
 {}
 
 /// On each hop of an access the calls that are known are four with the tickets that are on the way: of its payload, or of a component
