@@ -167,7 +167,7 @@ at_number [] k less = absurd (omega arith)
 at_number (i ∷ l) zero less = (i, refl)
 at_number (i ∷ l) (suc k) less = at_number l k (omega arith)
 
-empty_logs : (o : Option MemoryRow) → IsLogOf o []
+pub empty_logs : (o : Option MemoryRow) → IsLogOf o []
 empty_logs None = refl
 empty_logs (Some row) = tt
 

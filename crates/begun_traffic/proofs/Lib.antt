@@ -15,3 +15,4 @@ pub mod PoolOwed
 pub mod ReplyLemmas
 pub mod PartLemmas
 pub mod EndLemmas
+pub mod WorkedLemmas

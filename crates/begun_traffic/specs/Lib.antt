@@ -4,3 +4,4 @@ pub mod Begun
 pub mod Asked
 pub mod Laws
 pub mod Parts
+pub mod Worked

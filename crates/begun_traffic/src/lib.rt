@@ -7,13 +7,15 @@
 //! - `specs/Told` has these numbers, `specs/Known` says what is known of an access as far as it has come, `specs/Begun` what
 //!   stands of the run, `specs/Asked` which requests were issued, when, and what was waited for.
 //! - `specs/Laws` has the laws: the premises of the law of four-phase traffic, its points, those of requests, and that the history
-//!   is sound. `specs/Parts` says how parts supply what they ask for, and that they hold before the first entry and at the end.
+//!   is sound. `specs/Parts` says how parts supply what they ask for, and that they hold before the first entry and at the end,
+//!   and `specs/Worked` has a run by hand in between.
 //!
 //! Nothing here runs: each function carries a law.
 #![tactic(auto)]
 
 ghost use Rattle.begun_traffic.specs.Laws.{BegunHasGrants, BegunHasPremises, BegunHasRequests, BegunHasTraffic, BegunIsKnown, BegunIsSound, UngrantedHasGrants};
 ghost use Rattle.begun_traffic.specs.Parts.{OwedCallsAreFirst, ChargedIsSpent, EndedHasBegun, NothingHasBegun, OpenedIsOwed, ReleasedCallsAreWhole, RepliesAreOwn};
+ghost use Rattle.begun_traffic.specs.Worked.{TakenHasBegun};
 
 /// What has begun has the premises of the law of four-phase traffic, for the times at which the initiators issued their
 /// accesses.
@@ -53,6 +55,11 @@ pub fn begun_runs_are_known()
 pub fn runs_begin_and_end()
     ensures beginning { NothingHasBegun }
     ensures end { EndedHasBegun }
+{}
+
+/// A run made by hand that has one access under way has begun.
+pub fn a_taken_access_has_begun()
+    ensures { TakenHasBegun }
 {}
 
 /// What is known of the calls of an access on a hop: where END_RESP is owed, the others begin the sequence; where its reference there is
