@@ -58,18 +58,17 @@ pub fn library(
     MapLibrary::new(named, failing)
 }
 
-/// A call with these words over a library. These writes of the report fail.
-pub fn call<R: AllocGlobal + Threads + Wait + Abort + Sync, P: Pace + Sync>(
+/// A call with these words over a library and two sinks.
+pub fn call_over<R: AllocGlobal + Threads + Wait + Abort + Sync, P: Pace + Sync>(
     rt: &R,
     words: &str,
     mut lib: MapLibrary,
-    failing: Vec<FailingWrite>,
+    mut out: VecSink,
+    mut diag: VecSink,
     pace: &P,
 ) -> Came {
     let alloc = rt.alloc();
     let words = words_of(rt, alloc, words);
-    let mut out = VecSink::new(alloc, failing);
-    let mut diag = VecSink::new(alloc, Vec::new(alloc));
     let exit = run(rt, alloc, &words, &mut lib, &mut out, &mut diag, pace);
     Came {
         number: exit.number(),
@@ -77,6 +76,20 @@ pub fn call<R: AllocGlobal + Threads + Wait + Abort + Sync, P: Pace + Sync>(
         out,
         diag,
     }
+}
+
+/// The same, where these writes of the report fail, and none of the line.
+pub fn call<R: AllocGlobal + Threads + Wait + Abort + Sync, P: Pace + Sync>(
+    rt: &R,
+    words: &str,
+    lib: MapLibrary,
+    failing: Vec<FailingWrite>,
+    pace: &P,
+) -> Came {
+    let alloc = rt.alloc();
+    let out = VecSink::new(alloc, failing);
+    let diag = VecSink::new(alloc, Vec::new(alloc));
+    call_over(rt, words, lib, out, diag, pace)
 }
 
 /// The same, where nothing fails and nobody is held.
@@ -89,11 +102,30 @@ pub fn calm<R: AllocGlobal + Threads + Wait + Abort + Sync>(
     call(rt, words, lib, Vec::new(rt.alloc()), &NoPace)
 }
 
+/// A sink whose write of this number fails after it took some bytes.
+pub fn failing_sink(rt: &impl Abort, alloc: Global, write: u64, takes: usize) -> VecSink {
+    let failing = vec![in alloc; FailingWrite { write, takes }].expect(rt, "room");
+    VecSink::new(alloc, failing)
+}
+
 /// What came is this number, this report and this line.
 pub fn check(rt: &impl Abort, came: &Came, number: u8, out: &str, diag: &str) {
     assert!(rt; came.number == number, "not the answer {number}: {diag}");
     assert!(rt; came.out.bytes() == out.as_bytes());
     assert!(rt; came.diag.bytes() == diag.as_bytes());
+}
+
+/// Where the load of this number fails, the answer has this line, and nothing is loaded after it.
+pub fn fails_at_load<R: AllocGlobal + Threads + Wait + Abort + Sync>(
+    rt: &R,
+    files: &[(&str, &str)],
+    load: u64,
+    line: &str,
+) {
+    let lib = library(rt, rt.alloc(), files, &[load]);
+    let came = call(rt, "run p.toml", lib, Vec::new(rt.alloc()), &NoPace);
+    check(rt, &came, 4, "", line);
+    assert!(rt; came.loads == load.saturating_add(1));
 }
 
 /// Where nothing fails, this number, this report and this line come of these words. The result is how many

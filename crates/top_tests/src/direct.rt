@@ -42,6 +42,7 @@ fn accesses_go_by_a_grant(rt: HostRuntime) {
     answer(&rt, "run p.toml --workers 4", &files, 0, BUS_REPORT, "");
 }
 
+/// A direct initiator on a memory that gives two grants.
 const LONE: &str = "version = 1
 [[initiator]]
 name = 'd'
@@ -55,7 +56,17 @@ latency = 10
 gates = 2
 ";
 
-const LONE_REPORT: &str = "tlm-report 1
+/// Its script, of two grants with an invalidation between them, as a file beside the platform's.
+pub static LONE_FILES: [(&str, &str); 2] = [
+    ("p.toml", LONE),
+    (
+        "d.txt",
+        "write 0x0 aa\nread 0x0 1\ninvalidate 0x80 0x80\nread 0x0 1\nread 0x0 1\n",
+    ),
+];
+
+/// The report of its run.
+pub const LONE_REPORT: &str = "tlm-report 1
 0 0 d.0 ram blocking write 0x0 1 be=- sw=1 aa ok
 1 10 d.0 ram granted 0 0x0-0xff both
 2 10 d.1 ram direct:0 read 0x0 1 be=- sw=1 aa ok
@@ -73,10 +84,10 @@ end 8
 // An invalidation ends a grant that it overlaps, which is then found stale.
 #[test]
 fn an_invalidation_ends_a_grant(rt: HostRuntime) {
-    let script = "write 0x0 aa\nread 0x0 1\ninvalidate 0x80 0x80\nread 0x0 1\nread 0x0 1\n";
-    let files = [("p.toml", LONE), ("d.txt", script)];
-    answer(&rt, "run p.toml --workers 1", &files, 0, LONE_REPORT, "");
-    answer(&rt, "run p.toml --workers 4", &files, 0, LONE_REPORT, "");
+    let words = "run p.toml --workers 1";
+    answer(&rt, words, &LONE_FILES, 0, LONE_REPORT, "");
+    let words = "run p.toml --workers 4";
+    answer(&rt, words, &LONE_FILES, 0, LONE_REPORT, "");
 }
 
 /// A direct initiator on a memory that has no grants, and on one that has one, of reads alone.

@@ -1,11 +1,18 @@
 // Words, loads and writes that fail.
-use crate::bench::{answer, call, check, library};
-use outside::{FailingWrite, NoPace};
+use crate::bench::{
+    Came, answer, call, call_over, calm, check, failing_sink, fails_at_load, library,
+};
+use crate::direct::{LONE_FILES, LONE_REPORT};
+use outside::{FailingWrite, NoPace, VecSink};
 use std::process::Abort;
 use std::sync::Wait;
 use std::thread::Threads;
 
-static FILES: [(&str, &str); 1] = [("a.txt", "write 0x10 deadbeef\nread 0x10 4\n")];
+static FILES: [(&str, &str); 3] = [
+    ("a.txt", "write 0x10 deadbeef\nread 0x10 4\n"),
+    ("b.txt", "syncs\n"),
+    ("q.toml", ""),
+];
 
 const USAGE: &str =
     "usage: tlmrun run FILE [--workers N] [--trace all|accesses|none]; tlmrun gen SEED [--workers N]; tlmrun script FILE\n";
@@ -33,6 +40,13 @@ fn loads_may_fail(rt: HostRuntime) {
     check(&rt, &came, 4, "", "read fault: a.txt\n");
 }
 
+// The platform of a direct initiator, and then its script.
+#[test]
+fn each_load_may_fail(rt: HostRuntime) {
+    fails_at_load(&rt, &LONE_FILES, 0, "read fault: p.toml\n");
+    fails_at_load(&rt, &LONE_FILES, 1, "read fault: d.txt\n");
+}
+
 #[test]
 fn writes_may_fail(rt: HostRuntime) {
     let third = FailingWrite { write: 2, takes: 0 };
@@ -41,6 +55,128 @@ fn writes_may_fail(rt: HostRuntime) {
     let came = call(&rt, "script a.txt", lib, failing, &NoPace);
     let lines = "tlm-report 1\n0 0 cpu.0 ram blocking write 0x10 4 be=- sw=4 deadbeef ok\n";
     check(&rt, &came, 5, lines, "write fault\n");
+}
+
+// A run of the direct initiator over these two sinks.
+fn run_lone<R: AllocGlobal + Threads + Wait + Abort + Sync>(
+    rt: &R,
+    out: VecSink,
+    diag: VecSink,
+) -> Came {
+    let lib = library(rt, rt.alloc(), &LONE_FILES, &[]);
+    call_over(rt, "run p.toml", lib, out, diag, &NoPace)
+}
+
+// Where the write of this number fails after it took some bytes, just these bytes of the report are taken.
+fn expect_prefix<R: AllocGlobal + Threads + Wait + Abort + Sync>(
+    rt: &R,
+    write: u64,
+    takes: usize,
+    taken: usize,
+) {
+    let out = failing_sink(rt, rt.alloc(), write, takes);
+    let came = run_lone(rt, out, VecSink::new(rt.alloc(), Vec::new(rt.alloc())));
+    let prefix = LONE_REPORT.get(..taken).expect(rt, "a prefix");
+    check(rt, &came, 5, prefix, "write fault\n");
+}
+
+// Each line of the report is written in one piece. Its write fails before its first byte, after it, and
+// before its last byte, which ends the line.
+#[test]
+fn each_write_may_fail(rt: HostRuntime) {
+    let mut before = 0usize;
+    for (number, line) in LONE_REPORT.lines().enumerate() {
+        for &takes in &[0, 1, line.len()] {
+            expect_prefix(&rt, number as u64, takes, before.saturating_add(takes));
+        }
+        before = before.saturating_add(line.len()).saturating_add(1);
+    }
+    assert!(rt; before == LONE_REPORT.len());
+}
+
+// There are as many writes as lines.
+#[test]
+fn a_report_is_written_line_by_line(rt: HostRuntime) {
+    let came = calm(&rt, "run p.toml", &LONE_FILES);
+    check(&rt, &came, 0, LONE_REPORT, "");
+    assert!(rt; came.out.writes() == LONE_REPORT.lines().count() as u64);
+}
+
+// Words, the number of their answer, and its line.
+static LINES: [(&str, u8, &str); 5] = [
+    ("", 1, USAGE),
+    (
+        "run q.toml",
+        2,
+        "platform refused: missing_key platform version\n",
+    ),
+    (
+        "script b.txt",
+        3,
+        "script refused: cpu line 1: unknown_operation\n",
+    ),
+    ("run none", 4, "read fault: none\n"),
+    ("script none", 4, "read fault: none\n"),
+];
+
+// What came is this number and nothing of a report, and the line is cut short.
+fn check_cut(rt: &impl Abort, came: &Came, number: u8, line: &str) {
+    assert!(rt; came.number == number, "not the answer {number}: {line}");
+    assert!(rt; came.out.bytes().is_empty());
+    let taken = came.diag.bytes();
+    assert!(rt; taken.len() < line.len() && line.as_bytes().starts_with(taken));
+    assert!(rt; came.diag.faults() == 1);
+}
+
+// Where a write of the line fails, the answer is still this one.
+fn expect_cut<R: AllocGlobal + Threads + Wait + Abort + Sync>(
+    rt: &R,
+    words: &str,
+    number: u8,
+    line: &str,
+    takes: usize,
+) {
+    let alloc = rt.alloc();
+    let lib = library(rt, alloc, &FILES, &[]);
+    let out = VecSink::new(alloc, Vec::new(alloc));
+    let diag = failing_sink(rt, alloc, 0, takes);
+    let came = call_over(rt, words, lib, out, diag, &NoPace);
+    check_cut(rt, &came, number, line);
+    assert!(rt; came.diag.bytes().len() == takes);
+}
+
+#[test]
+fn a_lost_line_changes_no_answer(rt: HostRuntime) {
+    for &(words, number, line) in &LINES {
+        expect_cut(&rt, words, number, line, 0);
+        expect_cut(&rt, words, number, line, 1);
+    }
+}
+
+// A report that is cut short, and then its line too: that is still a write fault.
+fn expect_both_cut<R: AllocGlobal + Threads + Wait + Abort + Sync>(rt: &R, takes: usize) {
+    let alloc = rt.alloc();
+    let out = failing_sink(rt, alloc, 0, 0);
+    let came = run_lone(rt, out, failing_sink(rt, alloc, 0, takes));
+    check_cut(rt, &came, 5, "write fault\n");
+    assert!(rt; came.diag.bytes().len() == takes);
+}
+
+#[test]
+fn a_lost_line_changes_no_write_fault(rt: HostRuntime) {
+    for &takes in &[0, 1, 11] {
+        expect_both_cut(&rt, takes);
+    }
+}
+
+// A second sink that fails isn't asked for where a run is done.
+#[test]
+fn a_run_that_is_done_tells_nothing(rt: HostRuntime) {
+    let alloc = rt.alloc();
+    let out = VecSink::new(alloc, Vec::new(alloc));
+    let came = run_lone(&rt, out, failing_sink(&rt, alloc, 0, 0));
+    check(&rt, &came, 0, LONE_REPORT, "");
+    assert!(rt; came.diag.writes() == 0);
 }
 
 // Words whose file is longer than that are refused.

@@ -1,6 +1,5 @@
 // Which files are loaded, in which order.
-use crate::bench::{answer, call, calm, check, library};
-use outside::NoPace;
+use crate::bench::{answer, calm, fails_at_load};
 use std::process::Abort;
 use std::sync::Wait;
 use std::thread::Threads;
@@ -50,18 +49,10 @@ fn each_file_is_loaded_as_often_as_it_is_named(rt: HostRuntime) {
     assert!(rt; loads_of(&rt, "script a.txt") == 1);
 }
 
-// Where the load of this number fails, nothing is loaded after it, and the answer has this line.
-fn expect_fault<R: AllocGlobal + Threads + Wait + Abort + Sync>(rt: &R, load: u64, line: &str) {
-    let lib = library(rt, rt.alloc(), &FILES, &[load]);
-    let came = call(rt, "run p.toml", lib, Vec::new(rt.alloc()), &NoPace);
-    check(rt, &came, 4, "", line);
-    assert!(rt; came.loads == load.saturating_add(1));
-}
-
 #[test]
 fn files_are_loaded_in_order(rt: HostRuntime) {
     for (load, line) in FAULTS.iter().enumerate() {
-        expect_fault(&rt, load as u64, line);
+        fails_at_load(&rt, &FILES, load as u64, line);
     }
 }
 
