@@ -1,5 +1,7 @@
-/* Loaded before the C library: counts the calls of malloc, calloc and realloc, and refuses the one whose number
-   REFUSED has, from 1 on. It then writes a byte to the file of the number TOLD. */
+/* Loaded before the C library: counts the calls of malloc, calloc and realloc from 1 on, and refuses the one whose
+   number REFUSED has, or where ONWARDS is there that one and all after it. It then writes a byte to the file of the
+   number TOLD. */
+#include <errno.h>
 #include <stdatomic.h>
 #include <stddef.h>
 #include <stdlib.h>
@@ -11,7 +13,7 @@ void *__libc_realloc(void *, size_t);
 
 static atomic_long calls;
 static long refused;
-static int told;
+static int told, onwards;
 
 __attribute__((constructor)) static void begin(void)
 {
@@ -19,15 +21,19 @@ __attribute__((constructor)) static void begin(void)
     if (number && file) {
         told = atoi(file);
         refused = atol(number);
+        onwards = getenv("ONWARDS") != NULL;
     }
     calls = 0;
 }
 
 static int is_refused(void)
 {
-    if (atomic_fetch_add(&calls, 1) + 1 != refused)
+    long call = atomic_fetch_add(&calls, 1) + 1;
+
+    if (!refused || call < refused || (call > refused && !onwards))
         return 0;
-    return write(told, "x", 1) == 1;
+    errno = write(told, "x", 1) == 1 ? ENOMEM : EIO;
+    return errno == ENOMEM;
 }
 
 void *malloc(size_t size)
