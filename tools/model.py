@@ -225,3 +225,8 @@ def of_script(path):
 def of_platform(path):
     platform = tomllib.loads(text_of(path))
     return Run(platform, [text_of(row["script"]) for row in platform["initiator"]])
+
+
+def order_of(report):
+    """The initiators of the printed entries, in order."""
+    return [line.split(" ")[2].rpartition(".")[0] for line in report.split("\n") if line[:1].isdigit() and line.count(" ") > 4]
