@@ -10,7 +10,7 @@ use crate::opened::Opened;
 use crate::pools::make_pools;
 use crate::supplies::Supplies;
 use crate::wallets::empty_wallets;
-use plat_net::{Net, PlatHistory, PlatNote, TlmLaw};
+use plat_net::{Net, PlatHistory, PlatNote, Signs, TlmLaw};
 use route_plan::Plan;
 use shared_object::Naming;
 use std::alloc::{AllocError, Global};
@@ -77,6 +77,19 @@ pub fn build<N: Naming<Plan, TlmLaw>>(
     let pools = make_pools::<N>(alloc, plan, &tickets, &mut supplies)?;
     let notes = make_notes(alloc, &history, note, notes_of(plan))?;
     let kept = Kept::new(alloc, plan, notes, supplies.into_wallets())?;
-    let net = Net::of_parts(plan.copy(alloc)?, history, tickets, memories, hops, pools);
+    let signs = Signs::new(
+        alloc,
+        hops.len(),
+        plan.platform().initiators.as_slice().len(),
+    )?;
+    let net = Net::of_parts(
+        plan.copy(alloc)?,
+        history,
+        tickets,
+        memories,
+        hops,
+        pools,
+        signs,
+    );
     Ok(Built { net, kept })
 }

@@ -27,6 +27,7 @@ ghost use Rattle.plat_net.specs.Places.{hop_place, memory_behind, memory_place};
 
 use crate::law::{PlatNote, SharedMemory, TlmLaw};
 use crate::net::Net;
+use crate::signs::Signs;
 use cargo_model::Cargo;
 use cargo_net::{Answered, FetchedRequest, FetchedResponse, Forwarded, Tried};
 use hop_object::Leg;
@@ -35,6 +36,55 @@ use shared_object::Naming;
 use std::sync::Wait;
 use tlm_types::{Ps, TxnId};
 use token_book::Ticket;
+
+// Notes what BEGIN_REQ has come to.
+fn note_forwarded(signs: &Signs, hop: u32, forwarded: &Forwarded) {
+    match forwarded {
+        Forwarded::Left { .. } => {
+            signs.leave_request(hop);
+            signs.change_hop(hop);
+        }
+        Forwarded::Now { .. } => signs.change_hop(hop),
+        Forwarded::Busy { .. } => {}
+    }
+}
+
+// The same without the access at the memory.
+fn note_tried(signs: &Signs, hop: u32, tried: &Tried) {
+    match tried {
+        Tried::Left { .. } => {
+            signs.leave_request(hop);
+            signs.change_hop(hop);
+        }
+        Tried::Now { .. } => signs.change_hop(hop),
+        Tried::Busy { .. } => {}
+    }
+}
+
+// Notes what BEGIN_RESP has come to.
+fn note_answered(signs: &Signs, hop: u32, answered: &Answered) {
+    match answered {
+        Answered::Sent { .. } => {
+            signs.leave_response(hop);
+            signs.change_hop(hop);
+        }
+        Answered::Busy { .. } => {}
+    }
+}
+
+// Notes that a request was fetched, if one was.
+fn note_request(signs: &Signs, hop: u32, fetched: &Option<FetchedRequest>) {
+    if fetched.is_some() {
+        signs.take_request(hop);
+    }
+}
+
+// Notes that a response was fetched, if one was.
+fn note_response(signs: &Signs, hop: u32, fetched: &Option<FetchedResponse>) {
+    if fetched.is_some() {
+        signs.take_response(hop);
+    }
+}
 
 impl<N: Naming<Plan, TlmLaw>> Net<N> {
     // What a hop leads to: the memory, if it is one, and the component's latency in picoseconds.
@@ -85,7 +135,7 @@ impl<N: Naming<Plan, TlmLaw>> Net<N> {
     {
         let _ = self.plan().platform();
         let (memory, latency) = self.behind(hop);
-        cargo_net::forward(
+        let forwarded = cargo_net::forward(
             self.hop(hop),
             memory,
             latency,
@@ -95,7 +145,9 @@ impl<N: Naming<Plan, TlmLaw>> Net<N> {
             note,
             cargo,
             at,
-        )
+        );
+        note_forwarded(self.signs(), hop, &forwarded);
+        forwarded
     }
 
     /// Makes BEGIN_REQ on a hop with a payload, with a ticket of its own wallet (IEEE 1666-2011, clause
@@ -122,7 +174,7 @@ impl<N: Naming<Plan, TlmLaw>> Net<N> {
             IsTried N.frame N.tokens (hop_place N.frame.world hop) cargo at can.pass can.hop note.knows result }
     {
         let _ = self.plan().platform();
-        cargo_net::begin_req(
+        let tried = cargo_net::begin_req(
             self.hop(hop),
             rt,
             self.history(),
@@ -130,7 +182,9 @@ impl<N: Naming<Plan, TlmLaw>> Net<N> {
             note,
             cargo,
             at,
-        )
+        );
+        note_tried(self.signs(), hop, &tried);
+        tried
     }
 
     /// Makes END_REQ on a hop, by the leg of a lane whose request is open and a ticket of the hop, which is
@@ -159,7 +213,7 @@ impl<N: Naming<Plan, TlmLaw>> Net<N> {
             HasEndedRequest N.frame N.tokens (hop_place N.frame.world hop) at can.x can.pass can.hop result.0 result.1 result.2.knows.known }
     {
         let _ = self.plan();
-        cargo_net::end_req(
+        let ended = cargo_net::end_req(
             self.hop(hop),
             rt,
             self.history(),
@@ -168,7 +222,9 @@ impl<N: Naming<Plan, TlmLaw>> Net<N> {
             leg,
             ticket,
             at,
-        )
+        );
+        self.signs().change_hop(hop);
+        ended
     }
 
     /// Makes BEGIN_RESP on a hop with a payload, by the leg of its lane and with a ticket of its own wallet
@@ -196,7 +252,7 @@ impl<N: Naming<Plan, TlmLaw>> Net<N> {
             IsAnsweredAs N.frame N.tokens (hop_place N.frame.world hop) leg cargo at can.pass can.hop note.knows result }
     {
         let _ = self.plan().platform();
-        cargo_net::backward(
+        let answered = cargo_net::backward(
             self.hop(hop),
             rt,
             self.history(),
@@ -205,7 +261,9 @@ impl<N: Naming<Plan, TlmLaw>> Net<N> {
             leg,
             cargo,
             at,
-        )
+        );
+        note_answered(self.signs(), hop, &answered);
+        answered
     }
 
     /// Makes END_RESP on a hop, by the leg of a lane whose response is open and a ticket of the hop, which
@@ -234,7 +292,7 @@ impl<N: Naming<Plan, TlmLaw>> Net<N> {
             HasEndedResponse N.frame at can.x can.pass can.hop result.0 result.1.knows.known }
     {
         let _ = self.plan();
-        cargo_net::end_resp(
+        let ended = cargo_net::end_resp(
             self.hop(hop),
             rt,
             self.history(),
@@ -243,7 +301,9 @@ impl<N: Naming<Plan, TlmLaw>> Net<N> {
             leg,
             ticket,
             at,
-        )
+        );
+        self.signs().change_hop(hop);
+        ended
     }
 
     /// Fetches the request that waits on a hop with the least time, equal times in order of arrival; none
@@ -265,7 +325,15 @@ impl<N: Naming<Plan, TlmLaw>> Net<N> {
         ensures fetched { IfSome result.0 (λ r. HasFetchedRequest N.frame N.tokens (hop_place N.frame.world hop) r result.1.knows.known) }
     {
         let _ = self.plan();
-        cargo_net::fetch_request(self.hop(hop), rt, self.history(), self.tickets(), note)
+        let fetched = cargo_net::fetch_request(
+            self.hop(hop),
+            rt,
+            self.history(),
+            self.tickets(),
+            note,
+        );
+        note_request(self.signs(), hop, &fetched.0);
+        fetched
     }
 
     /// Fetches the response that waits on a hop with the least time, equal times in order of arrival; none
@@ -288,7 +356,15 @@ impl<N: Naming<Plan, TlmLaw>> Net<N> {
         ensures fetched { IfSome result.0 (λ r. HasFetchedResponse N.frame N.tokens (hop_place N.frame.world hop) r result.1.knows.known) }
     {
         let _ = self.plan();
-        cargo_net::fetch_response(self.hop(hop), rt, self.history(), self.tickets(), note)
+        let fetched = cargo_net::fetch_response(
+            self.hop(hop),
+            rt,
+            self.history(),
+            self.tickets(),
+            note,
+        );
+        note_response(self.signs(), hop, &fetched.0);
+        fetched
     }
 
     /// Looks whether a transaction has ended on a hop: true exactly where no lane is held by it. It makes no

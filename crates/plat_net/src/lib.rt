@@ -23,8 +23,10 @@ pub mod laws;
 mod net;
 mod pool_calls;
 mod reach;
+mod signs;
 
 pub use calls::Carried;
 pub use law::{PlatHistory, PlatNote, PlatSeat, SharedHop, SharedMemory, SharedPool, TlmLaw};
 pub use net::{Net, NetParts};
 pub use reach::Reach;
+pub use signs::Signs;

@@ -7,6 +7,7 @@ ghost use Rattle.plat_net.specs.Net.{hop_numbers, memory_numbers, pool_numbers, 
 use crate::calls::returned;
 use crate::law::{PlatHistory, PlatNote, SharedHop, SharedMemory, SharedPool, TlmLaw};
 use crate::reach::Reach;
+use crate::signs::Signs;
 use generic_payload::Payload;
 use region_object::RegionCall;
 use route_plan::Plan;
@@ -25,6 +26,7 @@ pub struct Net<N: Naming<Plan, TlmLaw>> {
     memories: Vec<SharedMemory<N>>,
     hops: Vec<SharedHop<N>>,
     pools: Vec<SharedPool<N>>,
+    signs: Signs,
 }
 
 impl<N: Naming<Plan, TlmLaw>> Model for Net<N> {
@@ -57,8 +59,8 @@ impl<N: Naming<Plan, TlmLaw>> Net<N> {
     ghost use Rattle.plat_net.specs.Net.{AreHops, AreMemories, ArePools};
     ghost use Rattle.plat_net.specs.Objects.{frame_of};
 
-    /// The net of a plan, of its history, its tokens and its objects in order. N names the history, which is
-    /// made with what the plan counts, and the tokens.
+    /// The net of a plan, of its history, its tokens, its objects in order, and the signs of so many hops and initiators. N
+    /// names the history, which is made with what the plan counts, and the tokens.
     pub fn of_parts(
         plan: Plan,
         history: PlatHistory,
@@ -66,6 +68,7 @@ impl<N: Naming<Plan, TlmLaw>> Net<N> {
         memories: Vec<SharedMemory<N>>,
         hops: Vec<SharedHop<N>>,
         pools: Vec<SharedPool<N>>,
+        signs: Signs,
     ) -> Net<N>
         requires plan { plan ≡ N.frame.world }
         requires frame { N.frame ≡ frame_of plan }
@@ -83,7 +86,33 @@ impl<N: Naming<Plan, TlmLaw>> Net<N> {
             memories,
             hops,
             pools,
+            signs,
         }
+    }
+
+    /// How many calls at a hop have made an entry. No clause speaks of this count, nor of the next three: they tell who waits
+    /// when to look again.
+    pub fn hop_changes(&self, hop: u32) -> u64 {
+        self.signs.hop_changes(hop)
+    }
+
+    /// How many references the pool of an initiator has got back.
+    pub fn pool_changes(&self, initiator: u32) -> u64 {
+        self.signs.pool_changes(initiator)
+    }
+
+    /// Whether a request may wait on a hop for the component downstream.
+    pub fn may_have_request(&self, hop: u32) -> bool {
+        self.signs.has_request(hop)
+    }
+
+    /// Whether a response may wait on a hop for the component upstream.
+    pub fn may_have_response(&self, hop: u32) -> bool {
+        self.signs.has_response(hop)
+    }
+
+    pub(crate) fn signs(&self) -> &Signs {
+        &self.signs
     }
 
     /// The plan. The history was made with what it counts.
@@ -149,6 +178,7 @@ impl<N: Naming<Plan, TlmLaw>> Net<N> {
             memories,
             hops,
             pools,
+            signs: _,
         } = self;
         NetParts {
             history,

@@ -151,7 +151,7 @@ impl<N: Naming<Plan, TlmLaw>> Net<N> {
     {
         let _ = self.plan();
         let pool = self.pool(initiator);
-        cargo_net::release(
+        let released = cargo_net::release(
             pool,
             rt,
             self.history(),
@@ -160,7 +160,9 @@ impl<N: Naming<Plan, TlmLaw>> Net<N> {
             ticket,
             hold,
             at,
-        )
+        );
+        self.signs().change_pool(initiator);
+        released
     }
 
     /// Gives the initiator's own reference up at `at` picoseconds, with a ticket of the pool, and puts the
@@ -186,7 +188,7 @@ impl<N: Naming<Plan, TlmLaw>> Net<N> {
     {
         let _ = self.plan();
         let pool = self.pool(initiator);
-        cargo_net::stow(
+        let stowed = cargo_net::stow(
             pool,
             rt,
             self.history(),
@@ -195,7 +197,9 @@ impl<N: Naming<Plan, TlmLaw>> Net<N> {
             ticket,
             baton,
             at,
-        )
+        );
+        self.signs().change_pool(initiator);
+        stowed
     }
 
     /// Looks how many slots of the pool of an initiator are live. It makes no entry and spends no ticket.

@@ -10,7 +10,7 @@ pub pool-pool-requires : goal.pool-pool-requires
 pool-pool-requires g c =
     subst (λ (q : Plan). HasPool q.platform c.args.initiator) (sym c.plan.ensures.world) (has_pool_of g.N.Naming.frame.world c.args.initiator c.args.baton.txn c.requires.can.pass c.requires.can.access)
 
-pub stow-requires-clause-may : goal.stow-requires-clause-may
-stow-requires-clause-may g c =
+pub stow-stowed-requires-clause-may : goal.stow-stowed-requires-clause-may
+stow-stowed-requires-clause-may g c =
     let num : c.pool-pool.result.now.number ≡ own_pool g.N.Naming.frame.world c.args.initiator = pool_numbered c.args.self.now g.N.Naming.frame.world c.args.initiator c.pool-pool.result.now c.pool-pool.ensures c.plan.ensures.world in
     subst (λ (n : ℕ). MayStow g.N.Naming.frame g.N.Naming.tokens n c.args.baton c.args.at c.args.note.knows.known) (sym num) (may_stow g.N.Naming.frame g.N.Naming.tokens c.args.note.knows.known c.plan.ensures.frame c.args.initiator c.args.baton c.args.at c.requires.can)
