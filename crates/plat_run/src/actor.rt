@@ -10,7 +10,7 @@ use crate::port_job::PortJob;
 use crate::turn::Turn;
 use direct_run::DecoupledInitiator;
 use outside::Pace;
-use plat_net::{PlatNote, Reach, TlmLaw};
+use plat_net::{Net, PlatNote, Reach, TlmLaw};
 use route_plan::Plan;
 use run_queue::Job;
 use shared_object::Naming;
@@ -62,6 +62,19 @@ impl<N: Naming<Plan, TlmLaw>> Actor<N> {
         ensures { result ≡ is_pumped self.now }
     {
         !matches!(self, Actor::Decoupled(_))
+    }
+
+    /// Whether a job is to be passed over: its last turn was a pump that found nothing, and nothing has changed since at its
+    /// hops and its pool. Now and then it is not, whatever has changed.
+    pub fn rests(&mut self, net: &Net<N>) -> bool
+        ensures { self.new ≡ self.old }
+    {
+        match self {
+            Actor::Decoupled(_) => false,
+            Actor::FourPhase(job) => job.rests(net),
+            Actor::Memory(job) => job.rests(net),
+            Actor::Router(job) => job.rests(net),
+        }
     }
 
     /// A turn of a job of any kind: of a blocking or direct initiator at most one step of its script, of all others one pump.

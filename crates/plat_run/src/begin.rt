@@ -8,6 +8,7 @@ ghost use Rattle.plat_run.specs.Actors.{number_of};
 use crate::actor::Actor;
 use crate::nodes::{MemoryJob, RouterJob};
 use crate::port_job::PortJob;
+use crate::waits::{Component, Waits};
 use direct_run::DecoupledInitiator;
 use fourphase_port::Port;
 use plat_build::{Kept, Start};
@@ -65,7 +66,8 @@ fn begin_port<N: Naming<Plan, TlmLaw>>(
         wallet,
     } = start;
     let port = Port::new(alloc, net, engine, payload, note, wallet)?;
-    let job = PortJob::new(number, port);
+    let waits = Waits::of(alloc, net.plan(), Component::Initiator(number))?;
+    let job = PortJob::new(number, port, waits);
     Ok(Actor::FourPhase(Box::new(alloc, job)?))
 }
 
@@ -123,7 +125,8 @@ fn begin_router<N: Naming<Plan, TlmLaw>>(
     let _ = net.plan();
     let note = kept.router_note(router);
     let node = RouterNode::new(alloc, net, router)?;
-    let job = RouterJob::new(number, node, note);
+    let waits = Waits::of(alloc, net.plan(), Component::Router(router))?;
+    let job = RouterJob::new(number, node, note, waits);
     Ok(Actor::Router(Box::new(alloc, job)?))
 }
 
@@ -143,7 +146,8 @@ fn begin_memory<N: Naming<Plan, TlmLaw>>(
     let _ = net.plan();
     let note = kept.memory_note(memory);
     let node = TargetNode::new(alloc, net, memory)?;
-    let job = MemoryJob::new(number, node, note);
+    let waits = Waits::of(alloc, net.plan(), Component::Memory(memory))?;
+    let job = MemoryJob::new(number, node, note, waits);
     Ok(Actor::Memory(Box::new(alloc, job)?))
 }
 

@@ -5,7 +5,8 @@
 //! - `PortJob` is a four-phase initiator as a job: a turn of it is one pump of its port. `MemoryJob` and `RouterJob` are the
 //!   memories and routers, which are jobs where some initiator is of four phases; a turn is one pump.
 //! - `Actor` is a job of any kind, in a box: workers hand the box on, and a turn works in place. It answers a
-//!   `Turn`: whether the job went on, let others go on, is held back by the board, or found nothing to do.
+//!   `Turn`: whether the job went on, let others go on, is held back by the board, or found nothing to do. One that found
+//!   nothing is passed over until something has changed at its hops or its pool (`Waits`).
 //! - `run` makes the jobs of a net that was just built, lets workers give them turns until all initiators have
 //!   finished, and makes the outcome of what the jobs and the memories have. `run_plan` builds the net as
 //!   well.
@@ -22,6 +23,7 @@ mod nodes;
 mod port_job;
 mod running;
 mod turn;
+mod waits;
 mod workers;
 
 pub use actor::Actor;
@@ -29,3 +31,4 @@ pub use nodes::{MemoryJob, RouterJob};
 pub use port_job::PortJob;
 pub use running::{PlatSealed, run, run_plan};
 pub use turn::Turn;
+pub use waits::{Component, Waits};

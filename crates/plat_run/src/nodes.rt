@@ -4,6 +4,7 @@ ghost use Rattle.plat_run.specs.Nodes.{IsMemoryNode, IsRouterNode};
 ghost use Rattle.plat_run.specs.Turn.{is_held_back};
 
 use crate::turn::Turn;
+use crate::waits::Waits;
 use plat_net::{Net, PlatNote, TlmLaw};
 use route_plan::Plan;
 use router_node::{Pumped as RouterPumped, RouterNode};
@@ -19,6 +20,7 @@ pub struct MemoryJob<N: Naming<Plan, TlmLaw>> {
     number: u32,
     node: TargetNode,
     note: Option<PlatNote>,
+    waits: Waits,
     of: PhantomData<N>,
 }
 
@@ -35,7 +37,7 @@ impl<N: Naming<Plan, TlmLaw>> Model for MemoryJob<N> {
 
 impl<N: Naming<Plan, TlmLaw>> MemoryJob<N> {
     /// The job with this number, of a memory with its note.
-    pub fn new(number: u32, node: TargetNode, note: PlatNote) -> MemoryJob<N>
+    pub fn new(number: u32, node: TargetNode, note: PlatNote, waits: Waits) -> MemoryJob<N>
         requires { IsMemoryNode N.table N.tokens N.frame node note }
         ensures { result ≡ number }
     {
@@ -43,6 +45,7 @@ impl<N: Naming<Plan, TlmLaw>> MemoryJob<N> {
             number,
             node,
             note: Some(note),
+            waits,
             of: PhantomData,
         }
     }
@@ -60,12 +63,22 @@ impl<N: Naming<Plan, TlmLaw>> MemoryJob<N> {
         ensures turn { is_held_back result ≡ false }
     {
         let note = self.note.take().unwrap();
+        let changes = self.waits.changes(net);
         let (pumped, note) = self.node.pump(net, rt, note);
         self.note = Some(note);
+        self.waits
+            .note(changes, matches!(pumped, MemoryPumped::Nothing));
         match pumped {
             MemoryPumped::Did => Turn::WentOn,
             MemoryPumped::Nothing => Turn::Idle,
         }
+    }
+
+    /// Whether it is to be passed over.
+    pub fn rests(&mut self, net: &Net<N>) -> bool
+        ensures { self.new ≡ self.old }
+    {
+        self.waits.rests(net)
     }
 }
 
@@ -76,6 +89,7 @@ pub struct RouterJob<N: Naming<Plan, TlmLaw>> {
     number: u32,
     node: RouterNode,
     note: Option<PlatNote>,
+    waits: Waits,
     of: PhantomData<N>,
 }
 
@@ -92,7 +106,7 @@ impl<N: Naming<Plan, TlmLaw>> Model for RouterJob<N> {
 
 impl<N: Naming<Plan, TlmLaw>> RouterJob<N> {
     /// The job with this number, of a router with its note.
-    pub fn new(number: u32, node: RouterNode, note: PlatNote) -> RouterJob<N>
+    pub fn new(number: u32, node: RouterNode, note: PlatNote, waits: Waits) -> RouterJob<N>
         requires { IsRouterNode N.table N.tokens N.frame node note }
         ensures { result ≡ number }
     {
@@ -100,6 +114,7 @@ impl<N: Naming<Plan, TlmLaw>> RouterJob<N> {
             number,
             node,
             note: Some(note),
+            waits,
             of: PhantomData,
         }
     }
@@ -117,11 +132,21 @@ impl<N: Naming<Plan, TlmLaw>> RouterJob<N> {
         ensures turn { is_held_back result ≡ false }
     {
         let note = self.note.take().unwrap();
+        let changes = self.waits.changes(net);
         let (pumped, note) = self.node.pump(net, rt, note);
         self.note = Some(note);
+        self.waits
+            .note(changes, matches!(pumped, RouterPumped::Nothing));
         match pumped {
             RouterPumped::Did => Turn::WentOn,
             RouterPumped::Nothing => Turn::Idle,
         }
+    }
+
+    /// Whether it is to be passed over.
+    pub fn rests(&mut self, net: &Net<N>) -> bool
+        ensures { self.new ≡ self.old }
+    {
+        self.waits.rests(net)
     }
 }

@@ -4,6 +4,7 @@ ghost use Rattle.plat_run.specs.End.{IsFinished};
 ghost use Rattle.plat_run.specs.Turn.{IsPortTurn, finishes, turn_by};
 
 use crate::turn::Turn;
+use crate::waits::Waits;
 use fourphase_port::{Port, Pumped};
 use outside::Pace;
 use plat_net::{Net, PlatNote, TlmLaw};
@@ -22,6 +23,7 @@ pub struct PortJob<N: Naming<Plan, TlmLaw>> {
     /// The last access or debug read that the pace was told of.
     announced: Option<u64>,
     finished: bool,
+    waits: Waits,
 }
 
 impl<N: Naming<Plan, TlmLaw>> Model for PortJob<N> {
@@ -60,7 +62,7 @@ fn finishes(pumped: Pumped) -> bool
 
 impl<N: Naming<Plan, TlmLaw>> PortJob<N> {
     /// A port that begins, of the initiator with this number.
-    pub fn new(number: u32, port: Port<N>) -> PortJob<N>
+    pub fn new(number: u32, port: Port<N>, waits: Waits) -> PortJob<N>
         requires number { port.port.engine.initiator ≡ number }
         requires below { number < length N.frame.world.platform.initiators }
         ensures port { result.port ≡ port }
@@ -71,6 +73,7 @@ impl<N: Naming<Plan, TlmLaw>> PortJob<N> {
             port,
             announced: None,
             finished: false,
+            waits,
         }
     }
 
@@ -108,9 +111,18 @@ impl<N: Naming<Plan, TlmLaw>> PortJob<N> {
         ensures pumped { IsPortTurn N.frame self.old self.new result }
     {
         self.announce(pace);
+        let changes = self.waits.changes(net);
         let pumped = self.port.pump(rt, net);
         self.finished = finishes(pumped);
+        self.waits.note(changes, matches!(pumped, Pumped::Nothing));
         turn_by(pumped)
+    }
+
+    /// Whether it is to be passed over.
+    pub fn rests(&mut self, net: &Net<N>) -> bool
+        ensures { self.new ≡ self.old }
+    {
+        self.waits.rests(net)
     }
 
     /// What it leaves where it has finished: how its initiator ended, its wallet, and its note.
@@ -123,6 +135,7 @@ impl<N: Naming<Plan, TlmLaw>> PortJob<N> {
             port,
             announced: _,
             finished: _,
+            waits: _,
         } = self;
         let (note, wallet, end) = port.finish();
         (end, wallet, note)
@@ -137,6 +150,7 @@ impl<N: Naming<Plan, TlmLaw>> PortJob<N> {
             port: _,
             announced: _,
             finished: _,
+            waits: _,
         } = self;
     }
 }

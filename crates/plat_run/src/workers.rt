@@ -53,6 +53,9 @@ fn give_share<N: Naming<Plan, TlmLaw>, B: Reach<N>, P: Pace, R: Wait>(
 {
     let mut moved = false;
     for _turn in 0..TURNS {
+        if job.rests(reach.net()) {
+            return (Turn::Idle, moved);
+        }
         let turn = job.turn(rt, reach, board, pace);
         if job.done() || !matches!(turn, Turn::WentOn) {
             return (turn, moved);
@@ -136,7 +139,7 @@ fn turn_finishes<N: Naming<Plan, TlmLaw>, B: Reach<N>, P: Pace, R: Wait>(
     done
 }
 
-// Gives a job a turn if it hasn't finished, and answers whether it needs more: it is one of the first so many, and
+// Gives a job a turn if it hasn't finished and doesn't rest, and answers whether it needs more: it is one of the first so many, and
 // hasn't finished.
 fn turn_leaves_more<N: Naming<Plan, TlmLaw>, B: Reach<N>, P: Pace, R: Wait>(
     rt: &R,
@@ -149,7 +152,11 @@ fn turn_leaves_more<N: Naming<Plan, TlmLaw>, B: Reach<N>, P: Pace, R: Wait>(
     ensures number { number_of job.new ≡ number_of job.old }
     ensures more { result ≡ false → number_of job.new < count → is_done job.new ≡ true }
 {
-    !job.done() && !turn_finishes(rt, reach, board, pace, job) && job.number() < count
+    if job.done() {
+        return false;
+    }
+    let rests = job.rests(reach.net());
+    (rests || !turn_finishes(rt, reach, board, pace, job)) && job.number() < count
 }
 
 // Gives each job a turn that hasn't finished, in order, and answers whether one of the first so many needs more.
