@@ -15,6 +15,7 @@ pub mod Holds
 pub mod Places
 pub mod Moving
 pub mod Sweeps
+pub mod Hasty
 pub mod JoinsOne
 pub mod Pumps
 pub mod ByReturn

@@ -1,5 +1,5 @@
 -- The first of several hops at which something waits.
-use Rattle.std.specs.Prelude.{ℕ, ◌≡◌, ◌<◌, ◌≤◌, List, [], ◌∷◌, ◌++◌, length, Option, Some, None}
+use Rattle.std.specs.Prelude.{ℕ, ◌≡◌, ◌<◌, ◌≤◌, Bool, false, List, [], ◌∷◌, ◌++◌, length, Option, Some, None}
 use Rattle.atomic_table.specs.Seated.{TableId}
 use Rattle.one_history.specs.declared.entry.Entry.{Entry}
 use Rattle.one_history.specs.declared.view.Frame.{Frame}
@@ -39,6 +39,13 @@ pub record IsFirst (p : Plan) (look : ℕ) (hops : List ℕ) (hop : ℕ) (was is
   pub after : List ℕ
   pub hops_are : hops ≡ before ++ hop ∷ after
   pub looks : is ≡ was ++ vain_looks p look before ++ (hop_place p hop, 0) ∷ []
+
+-- The hops at which a pump looks: all of these; in haste some that stand together.
+pub record AreLookedAt (hasty : Bool) (hops some : List ℕ) : Type 0 where
+  pub before : List ℕ
+  pub after : List ℕ
+  pub part : hops ≡ before ++ (some ++ after)
+  pub all : hasty ≡ false → some ≡ hops
 
 -- A response was fetched from a hop below; or none waits at any.
 abbrev pub HasFoundBack : Frame Plan → TableId → List ℕ → View Content Plan → View Content Plan → Option Found → Type 0

@@ -13,10 +13,10 @@ use Rattle.tlm_model.specs.declared.platform.RouterRow.{RouterRow}
 use Rattle.tlm_model.specs.Plan.{Plan}
 use Rattle.tlm_model.specs.Route.{window_hop}
 use Rattle.router_node.specs.Items.{IsRequest, is_accepting}
-use Rattle.router_node.specs.Finds.{IsFirst, IsFound, IsHopAbove, IsHopBelow, vain_looks}
+use Rattle.router_node.specs.Finds.{AreLookedAt, IsFirst, IsFound, IsHopAbove, IsHopBelow, vain_looks}
 use Rattle.router_node.specs.Joins.{HasJoinedOne}
 use Rattle.router_node.specs.Places.{StandsAt}
-use Rattle.router_node.specs.Stages.{HasStepped, IsStage, Standing, standing, vain}
+use Rattle.router_node.specs.Stages.{ComesBy, IsStage, Standing, standing, vain}
 use Rattle.router_node.specs.Turns.{HasTurned}
 use Rattle.router_node.specs.declared.choice.Turned.{Turned}
 use Rattle.router_node.specs.declared.choice.Turned.TheVariants as Turns
@@ -73,21 +73,22 @@ gap = Sent (record { txn = record { initiator = 0; seq = 0 }; above = 0; at = 0;
 abbrev pub IsSentAt : List Stage → ℕ → Type 0
 IsSentAt held at = (a : Away) × StandsAt held at (Sent a)
 
--- A step was made with the transaction at this place. The next one stands behind what is left of it, and the others are as they were.
-pub record MovesAt (frame : Frame Plan) (w : Step) (at : ℕ) (old new : List Stage) (was is : View Content Plan) (next : ℕ) (moved : Bool) : Type 0 where
+-- A pump came by the transaction at this place with a step, in haste or not. The next one stands behind what is left of it, and the others are as they
+-- were.
+pub record MovesAt (frame : Frame Plan) (hasty : Bool) (w : Step) (at : ℕ) (old new : List Stage) (was is : View Content Plan) (next : ℕ) (moved : Bool) : Type 0 where
   pub stage : Stage
   pub stands : StandsAt old at stage
   pub after : Option Stage
-  pub stepped : HasStepped frame w stage was is moved after
+  pub stepped : ComesBy frame hasty w stage was is moved after
   pub line : new ≡ stands.before ++ (left after ++ stands.rest)
   pub next_is : next ≡ at + length (left after)
 
--- A step was made with each of these transactions, in order, and what was known in between is known. Whether one was moved.
-abbrev pub Sweeps : Frame Plan → Step → List Stage → List Stage → View Content Plan → View Content Plan → Bool → Type 0
-Sweeps frame w [] new was is moved = (new ≡ []) × (is ≡ was) × (moved ≡ false)
-Sweeps frame w (s ∷ ss) new was is moved =
+-- It came by each of these transactions, in order, and what was known in between is known. Whether one was moved.
+abbrev pub Sweeps : Frame Plan → Bool → Step → List Stage → List Stage → View Content Plan → View Content Plan → Bool → Type 0
+Sweeps frame hasty w [] new was is moved = (new ≡ []) × (is ≡ was) × (moved ≡ false)
+Sweeps frame hasty w (s ∷ ss) new was is moved =
     (after : Option Stage) × (rest : List Stage) × (mid : View Content Plan) × (first : Bool) × (more : Bool)
-    × HasStepped frame w s was mid first after × Within mid.known is.known × Sweeps frame w ss rest mid is more × (new ≡ left after ++ rest) × (moved ≡ (first || more))
+    × ComesBy frame hasty w s was mid first after × Within mid.known is.known × Sweeps frame hasty w ss rest mid is more × (new ≡ left after ++ rest) × (moved ≡ (first || more))
 
 -- looks in vain of a step, one for each transaction that it is one for, in order
 abbrev pub vain_steps : Plan → Step → List Standing → List (ℕ × ℕ)
@@ -113,31 +114,37 @@ stage_of (Turns.Back r) = Up r None
 
 module _ (frame : Frame Plan) (tokens : TableId) where
   -- One step of a pump for all transactions. Nothing else changes.
-  pub record HasSwept (w : Step) (old new : RouterNode) (was is : View Content Plan) (moved : Bool) : Type 0 where
-    pub swept : Sweeps frame w old.held.items new.held.items was is moved
+  pub record HasSwept (hasty : Bool) (w : Step) (old new : RouterNode) (was is : View Content Plan) (moved : Bool) : Type 0 where
+    pub swept : Sweeps frame hasty w old.held.items new.held.items was is moved
     pub knew : Within was.known is.known
     pub same : new ≡ record old { held = new.held }
 
-  -- A response was fetched from the first hop below at which one waits, and joined with its transaction; or it is a stray one.
-  pub record TakesBack (old new : RouterNode) (was is : View Content Plan) : Type 0 where
+  -- A response was fetched from the first of the hops below that were looked at at which one waits, and joined with its transaction; or it is a stray one.
+  -- These are all; in haste some.
+  pub record TakesBack (hasty : Bool) (old new : RouterNode) (was is : View Content Plan) : Type 0 where
     pub free : old.stray ≡ None
     pub found : Found
-    pub first : IsFirst frame.world 2 old.below.items found.hop was.looks is.looks
+    pub hops : List ℕ
+    pub looked_at : AreLookedAt hasty old.below.items hops
+    pub first : IsFirst frame.world 2 hops found.hop was.looks is.looks
     pub waited : IsFound frame tokens is.known found
     pub joined : HasJoinedOne found old.held.items new.held.items new.stray
     pub same : new ≡ record old { held = new.held; stray = new.stray }
 
   -- Or none waits at any, or a stray one is kept.
-  abbrev pub HasTakenBack : RouterNode → RouterNode → View Content Plan → View Content Plan → Bool → Type 0
-  HasTakenBack old new was is true = TakesBack old new was is
-  HasTakenBack old new was is false = (new ≡ old) × (is.looks ≡ was.looks ++ back_looks frame.world old.stray old.below.items)
+  abbrev pub HasTakenBack : Bool → RouterNode → RouterNode → View Content Plan → View Content Plan → Bool → Type 0
+  HasTakenBack hasty old new was is true = TakesBack hasty old new was is
+  HasTakenBack hasty old new was is false = (new ≡ old) × ((hops : List ℕ) × AreLookedAt hasty old.below.items hops × (is.looks ≡ was.looks ++ back_looks frame.world old.stray hops))
 
-  -- A request was fetched from the first hop above at which one waits, and turned down or back. It is the last that is held.
-  pub record TakesIn (old new : RouterNode) (was is : HeldNote Content Plan) : Type 0 where
+  -- A request was fetched from the first of the hops above that were looked at at which one waits, and turned down or back. It is the last that is held.
+  -- These are all; in haste some.
+  pub record TakesIn (hasty : Bool) (old new : RouterNode) (was is : HeldNote Content Plan) : Type 0 where
     pub room : length old.held.items < old.room
     pub request : Request
     pub mid : HeldNote Content Plan
-    pub first : IsFirst frame.world 1 old.above.items request.hop was.knows.looks mid.knows.looks
+    pub hops : List ℕ
+    pub looked_at : AreLookedAt hasty old.above.items hops
+    pub first : IsFirst frame.world 1 hops request.hop was.knows.looks mid.knows.looks
     pub waited : IsRequest frame tokens mid.knows.known old.router request
     pub turned : Turned
     pub turns : HasTurned frame tokens old.router old.latency request mid is turned
@@ -146,49 +153,67 @@ module _ (frame : Frame Plan) (tokens : TableId) where
     pub same : new ≡ record old { held = new.held }
 
   -- Or none waits at any, or there is no room.
-  abbrev pub HasTakenIn : RouterNode → RouterNode → HeldNote Content Plan → HeldNote Content Plan → Bool → Type 0
-  HasTakenIn old new was is true = TakesIn old new was is
-  HasTakenIn old new was is false = (new ≡ old) × (is.knows.looks ≡ was.knows.looks ++ in_looks frame.world (has_room old) old.above.items)
+  abbrev pub HasTakenIn : Bool → RouterNode → RouterNode → HeldNote Content Plan → HeldNote Content Plan → Bool → Type 0
+  HasTakenIn hasty old new was is true = TakesIn hasty old new was is
+  HasTakenIn hasty old new was is false = (new ≡ old) × ((hops : List ℕ) × AreLookedAt hasty old.above.items hops × (is.knows.looks ≡ was.knows.looks ++ in_looks frame.world (has_room old) hops))
 
-  -- A pump goes once through these, in this order. What has ended above is ended below. Each response that is to go up is tried, and each request that
-  -- is to go down. A response is fetched from below, and a request from above. What was known in between is known. Whether one of them has moved a
-  -- transaction.
-  pub record GoesThrough (old new : RouterNode) (was is : HeldNote Content Plan) (moved : Bool) : Type 0 where
+  -- A pump goes through these, in this order, in haste or with every look. What has ended above is ended below. Each response that is to go up is tried,
+  -- and each request that is to go down. A response is fetched from below, and a request from above. What was known in between is known. Whether one of
+  -- them has moved a transaction.
+  pub record GoesThrough (hasty : Bool) (old new : RouterNode) (was is : HeldNote Content Plan) (moved : Bool) : Type 0 where
     pub ended : RouterNode
     pub after_end : HeldNote Content Plan
     pub ends : Bool
-    pub end_all : HasSwept End old ended was.knows after_end.knows ends
+    pub end_all : HasSwept hasty End old ended was.knows after_end.knows ends
     pub sent : RouterNode
     pub after_send : HeldNote Content Plan
     pub sends : Bool
-    pub send_all : HasSwept Send ended sent after_end.knows after_send.knows sends
+    pub send_all : HasSwept hasty Send ended sent after_end.knows after_send.knows sends
     pub passed : RouterNode
     pub after_pass : HeldNote Content Plan
     pub passes : Bool
-    pub pass_all : HasSwept Pass sent passed after_send.knows after_pass.knows passes
+    pub pass_all : HasSwept hasty Pass sent passed after_send.knows after_pass.knows passes
     pub joined : RouterNode
     pub after_back : HeldNote Content Plan
     pub joins : Bool
-    pub take_back : HasTakenBack passed joined after_pass.knows after_back.knows joins
+    pub take_back : HasTakenBack hasty passed joined after_pass.knows after_back.knows joins
     pub knew_back : Within after_pass.knows.known after_back.knows.known
     pub takes : Bool
-    pub take_in : HasTakenIn joined new after_back is takes
+    pub take_in : HasTakenIn hasty joined new after_back is takes
     pub knew_in : Within after_back.knows.known is.knows.known
     pub moved_is : moved ≡ (ends || (sends || (passes || (joins || takes))))
 
-  -- Nothing was moved: each transaction that is held stands where it stood. The looks are that the end of each response that was sent isn't there yet,
-  -- that each response that is to go up was refused, and so was each request that is to go down, and that nothing waits at any hop below and, where
-  -- there is room, at any hop above.
+  -- Nothing was moved so far: each transaction that is held stands where it stood, and what was known is known. There may have been looks.
+  pub record StandsStill (old new : RouterNode) (was is : View Content Plan) : Type 0 where
+    pub same : new ≡ record old { held = new.held }
+    pub stand : map standing new.held.items ≡ map standing old.held.items
+    pub knew : Within was.known is.known
+    pub earlier : List (ℕ × ℕ)
+    pub looks : is.looks ≡ was.looks ++ earlier
+
+  -- A pump goes through, in haste or with every look, and before that nothing was moved. Where it moves nothing, it has every look.
+  pub record GoesOn (old new : RouterNode) (was is : HeldNote Content Plan) (moved : Bool) : Type 0 where
+    pub start : RouterNode
+    pub note : HeldNote Content Plan
+    pub still : StandsStill old start was.knows note.knows
+    pub hasty : Bool
+    pub goes : GoesThrough hasty start new note is moved
+    pub every_look : moved ≡ false → hasty ≡ false
+
+  -- Nothing was moved: each transaction that is held stands where it stood. The last looks are that the end of each response that was sent isn't there
+  -- yet, that each response that is to go up was refused, and so was each request that is to go down, and that nothing waits at any hop below and, where
+  -- there is room, at any hop above. There may have been earlier ones.
   pub record DoesNothing (old new : RouterNode) (was is : View Content Plan) : Type 0 where
     pub same : new ≡ record old { held = new.held }
     pub stand : map standing new.held.items ≡ map standing old.held.items
+    pub earlier : List (ℕ × ℕ)
     pub looks : is.looks
-        ≡ was.looks ++ vain_steps frame.world End (map standing old.held.items) ++ vain_steps frame.world Send (map standing old.held.items) ++ vain_steps frame.world Pass (map standing old.held.items)
+        ≡ was.looks ++ earlier ++ vain_steps frame.world End (map standing old.held.items) ++ vain_steps frame.world Send (map standing old.held.items) ++ vain_steps frame.world Pass (map standing old.held.items)
         ++ back_looks frame.world old.stray old.below.items ++ in_looks frame.world (has_room old) old.above.items
 
   -- Did comes where one of these was moved, Nothing where none was.
   abbrev pub HasPumped : RouterNode → RouterNode → HeldNote Content Plan → HeldNote Content Plan → Pumped → Type 0
-  HasPumped old new was is Did = GoesThrough old new was is true
+  HasPumped old new was is Did = GoesOn old new was is true
   HasPumped old new was is Nothing = DoesNothing old new was.knows is.knows
 
 -- the answer of a pump

@@ -1,5 +1,5 @@
 -- A transaction that a router holds, and what a step of a pump does with it.
-use Rattle.std.specs.Prelude.{ℕ, ◌≡◌, ◌<◌, ◌≤◌, ◌==◌, Bool, true, false, IsTrue, List, [], ◌∷◌, ◌++◌, Option, Some, None, IfSome, IsSomeAnd, if◌then◌else◌}
+use Rattle.std.specs.Prelude.{ℕ, ◌≡◌, ◌<◌, ◌≤◌, ◌==◌, ◌⊎◌, Bool, true, false, IsTrue, List, [], ◌∷◌, ◌++◌, Option, Some, None, IfSome, IsSomeAnd, if◌then◌else◌}
 use Rattle.atomic_table.specs.Seated.{TableId}
 use Rattle.one_history.specs.declared.entry.Entry.{Entry}
 use Rattle.one_history.specs.declared.view.Frame.{Frame}
@@ -137,6 +137,10 @@ Moves frame known w s o = ⊥
 abbrev pub HasStepped : Frame Plan → Step → Stage → View Content Plan → View Content Plan → Bool → Option Stage → Type 0
 HasStepped frame w s old new true o = Moves frame new.known w s o
 HasStepped frame w s old new false o = IsSomeAnd o (λ t. standing t ≡ standing s) × (new.looks ≡ old.looks ++ vain frame.world w (standing s))
+
+-- A pump comes by a transaction: it makes a step with it. Or in haste it leaves it out, and nothing has happened.
+abbrev pub ComesBy : Frame Plan → Bool → Step → Stage → View Content Plan → View Content Plan → Bool → Option Stage → Type 0
+ComesBy frame hasty w s old new moved o = HasStepped frame w s old new moved o ⊎ ((hasty ≡ true) × (moved ≡ false) × (o ≡ Some s) × (new ≡ old))
 
 module _ (frame : Frame Plan) (tokens : TableId) (known back : List (Entry Content)) where
   -- END_REQ above was made where it was owed. What was known of the transaction is known of it.

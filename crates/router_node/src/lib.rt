@@ -31,6 +31,7 @@
 mod choice;
 mod down;
 mod finds;
+mod haste;
 mod items;
 mod joins;
 pub mod laws;

@@ -1,5 +1,5 @@
 // A router.
-ghost use Rattle.std.specs.Prelude.{◌≡◌, ◌≢◌, ◌<◌, [], ◌||◌, length, None, IfSome, slice_set};
+ghost use Rattle.std.specs.Prelude.{◌≡◌, ◌≢◌, ◌<◌, [], ◌||◌, length, None, IfSome, false, slice_set};
 ghost use Rattle.std.specs.List.{AllByRecursion, remove};
 ghost use Rattle.std.specs.VecDeque.{deque_capacity};
 ghost use Rattle.view_lists.specs.Lists.{Within};
@@ -7,7 +7,7 @@ ghost use Rattle.one_history.specs.Lists.{StandBelow};
 ghost use Rattle.shared_object.specs.Steps.{IsNote};
 ghost use Rattle.router_node.specs.Finds.{IsFound};
 ghost use Rattle.router_node.specs.Joins.{HasJoinedOne, IsPlaceOf};
-ghost use Rattle.router_node.specs.Node.{HasPumped, HasSwept, HasTakenBack, HasTakenIn, IsRouter, IsSentAt, MovesAt, Sweeps, gap, pumped_by, stage_of};
+ghost use Rattle.router_node.specs.Node.{GoesOn, GoesThrough, HasPumped, HasSwept, HasTakenBack, HasTakenIn, IsRouter, IsSentAt, MovesAt, Sweeps, gap, pumped_by, stage_of};
 ghost use Rattle.router_node.specs.Places.{StandsAt};
 ghost use Rattle.router_node.specs.Stages.{IsStage};
 ghost use Rattle.router_node.specs.declared.stage.Stage.TheVariants as Stages;
@@ -15,6 +15,7 @@ ghost use Rattle.router_node.specs.declared.stage.Step.TheVariants as Steps;
 
 use crate::choice::{Turned, turn};
 use crate::finds::{Found, find_back, find_request};
+use crate::haste::{Shut, hops_back, hops_in};
 use crate::joins::{is_joined, join};
 use crate::stage::{Away, Stage, Step, finish_away, is_about, look_for_end, move_on};
 use plat_net::{Net, PlatNote, TlmLaw};
@@ -132,7 +133,7 @@ fn end_at<N: Naming<Plan, TlmLaw>, R: Wait>(
     ensures below { StandBelow result.2.knows.known result.2.knows.seen }
     ensures held { AllByRecursion (IsStage N.frame N.tokens result.2.knows.known) held.new.items }
     ensures capacity { deque_capacity held.new ≡ deque_capacity held.old }
-    ensures moved { MovesAt N.frame Steps.End at held.old.items held.new.items note.knows result.2.knows result.0 result.1 }
+    ensures moved { MovesAt N.frame false Steps.End at held.old.items held.new.items note.knows result.2.knows result.0 result.1 }
 {
     let Stage::Sent(away) = &held[at] else {
         return (at + 1, false, note);
@@ -166,7 +167,7 @@ fn try_at<N: Naming<Plan, TlmLaw>, R: Wait>(
     ensures below { StandBelow result.2.knows.known result.2.knows.seen }
     ensures held { AllByRecursion (IsStage N.frame N.tokens result.2.knows.known) held.new.items }
     ensures capacity { deque_capacity held.new ≡ deque_capacity held.old }
-    ensures moved { MovesAt N.frame what at held.old.items held.new.items note.knows result.2.knows result.0 result.1 }
+    ensures moved { MovesAt N.frame false what at held.old.items held.new.items note.knows result.2.knows result.0 result.1 }
 {
     if !is_about(what, &held[at]) {
         return (at + 1, false, note);
@@ -196,7 +197,7 @@ fn move_at<N: Naming<Plan, TlmLaw>, R: Wait>(
     ensures below { StandBelow result.2.knows.known result.2.knows.seen }
     ensures held { AllByRecursion (IsStage N.frame N.tokens result.2.knows.known) held.new.items }
     ensures capacity { deque_capacity held.new ≡ deque_capacity held.old }
-    ensures moved { MovesAt N.frame what at held.old.items held.new.items note.knows result.2.knows result.0 result.1 }
+    ensures moved { MovesAt N.frame false what at held.old.items held.new.items note.knows result.2.knows result.0 result.1 }
 {
     match what {
         Step::End => end_at(net, rt, note, held, at),
@@ -204,11 +205,43 @@ fn move_at<N: Naming<Plan, TlmLaw>, R: Wait>(
     }
 }
 
-// Makes a step with each transaction that is held, in order. Those that it isn't one for are looked at alone.
-// Whether one was moved.
+// Comes by the transaction at a place: makes the step with it, or in haste leaves it out where the hop of its try is shut.
+// The place of the next one, and whether this one was moved.
+fn come_by<N: Naming<Plan, TlmLaw>, R: Wait>(
+    net: &Net<N>,
+    rt: &R,
+    hasty: bool,
+    what: Step,
+    shut: &mut Shut,
+    note: PlatNote,
+    held: &mut VecDeque<Stage>,
+    at: usize,
+) -> (usize, bool, PlatNote)
+    requires there { at < length held.old.items }
+    requires note { IsNote N.table note }
+    requires below { StandBelow note.knows.known note.knows.seen }
+    requires held { AllByRecursion (IsStage N.frame N.tokens note.knows.known) held.old.items }
+    ensures note { IsNote N.table result.2 }
+    ensures knew { Within note.knows.known result.2.knows.known }
+    ensures below { StandBelow result.2.knows.known result.2.knows.seen }
+    ensures held { AllByRecursion (IsStage N.frame N.tokens result.2.knows.known) held.new.items }
+    ensures capacity { deque_capacity held.new ≡ deque_capacity held.old }
+    ensures moved { MovesAt N.frame hasty what at held.old.items held.new.items note.knows result.2.knows result.0 result.1 }
+{
+    if hasty && shut.leaves_out(what, &held[at]) {
+        return (at + 1, false, note);
+    }
+    let (next, moved, note) = move_at(net, rt, what, note, held, at);
+    shut.shut_after(net, what, moved, held, at);
+    (next, moved, note)
+}
+
+// Makes a step with each transaction that is held, in order. Those that it isn't one for are looked at alone. In haste
+// those are left out for which a try would be refused as another was, or since one was made. Whether one was moved.
 fn sweep<N: Naming<Plan, TlmLaw>, R: Wait>(
     net: &Net<N>,
     rt: &R,
+    hasty: bool,
     what: Step,
     note: PlatNote,
     held: &mut VecDeque<Stage>,
@@ -221,13 +254,14 @@ fn sweep<N: Naming<Plan, TlmLaw>, R: Wait>(
     ensures below { StandBelow result.1.knows.known result.1.knows.seen }
     ensures held { AllByRecursion (IsStage N.frame N.tokens result.1.knows.known) held.new.items }
     ensures capacity { deque_capacity held.new ≡ deque_capacity held.old }
-    ensures swept { Sweeps N.frame what held.old.items held.new.items note.knows result.1.knows result.0 }
+    ensures swept { Sweeps N.frame hasty what held.old.items held.new.items note.knows result.1.knows result.0 }
 {
     let mut note = note;
     let mut moved = false;
     let mut at = 0;
+    let mut shut = Shut::none();
     for _k in 0..held.len() {
-        let (next, did, back) = move_at(net, rt, what, note, held, at);
+        let (next, did, back) = come_by(net, rt, hasty, what, &mut shut, note, held, at);
         at = next;
         note = back;
         moved = either(moved, did);
@@ -286,6 +320,7 @@ impl RouterNode {
         &mut self,
         net: &Net<N>,
         rt: &R,
+        hasty: bool,
         what: Step,
         note: PlatNote,
     ) -> (bool, PlatNote)
@@ -296,16 +331,17 @@ impl RouterNode {
         ensures note { IsNote N.table result.1 }
         ensures knew { Within note.knows.known result.1.knows.known }
         ensures below { StandBelow result.1.knows.known result.1.knows.seen }
-        ensures swept { HasSwept N.frame N.tokens what self.old self.new note.knows result.1.knows result.0 }
+        ensures swept { HasSwept N.frame N.tokens hasty what self.old self.new note.knows result.1.knows result.0 }
     {
-        sweep(net, rt, what, note, &mut self.held)
+        sweep(net, rt, hasty, what, note, &mut self.held)
     }
 
-    // Fetches a response from below, where no stray one is kept. Whether it did.
+    // Fetches a response from below, where no stray one is kept. In haste it looks at one hop alone. Whether it did.
     fn take_back<N: Naming<Plan, TlmLaw>, R: Wait>(
         &mut self,
         net: &Net<N>,
         rt: &R,
+        hasty: bool,
         note: PlatNote,
     ) -> (bool, PlatNote)
         requires router { IsRouter N.frame N.tokens self.old note.knows.known }
@@ -315,12 +351,13 @@ impl RouterNode {
         ensures note { IsNote N.table result.1 }
         ensures knew { Within note.knows.known result.1.knows.known }
         ensures below { StandBelow result.1.knows.known result.1.knows.seen }
-        ensures taken { HasTakenBack N.frame N.tokens self.old self.new note.knows result.1.knows result.0 }
+        ensures taken { HasTakenBack N.frame N.tokens hasty self.old self.new note.knows result.1.knows result.0 }
     {
         if self.stray.is_some() {
             return (false, note);
         }
-        let (found, note) = find_back(net, rt, self.below.as_slice(), note);
+        let hops = hops_back(net, hasty, self.below.as_slice());
+        let (found, note) = find_back(net, rt, hops, note);
         let Some(found) = found else {
             return (false, note);
         };
@@ -328,11 +365,13 @@ impl RouterNode {
         (true, note)
     }
 
-    // Fetches a request from above, where there is room for it, and turns it down or back. Whether it did.
+    // Fetches a request from above, where there is room for it, and turns it down or back. In haste it looks at one hop
+    // alone. Whether it did.
     fn take_in<N: Naming<Plan, TlmLaw>, R: Wait>(
         &mut self,
         net: &Net<N>,
         rt: &R,
+        hasty: bool,
         note: PlatNote,
     ) -> (bool, PlatNote)
         requires router { IsRouter N.frame N.tokens self.old note.knows.known }
@@ -342,12 +381,13 @@ impl RouterNode {
         ensures note { IsNote N.table result.1 }
         ensures knew { Within note.knows.known result.1.knows.known }
         ensures below { StandBelow result.1.knows.known result.1.knows.seen }
-        ensures taken { HasTakenIn N.frame N.tokens self.old self.new note result.1 result.0 }
+        ensures taken { HasTakenIn N.frame N.tokens hasty self.old self.new note result.1 result.0 }
     {
         if self.held.len() >= self.room as usize {
             return (false, note);
         }
-        let (request, note) = find_request(net, rt, self.router, self.above.as_slice(), note);
+        let hops = hops_in(net, hasty, self.above.as_slice());
+        let (request, note) = find_request(net, rt, self.router, hops, note);
         let Some(request) = request else {
             return (false, note);
         };
@@ -366,11 +406,64 @@ impl RouterNode {
         (true, note)
     }
 
-    /// A pump goes once through these, in this order. What has ended above is ended below and forgotten. Each
-    /// response that is to go up is tried, and each request that is to go down, in order of arrival. One
-    /// response that waits below is fetched, in order of hops. Where there is room, one request that waits
-    /// above is fetched, in order of hops. The answer is Did where one of them has moved a transaction. It
-    /// takes no memory and can't fail.
+    // Goes once through the steps of a pump, in their order; in haste or with every look. Whether one has moved a
+    // transaction.
+    fn go_through<N: Naming<Plan, TlmLaw>, R: Wait>(
+        &mut self,
+        net: &Net<N>,
+        rt: &R,
+        hasty: bool,
+        note: PlatNote,
+    ) -> (bool, PlatNote)
+        requires router { IsRouter N.frame N.tokens self.old note.knows.known }
+        requires note { IsNote N.table note }
+        requires below { StandBelow note.knows.known note.knows.seen }
+        ensures router { IsRouter N.frame N.tokens self.new result.1.knows.known }
+        ensures note { IsNote N.table result.1 }
+        ensures knew { Within note.knows.known result.1.knows.known }
+        ensures below { StandBelow result.1.knows.known result.1.knows.seen }
+        ensures gone { GoesThrough N.frame N.tokens hasty self.old self.new note result.1 result.0 }
+    {
+        let (ends, note) = self.sweep(net, rt, hasty, Step::End, note);
+        let (sends, note) = self.sweep(net, rt, hasty, Step::Send, note);
+        let (passes, note) = self.sweep(net, rt, hasty, Step::Pass, note);
+        let (joins, note) = self.take_back(net, rt, hasty, note);
+        let (takes, note) = self.take_in(net, rt, hasty, note);
+        let moved = either(ends, either(sends, either(passes, either(joins, takes))));
+        (moved, note)
+    }
+
+    // Goes through in haste, and where nothing was moved once more with every look. Whether a transaction was moved.
+    fn go_on<N: Naming<Plan, TlmLaw>, R: Wait>(
+        &mut self,
+        net: &Net<N>,
+        rt: &R,
+        note: PlatNote,
+    ) -> (bool, PlatNote)
+        requires router { IsRouter N.frame N.tokens self.old note.knows.known }
+        requires note { IsNote N.table note }
+        requires below { StandBelow note.knows.known note.knows.seen }
+        ensures router { IsRouter N.frame N.tokens self.new result.1.knows.known }
+        ensures note { IsNote N.table result.1 }
+        ensures knew { Within note.knows.known result.1.knows.known }
+        ensures below { StandBelow result.1.knows.known result.1.knows.seen }
+        ensures gone { GoesOn N.frame N.tokens self.old self.new note result.1 result.0 }
+    {
+        let (moved, note) = self.go_through(net, rt, true, note);
+        if moved {
+            return (true, note);
+        }
+        self.go_through(net, rt, false, note)
+    }
+
+    /// A pump goes through these, in this order. What has ended above is ended below and forgotten. Each response that is
+    /// to go up is tried, and each request that is to go down, in order of arrival. One response that waits below is
+    /// fetched, in order of hops. Where there is room, one request that waits above is fetched, in order of hops.
+    ///
+    /// First it does so in haste: after a try that was refused at a hop, or that leaves a request or a response open there,
+    /// it leaves out later ones for that hop, and it looks at no hop of which the net tells that nothing waits there. Only
+    /// where nothing was moved so, it goes through once more, with every try and every look. The answer is Did where a
+    /// transaction was moved. It takes no memory and can't fail.
     pub fn pump<N: Naming<Plan, TlmLaw>, R: Wait>(
         &mut self,
         net: &Net<N>,
@@ -386,12 +479,7 @@ impl RouterNode {
         ensures below { StandBelow result.1.knows.known result.1.knows.seen }
         ensures pumped { HasPumped N.frame N.tokens self.old self.new note result.1 result.0 }
     {
-        let (ends, note) = self.sweep(net, rt, Step::End, note);
-        let (sends, note) = self.sweep(net, rt, Step::Send, note);
-        let (passes, note) = self.sweep(net, rt, Step::Pass, note);
-        let (joins, note) = self.take_back(net, rt, note);
-        let (takes, note) = self.take_in(net, rt, note);
-        let moved = either(ends, either(sends, either(passes, either(joins, takes))));
+        let (moved, note) = self.go_on(net, rt, note);
         (pumped_by(moved), note)
     }
 

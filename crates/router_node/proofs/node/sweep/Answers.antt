@@ -3,25 +3,25 @@ use Rattle.router_node.proofs.Looks.{within_on}
 use Rattle.router_node.proofs.Sweeps.{part_here, part_next}
 use Rattle.router_node.proofs.node.sweep.Goals as goal
 
-pub move_at-next-requires-clause-there : goal.move_at-next-requires-clause-there
-move_at-next-requires-clause-there g c =
+pub come_by-next-requires-clause-there : goal.come_by-next-requires-clause-there
+come_by-next-requires-clause-there g c =
     let old = c.args.held.now.items in
     let below : c.loop-k._k < length old = omega (arith, c.loop-k-test.true, c.len-k-end.ensures, c.args.held.now.ok.0) in
-    part_here g.N.Naming.frame c.args.what old c.loop-k._k c.loop-k.at c.loop-k.held.items c.args.note.knows c.loop-k.note.knows c.loop-k.moved below c.loop-k.invariant.swept
+    part_here g.N.Naming.frame c.args.hasty c.args.what old c.loop-k._k c.loop-k.at c.loop-k.held.items c.args.note.knows c.loop-k.note.knows c.loop-k.moved below c.loop-k.invariant.swept
 
 pub loop-k-preserved : goal.loop-k-preserved
 loop-k-preserved g c =
     let frame = g.N.Naming.frame in
     let i = c.loop-k.invariant in
-    let e = c.move_at-next.ensures in
+    let e = c.come_by-next.ensures in
     let old = c.args.held.now.items in
-    let r = c.move_at-next.result in
+    let r = c.come_by-next.result in
     let below : c.loop-k._k < length old = omega (arith, c.loop-k-test.true, c.len-k-end.ensures, c.args.held.now.ok.0) in
     record {
       note = e.note;
-      knew = within_on c.args.note.knows.known c.loop-k.note.knows.known c.move_at-next.result.2.knows.known i.knew e.knew;
+      knew = within_on c.args.note.knows.known c.loop-k.note.knows.known c.come_by-next.result.2.knows.known i.knew e.knew;
       below = e.below;
       held = e.held;
       capacity = e.capacity ∙ i.capacity;
-      swept = part_next frame c.args.what old c.loop-k._k c.loop-k.at r.0 c.loop-k.held.items c.move_at-next.new.held.items c.args.note.knows c.loop-k.note.knows c.move_at-next.result.2.knows c.loop-k.moved r.1 c.either-moved.result c.either-moved.ensures below i.swept e.knew e.moved;
+      swept = part_next frame c.args.hasty c.args.what old c.loop-k._k c.loop-k.at r.0 c.loop-k.held.items c.come_by-next.new.held.items c.args.note.knows c.loop-k.note.knows c.come_by-next.result.2.knows c.loop-k.moved r.1 c.either-moved.result c.either-moved.ensures below i.swept e.knew e.moved;
     }

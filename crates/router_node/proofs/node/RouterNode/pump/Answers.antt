@@ -1,4 +1,4 @@
-use Rattle.std.proofs.Common.{◌≡◌, ◌||◌, Bool, sym, ap, subst, ◌∙◌}
+use Rattle.std.proofs.Common.{sym, subst}
 use Rattle.router_node.specs.Node.{HasPumped}
 use Rattle.router_node.specs.declared.node.Pumped.{Pumped}
 use Rattle.router_node.proofs.Pumps.{has_pumped}
@@ -8,33 +8,6 @@ pub returns-clause-pumped : goal.returns-clause-pumped
 returns-clause-pumped g c =
     let frame = g.N.Naming.frame in
     let tokens = g.N.Naming.tokens in
-    let ends = c.sweep-ends.result.0 in
-    let sends = c.sweep-sends.result.0 in
-    let passes = c.sweep-passes.result.0 in
-    let joins = c.take_back-joins.result.0 in
-    let takes = c.take_in-takes.result.0 in
-    let some : c.either-moved.result ≡ (ends || (sends || (passes || (joins || takes)))) =
-    c.either-moved.ensures ∙ ap (λ (b : Bool). ends || b) (c.either-3.ensures ∙ ap (λ (b : Bool). sends || b) (c.either-2.ensures ∙ ap (λ (b : Bool). passes || b) c.either.ensures)) in
-    subst (λ (a : Pumped). HasPumped frame tokens c.args.self.now c.take_in-takes.new.self c.args.note c.take_in-takes.result.1 a) (sym c.pumped_by.ensures) (has_pumped frame tokens c.args.self.now c.take_in-takes.new.self c.args.note c.take_in-takes.result.1 c.either-moved.result (record {
-      ended = c.sweep-ends.new.self;
-      after_end = c.sweep-ends.result.1;
-      ends = ends;
-      end_all = c.sweep-ends.ensures.swept;
-      sent = c.sweep-sends.new.self;
-      after_send = c.sweep-sends.result.1;
-      sends = sends;
-      send_all = c.sweep-sends.ensures.swept;
-      passed = c.sweep-passes.new.self;
-      after_pass = c.sweep-passes.result.1;
-      passes = passes;
-      pass_all = c.sweep-passes.ensures.swept;
-      joined = c.take_back-joins.new.self;
-      after_back = c.take_back-joins.result.1;
-      joins = joins;
-      take_back = c.take_back-joins.ensures.taken;
-      knew_back = c.take_back-joins.ensures.knew;
-      takes = takes;
-      take_in = c.take_in-takes.ensures.taken;
-      knew_in = c.take_in-takes.ensures.knew;
-      moved_is = some;
-    }))
+    let new = c.go_on-moved.new.self in
+    let is = c.go_on-moved.result.1 in
+    subst (λ (a : Pumped). HasPumped frame tokens c.args.self.now new c.args.note is a) (sym c.pumped_by.ensures) (has_pumped frame tokens c.args.self.now new c.args.note is c.go_on-moved.result.0 c.go_on-moved.ensures.gone)

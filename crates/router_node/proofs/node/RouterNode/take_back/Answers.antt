@@ -1,7 +1,8 @@
-use Rattle.std.proofs.Common.{◌≡◌, ℕ, List, ◌≤◌, length, Option, None, refl, sym, subst, ◌∙◌, arith}
+use Rattle.std.proofs.Common.{ℕ, List, ◌≤◌, length, Option, refl, sym, subst, ◌∙◌, arith}
 use Rattle.std.specs.VecDeque.{deque_capacity}
-use Rattle.router_node.specs.Finds.{HasFoundBack}
+use Rattle.router_node.specs.Finds.{AreLookedAt, HasFoundBack, IsHopBelow}
 use Rattle.router_node.specs.declared.finds.Found.{Found}
+use Rattle.router_node.proofs.Hasty.{each_looked, kept_back, not_back}
 use Rattle.router_node.proofs.Holds.{all_more, is_none, keeps, router_more, strays}
 use Rattle.router_node.proofs.JoinsOne.{joined_count}
 use Rattle.router_node.proofs.node.RouterNode.take_back.Goals as goal
@@ -26,6 +27,26 @@ returns-clause-router g c =
     let room : r.room ≤ deque_capacity c.join_one.new.held = omega (arith, is.room, e.capacity) in
     keeps frame tokens known more c.find_back-found.ensures.knew r (record r { held = c.join_one.new.held; stray = c.join_one.result }) refl is e.held few room (strays frame tokens more c.join_one.result e.found)
 
+pub returns-then-is_some-clause-taken : goal.returns-then-is_some-clause-taken
+returns-then-is_some-clause-taken g c = kept_back g.N.Naming.frame g.N.Naming.tokens c.args.hasty c.args.self.now c.args.note.knows (sym c.is_some.ensures ∙ c.if-is_some.true)
+
+pub find_back-found-requires-clause-hops : goal.find_back-found-requires-clause-hops
+find_back-found-requires-clause-hops g c =
+    let r = c.args.self.now in
+    let a = subst (λ (l : List ℕ). AreLookedAt c.args.hasty l c.hops_back-hops.result.now) c.as_slice.ensures.value c.hops_back-hops.ensures in
+    each_looked c.args.hasty (λ (h : ℕ). IsHopBelow g.N.Naming.frame.world h) r.below.items c.hops_back-hops.result.now a c.requires.router.below
+
+pub returns-in_default-clause-taken : goal.returns-in_default-clause-taken
+returns-in_default-clause-taken g c =
+    let frame = g.N.Naming.frame in
+    let tokens = g.N.Naming.tokens in
+    let r = c.args.self.now in
+    let was = c.args.note.knows in
+    let is = c.find_back-found.result.1.knows in
+    let a = subst (λ (l : List ℕ). AreLookedAt c.args.hasty l c.hops_back-hops.result.now) c.as_slice.ensures.value c.hops_back-hops.ensures in
+    let f = subst (λ (o : Option Found). HasFoundBack frame tokens c.hops_back-hops.result.now was is o) c.in_default.is c.find_back-found.ensures.found in
+    not_back frame tokens c.args.hasty r c.hops_back-hops.result.now was is (is_none r.stray (sym c.if-is_some.false ∙ c.is_some.ensures)) a f
+
 pub returns-clause-taken : goal.returns-clause-taken
 returns-clause-taken g c =
     let frame = g.N.Naming.frame in
@@ -33,10 +54,12 @@ returns-clause-taken g c =
     let r = c.args.self.now in
     let was = c.args.note.knows in
     let is = c.find_back-found.result.1.knows in
-    let f = subst (λ (l : List ℕ). HasFoundBack frame tokens l was is (Rattle.std.proofs.Common.Some c.in-Some.found)) c.as_slice.ensures.value (subst (λ (o : Option Found). HasFoundBack frame tokens c.as_slice.result.now was is o) c.in-Some.is c.find_back-found.ensures.found) in
+    let f = subst (λ (o : Option Found). HasFoundBack frame tokens c.hops_back-hops.result.now was is o) c.in-Some.is c.find_back-found.ensures.found in
     record {
       free = is_none r.stray (sym c.if-is_some.false ∙ c.is_some.ensures);
       found = c.in-Some.found;
+      hops = c.hops_back-hops.result.now;
+      looked_at = subst (λ (l : List ℕ). AreLookedAt c.args.hasty l c.hops_back-hops.result.now) c.as_slice.ensures.value c.hops_back-hops.ensures;
       first = f.0;
       waited = f.1;
       joined = c.join_one.ensures.joined;

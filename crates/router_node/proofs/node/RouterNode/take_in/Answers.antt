@@ -1,10 +1,11 @@
 use Rattle.std.proofs.Common.{◌≡◌, ℕ, ◌+◌, ◌≤◌, List, [], ◌∷◌, length, Option, Some, refl, ap, subst, ◌∙◌, length-append, arith}
 use Rattle.std.specs.VecDeque.{deque_capacity}
-use Rattle.router_node.specs.Finds.{HasFoundRequest}
+use Rattle.router_node.specs.Finds.{AreLookedAt, HasFoundRequest, IsHopAbove}
 use Rattle.router_node.specs.Node.{stage_of}
 use Rattle.router_node.specs.Stages.{IsStage}
 use Rattle.router_node.specs.declared.items.Request.{Request}
 use Rattle.router_node.specs.declared.stage.Stage.{Stage}
+use Rattle.router_node.proofs.Hasty.{each_looked, full_in, not_in}
 use Rattle.router_node.proofs.Holds.{all_more, all_next, keeps, last_is, latency_to, router_more, stray_more, turned_stage}
 use Rattle.router_node.proofs.Looks.{within_on}
 use Rattle.router_node.proofs.node.RouterNode.take_in.Goals as goal
@@ -12,19 +13,37 @@ use Rattle.router_node.proofs.node.RouterNode.take_in.Goals as goal
 pub returns-in_default-clause-router : goal.returns-in_default-clause-router
 returns-in_default-clause-router g c = router_more g.N.Naming.frame g.N.Naming.tokens c.args.note.knows.known c.find_request-request.result.1.knows.known c.find_request-request.ensures.knew c.args.self.now c.requires.router
 
--- what was found, at which hop
-found : (g : _) (c : goal.After-push_back_reserved g) → HasFoundRequest g.N.Naming.frame g.N.Naming.tokens c.args.self.now.router c.args.self.now.above.items c.args.note.knows c.find_request-request.result.1.knows (Some c.in-Some.request)
-found g c =
-    let frame = g.N.Naming.frame in
+pub returns-then-len-self-clause-taken : goal.returns-then-len-self-clause-taken
+returns-then-len-self-clause-taken g c =
     let r = c.args.self.now in
-    subst (λ (l : List ℕ). HasFoundRequest frame g.N.Naming.tokens r.router l c.args.note.knows c.find_request-request.result.1.knows (Some c.in-Some.request)) c.as_slice.ensures.value
-    (subst (λ (o : Option Request). HasFoundRequest frame g.N.Naming.tokens r.router c.as_slice.result.now c.args.note.knows c.find_request-request.result.1.knows o) c.in-Some.is c.find_request-request.ensures.found)
+    full_in g.N.Naming.frame g.N.Naming.tokens c.args.hasty r c.args.note (omega (arith, c.len.ensures, c.if-len-self.true, r.held.ok.0))
+
+pub find_request-request-requires-clause-hops : goal.find_request-request-requires-clause-hops
+find_request-request-requires-clause-hops g c =
+    let r = c.args.self.now in
+    let a = subst (λ (l : List ℕ). AreLookedAt c.args.hasty l c.hops_in-hops.result.now) c.as_slice.ensures.value c.hops_in-hops.ensures in
+    each_looked c.args.hasty (λ (h : ℕ). IsHopAbove g.N.Naming.frame.world r.router h) r.above.items c.hops_in-hops.result.now a c.requires.router.above
+
+pub returns-in_default-clause-taken : goal.returns-in_default-clause-taken
+returns-in_default-clause-taken g c =
+    let frame = g.N.Naming.frame in
+    let tokens = g.N.Naming.tokens in
+    let r = c.args.self.now in
+    let hops = c.hops_in-hops.result.now in
+    let a = subst (λ (l : List ℕ). AreLookedAt c.args.hasty l hops) c.as_slice.ensures.value c.hops_in-hops.ensures in
+    let f = subst (λ (o : Option Request). HasFoundRequest frame tokens r.router hops c.args.note.knows c.find_request-request.result.1.knows o) c.in_default.is c.find_request-request.ensures.found in
+    not_in frame tokens c.args.hasty r hops c.args.note c.find_request-request.result.1 (omega (arith, c.len.ensures, c.if-len-self.false, r.held.ok.0)) a f
+
+-- what was found, at which hop
+found : (g : _) (c : goal.After-push_back_reserved g) → HasFoundRequest g.N.Naming.frame g.N.Naming.tokens c.args.self.now.router c.hops_in-hops.result.now c.args.note.knows c.find_request-request.result.1.knows (Some c.in-Some.request)
+found g c =
+    subst (λ (o : Option Request). HasFoundRequest g.N.Naming.frame g.N.Naming.tokens c.args.self.now.router c.hops_in-hops.result.now c.args.note.knows c.find_request-request.result.1.knows o) c.in-Some.is c.find_request-request.ensures.found
 
 pub turn-turned-requires-clause-latency : goal.turn-turned-requires-clause-latency
 turn-turned-requires-clause-latency g c =
     let frame = g.N.Naming.frame in
     let r = c.args.self.now in
-    let f = subst (λ (o : Option Request). HasFoundRequest frame g.N.Naming.tokens r.router c.as_slice.result.now c.args.note.knows c.find_request-request.result.1.knows o) c.in-Some.is c.find_request-request.ensures.found in
+    let f = subst (λ (o : Option Request). HasFoundRequest frame g.N.Naming.tokens r.router c.hops_in-hops.result.now c.args.note.knows c.find_request-request.result.1.knows o) c.in-Some.is c.find_request-request.ensures.found in
     c.requires.router.latency ∙ latency_to frame.world c.in-Some.request.hop r.router f.2.leads
 
 pub returns-clause-router : goal.returns-clause-router
@@ -54,6 +73,8 @@ returns-clause-taken g c =
       room = omega (arith, c.len.ensures, c.if-len-self.false, r.held.ok.0);
       request = c.in-Some.request;
       mid = c.find_request-request.result.1;
+      hops = c.hops_in-hops.result.now;
+      looked_at = subst (λ (l : List ℕ). AreLookedAt c.args.hasty l c.hops_in-hops.result.now) c.as_slice.ensures.value c.hops_in-hops.ensures;
       first = f.0;
       waited = f.2;
       turned = c.turn-turned.result.0;
