@@ -2,3 +2,5 @@ pub mod ShapeFits
 pub mod WalkSteps
 pub mod Walks
 pub mod RunWords
+pub mod Seeds
+pub mod WorkedSeeds

@@ -1,4 +1,4 @@
--- What `clap` reads in words that ask for a run.
+-- What `clap` reads in words that ask for a run, of a file or of a number.
 use Rattle.std.proofs.Common.{◌≡◌, ℕ, zero, suc, ◌≤◌, ◌==◌, ◌&&◌, Bool, true, false, List, [], ◌∷◌, ◌++◌, Option, Some, None, is_some, codes, length, if◌then◌else◌}
 use Rattle.std.proofs.Common.{refl, sym, ◌∙◌, ap, subst, arith, append_assoc, append-nil, option_map, option_and_then, drop, fold, nat_eq, unwrap_or}
 use Rattle.std.specs.List.{cons_option, filter_map, list_all, starts_with}
@@ -12,9 +12,9 @@ use Rattle.clap.specs.Simple.{entered}
 use Rattle.clap.specs.Takes.{default_passes, entered_passes, is_valid, settle_passes, walk_passes}
 use Rattle.tlm_model.specs.declared.trace.Trace.{Trace}
 use Rattle.command_words.specs.Parser.{run_app}
-use Rattle.command_words.specs.Words.{Part, CommandLine, file, workers, trace, file_in, workers_in, trace_in, asked, parts_of, part_of, joined, run_of}
+use Rattle.command_words.specs.Words.{Part, CommandLine, file, workers, trace, file_in, workers_in, trace_in, asked, parts_of, part_of, joined, run_of, gen_of, gen_by, gen_asked, gen_line, seed_of}
 use Rattle.command_words.specs.Words.{workers_of, trace_of, file_name, after_prefix, trace_or_file, workers_or_other, wants_value, only_one, one_or, run_line, one_to_nine, ten_to_sixteen}
-use Rattle.command_words.proofs.ShapeFits.{is_some-run_line}
+use Rattle.command_words.proofs.ShapeFits.{is_some-gen_line, is_some-run_line}
 use Rattle.command_words.proofs.WalkSteps.{rules, run_shape, trace_built, file_built, part_rows, between, Pending, passes_settling, plain_word, workers_option, trace_option}
 use Rattle.command_words.proofs.Walks.{Stands, Reads, ReadsTwo, reads_attached, reads_two, reads_file}
 
@@ -396,3 +396,59 @@ run_is_read words e =
 
 pub run_is_taken : (words : List Text) → is_some (run_of words) ≡ true → takes run_app words ≡ true
 run_is_taken words e = let h = has_parts words e in (is_read_as words h.parts h.are h.once).taken
+
+-- ---- the words after `gen`, which are those of a run with a seed for its file and without a trace
+
+two_true : (a b : Bool) → (a && b) ≡ true → (a ≡ true) × (b ≡ true)
+two_true true true e = (refl, refl)
+two_true true false e = absurd (cc)
+two_true false b e = absurd (cc)
+
+-- the parts ask for a seed, and for no trace
+record IsGen (parts : List Part) (traces : List Text) : Type 0 where
+  no_trace : traces ≡ []
+  seed : is_some (only_one (filter_map file_in parts)) ≡ true
+  count : is_some (option_and_then workers_of (one_or (codes "4") (filter_map workers_in parts))) ≡ true
+
+is_gen : (parts : List Part) (traces : List Text) → is_some (gen_by traces parts) ≡ true → IsGen parts traces
+is_gen parts [] e =
+    let both = two_true _ _ (sym (is_some-gen_line _ _) ∙ e) in
+    record { no_trace = refl; seed = inner_some seed_of _ both.0; count = both.1 }
+is_gen parts (t ∷ traces) e = absurd (cc)
+
+gen_asks : (parts : List Part) → is_some (gen_asked parts) ≡ true → IsAsked parts
+gen_asks parts e =
+    let g = is_gen parts (filter_map trace_in parts) e in
+    is_some-run_line _ _ _ ∙ rw (g.no_trace, g.seed, g.count) refl
+
+abbrev pub gen_in_rows : List Row → Option CommandLine
+gen_in_rows rows = gen_line (option_and_then seed_of (first_of (codes "file") rows)) (workers_of (unwrap_or (first_of (codes "workers") rows) (codes "4")))
+
+gen_asked_is : (parts : List Part) → is_some (gen_asked parts) ≡ true → gen_in_rows (part_rows parts) ≡ gen_asked parts
+gen_asked_is parts e =
+    let g = is_gen parts (filter_map trace_in parts) e in
+    let name = file_first parts ∙ only_first _ g.seed in
+    let count = ap (λ (o : Option Text). workers_of (unwrap_or o (codes "4"))) (workers_first parts)
+    ∙ one_or_first workers_of (codes "4") (filter_map workers_in parts) (inner_some workers_of _ g.count) in
+    rw (name, count, g.no_trace) refl
+
+record HasGenParts (words : List Text) : Type 0 where
+  parts : List Part
+  are : parts_of (joined words) ≡ Some parts
+  asked : is_some (gen_asked parts) ≡ true
+
+has_gen_parts : (words : List Text) → is_some (gen_of words) ≡ true → HasGenParts words
+has_gen_parts words e = go (parts_of (joined words)) refl
+  where
+    go : (o : Option (List Part)) → parts_of (joined words) ≡ o → HasGenParts words
+    go None f = let no : false ≡ true = rw f at e in absurd (cc)
+    go (Some ps) f = record { parts = ps; are = f; asked = rw f at e }
+
+pub gen_is_run : (words : List Text) → is_some (gen_of words) ≡ true → is_some (run_of words) ≡ true
+gen_is_run words e = let h = has_gen_parts words e in rw h.are (gen_asks h.parts h.asked)
+
+-- in words that ask for what is generated of a seed, `clap` reads just that
+pub gen_is_read : (words : List Text) → is_some (gen_of words) ≡ true → gen_in_rows (matches_of run_app words) ≡ gen_of words
+gen_is_read words e =
+    let h = has_gen_parts words e in
+    ap gen_in_rows (is_read_as words h.parts h.are (gen_asks h.parts h.asked)).rows ∙ gen_asked_is h.parts h.asked ∙ sym (ap (option_and_then gen_asked) h.are)

@@ -1,11 +1,11 @@
--- Words ask for a run just where the kinds of their parts fit.
-use Rattle.std.proofs.Common.{◌≡◌, ℕ, suc, Bool, true, false, ◌&&◌, List, [], ◌∷◌, Option, Some, None, is_some, codes, length, map, filter}
+-- Words ask for a run, of a file or of a number, just where the kinds of their parts fit.
+use Rattle.std.proofs.Common.{◌≡◌, ℕ, suc, Bool, true, false, ◌&&◌, List, [], ◌∷◌, Option, Some, None, is_some, codes, length, map, filter, if◌then◌else◌}
 use Rattle.std.proofs.Common.{option_map, option_and_then, refl, sym, ◌∙◌, ap, ap₂, subst, arith}
 use Rattle.std.specs.List.{filter_map}
 use Rattle.std.specs.Option.{option_map_or}
 use Rattle.command_words.specs.Words.{Part, Text, file, workers, trace, after_prefix, asked, parts_of, part_of, run_line, only_one, one_or}
-use Rattle.command_words.specs.Words.{workers_of, trace_of, file_name, trace_or_file, workers_or_other, file_in, workers_in, trace_in}
-use Rattle.command_words.specs.Shape.{kind_of, kinds_of, fits, is_file, is_workers, is_trace, is_one, is_at_most_one}
+use Rattle.command_words.specs.Words.{workers_of, seed_of, trace_of, file_name, trace_or_file, workers_or_other, file_in, workers_in, trace_in, gen_line, gen_by, gen_asked}
+use Rattle.command_words.specs.Shape.{kind_of, kinds_of, fits, fits_gen, is_file, is_seed, is_workers, is_trace, is_one, is_none, is_at_most_one}
 use Rattle.command_words.specs.declared.shape.PartKind.{PartKind}
 use Rattle.tlm_model.specs.declared.trace.Trace.{Trace}
 
@@ -146,3 +146,72 @@ fits_just_runs words = rw kinds_of-parts (go (parts_of words) refl)
         → option_map_or (λ (ks : List PartKind). fits ks) (option_map (map kind_of) parts) false ≡ is_some (option_and_then asked parts)
     go None e = refl
     go (Some ps) e = fits-kinds ps (parts_right words ps e)
+
+-- ---- the same where a seed stands in the place of the file
+
+abbrev names_seed : Text → Bool
+names_seed name = is_some (seed_of name)
+
+seeds_many : (ps : List Part) → length (filter names_seed (filter_map file_in ps)) ≡ length (filter is_seed (map kind_of ps))
+seeds_many [] = refl
+seeds_many (file x ∷ ps) = go (names_seed x) (seeds_many ps)
+  where
+    go : (b : Bool) → length (filter names_seed (filter_map file_in ps)) ≡ length (filter is_seed (map kind_of ps))
+        → length (if b then x ∷ filter names_seed (filter_map file_in ps) else filter names_seed (filter_map file_in ps))
+        ≡ length (if b then kind_of (file x) ∷ filter is_seed (map kind_of ps) else filter is_seed (map kind_of ps))
+    go true e = ap suc e
+    go false e = e
+seeds_many (workers x ∷ ps) = seeds_many ps
+seeds_many (trace x ∷ ps) = seeds_many ps
+
+one_by : (b : Bool) (x : Text) (ks : List PartKind) → length (if b then x ∷ [] else []) ≡ length ks → b ≡ is_one ks
+one_by true x [] e = absurd (omega arith)
+one_by true x (k ∷ []) e = refl
+one_by true x (k ∷ l ∷ ks) e = absurd (omega arith)
+one_by false x [] e = refl
+one_by false x (k ∷ ks) e = absurd (omega arith)
+
+one_seed_is : (xs : List Text) (ks ss : List PartKind) → length xs ≡ length ks → length (filter names_seed xs) ≡ length ss
+    → is_some (option_and_then seed_of (only_one xs)) ≡ is_one ks && is_one ss
+one_seed_is [] [] ss e f = refl
+one_seed_is [] (k ∷ ks) ss e f = absurd (omega arith)
+one_seed_is (x ∷ xs) [] ss e f = absurd (omega arith)
+one_seed_is (x ∷ []) (k ∷ []) ss e f = one_by (names_seed x) x ss f
+one_seed_is (x ∷ []) (k ∷ l ∷ ks) ss e f = absurd (omega arith)
+one_seed_is (x ∷ y ∷ xs) (k ∷ []) ss e f = absurd (omega arith)
+one_seed_is (x ∷ y ∷ xs) (k ∷ l ∷ ks) ss e f = refl
+
+pub is_some-gen_line : (s n : Option ℕ) → is_some (gen_line s n) ≡ is_some s && is_some n
+is_some-gen_line None n = refl
+is_some-gen_line (Some s) None = refl
+is_some-gen_line (Some s) (Some n) = refl
+
+with_true : (b : Bool) → b && true ≡ b
+with_true true = refl
+with_true false = refl
+
+never : (a b : Bool) → a && (b && false) ≡ false
+never true true = refl
+never true false = refl
+never false b = refl
+
+gen_by_kinds : (ps : List Part) → AreRight ps → (ts : List Text) (ks : List PartKind) → length ts ≡ length ks
+    → (is_one (filter is_file (map kind_of ps)) && is_one (filter is_seed (map kind_of ps)))
+    && (is_at_most_one (filter is_workers (map kind_of ps)) && is_none ks) ≡ is_some (gen_by ts ps)
+gen_by_kinds ps r [] [] e = sym (is_some-gen_line _ _
+    ∙ ap₂ (λ (a b : Bool). a && b) (one_seed_is _ _ _ (files_many ps) (seeds_many ps))
+    (at_most_one_is workers_of (codes "4") _ _ refl (workers_read ps r) (workers_many ps) ∙ sym (with_true _)))
+gen_by_kinds ps r [] (k ∷ ks) e = absurd (omega arith)
+gen_by_kinds ps r (t ∷ ts) [] e = absurd (omega arith)
+gen_by_kinds ps r (t ∷ ts) (k ∷ ks) e = never _ _
+
+pub fits_gen-kinds : (ps : List Part) → AreRight ps → fits_gen (map kind_of ps) ≡ is_some (gen_asked ps)
+fits_gen-kinds ps r = gen_by_kinds ps r (filter_map trace_in ps) (filter is_trace (map kind_of ps)) (traces_many ps)
+
+pub fits_just_gens : (words : List Text) → option_map_or (λ (ks : List PartKind). fits_gen ks) (kinds_of words) false ≡ is_some (option_and_then gen_asked (parts_of words))
+fits_just_gens words = rw kinds_of-parts (go (parts_of words) refl)
+  where
+    go : (parts : Option (List Part)) → parts_of words ≡ parts
+        → option_map_or (λ (ks : List PartKind). fits_gen ks) (option_map (map kind_of) parts) false ≡ is_some (option_and_then gen_asked parts)
+    go None e = refl
+    go (Some ps) e = fits_gen-kinds ps (parts_right words ps e)

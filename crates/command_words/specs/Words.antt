@@ -1,18 +1,21 @@
 -- The words of the command line.
-use Rattle.std.specs.Prelude.{ℕ, ◌+◌, ◌-◌, ◌==◌, ◌&&◌, ◌||◌, Bool, List, [], ◌∷◌, ◌++◌, Option, Some, None}
-use Rattle.std.specs.Prelude.{option_map, option_and_then, if◌then◌else◌, codes, drop, length, nat_eq, nat_le}
+use Rattle.std.specs.Prelude.{ℕ, ◌+◌, ◌-◌, ◌^◌, ◌==◌, ◌&&◌, ◌||◌, Bool, List, [], ◌∷◌, ◌++◌, Option, Some, None}
+use Rattle.std.specs.Prelude.{option_map, option_and_then, if◌then◌else◌, codes, drop, length, nat_eq, nat_le, nat_lt}
+use Rattle.std.specs.Fmt.{decimal}
 use Rattle.std.specs.List.{starts_with, filter_map}
 use Rattle.std.specs.Str.{bytes_eq}
+use Rattle.std.specs.Str.Parse.{digits_value}
 use Rattle.tlm_model.specs.declared.trace.Trace.{Trace}
 use Rattle.tlm_model.specs.declared.trace.Trace.TheVariants.{All as all_entries, Accesses as accesses_alone, None as no_entries}
 
 abbrev pub Text : Type 0
 Text = List ℕ
 
--- what a command line asks for: a run of the platform of a file, or of one script
+-- what a command line asks for: a run of the platform of a file, of one script, or of what is generated of a number
 pub data CommandLine : Type 0 where
   run : (file : Text) → (workers : ℕ) → (trace : Trace) → CommandLine
   script : (file : Text) → CommandLine
+  gen : (seed : ℕ) → (workers : ℕ) → CommandLine
 
 -- ---- one word
 
@@ -20,6 +23,11 @@ pub data CommandLine : Type 0 where
 abbrev pub file_name : Text → Option Text
 file_name [] = None
 file_name (c ∷ cs) = if c == 45 then None else Some (c ∷ cs)
+
+-- a seed is a number below 2^64 as it is printed: decimal, without sign or leading zeros
+abbrev pub seed_of : Text → Option ℕ
+seed_of word =
+    if nat_lt (digits_value 10 word) (2 ^ 64) && bytes_eq word (decimal (digits_value 10 word)) then Some (digits_value 10 word) else None
 
 -- the value of the one digit or of the two digits of a number from 1 to 16
 abbrev pub one_to_nine : ℕ → Option ℕ
@@ -43,9 +51,9 @@ trace_of word =
     else if bytes_eq word (codes "none") then Some no_entries
     else None
 
--- ---- the words after `run`
+-- ---- the words after `run` or `gen`
 
--- a part of these words: a file, or an option with its value
+-- a part of these words: a file, or what stands in its place; or an option with its value
 pub data Part : Type 0 where
   file : (name : Text) → Part
   workers : (value : Text) → Part
@@ -135,10 +143,30 @@ asked parts = run_line (only_one (filter_map file_in parts))
     (option_and_then workers_of (one_or (codes "4") (filter_map workers_in parts)))
     (option_and_then trace_of (one_or (codes "all") (filter_map trace_in parts)))
 
+-- ---- the words after `gen`
+
+abbrev pub gen_line : Option ℕ → Option ℕ → Option CommandLine
+gen_line None n = None
+gen_line (Some seed) None = None
+gen_line (Some seed) (Some n) = Some (gen seed n)
+
+-- just one seed in the place of a file, and the number of workers at most once: `--workers 4` where it is left out
+abbrev pub gen_by : List Text → List Part → Option CommandLine
+gen_by [] parts = gen_line (option_and_then seed_of (only_one (filter_map file_in parts)))
+    (option_and_then workers_of (one_or (codes "4") (filter_map workers_in parts)))
+gen_by (t ∷ traces) parts = None
+
+-- the same, and no trace
+abbrev pub gen_asked : List Part → Option CommandLine
+gen_asked parts = gen_by (filter_map trace_in parts) parts
+
 -- ---- the command line
 
 abbrev pub run_of : List Text → Option CommandLine
 run_of words = option_and_then asked (parts_of (joined words))
+
+abbrev pub gen_of : List Text → Option CommandLine
+gen_of words = option_and_then gen_asked (parts_of (joined words))
 
 abbrev pub script_of : List Text → Option CommandLine
 script_of [] = None
@@ -151,4 +179,5 @@ command_of [] = None
 command_of (word ∷ rest) =
     if bytes_eq word (codes "run") then run_of rest
     else if bytes_eq word (codes "script") then script_of rest
+    else if bytes_eq word (codes "gen") then gen_of rest
     else None

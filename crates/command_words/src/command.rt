@@ -15,4 +15,9 @@ pub enum Command<'a> {
     Script {
         file: &'a str,
     },
+    /// A run of the platform that is generated of this number, with this many workers, 1 to 16.
+    Gen {
+        seed: u64,
+        workers: u32,
+    },
 }

@@ -1,7 +1,7 @@
 //! The command line: what the words of the program ask for.
 //!
-//! - `Command` is what a command line asks for: `run FILE [--workers N] [--trace all|accesses|none]`
-//!   or `script FILE`. The words are those after the program's name.
+//! - `Command` is what a command line asks for: `run FILE [--workers N] [--trace all|accesses|none]`,
+//!   `script FILE` or `gen SEED [--workers N]`. The words are those after the program's name.
 //! - `read_words` reads the words.
 //! - `worked` has worked command lines, proved by computing the definition.
 //!

@@ -1,17 +1,18 @@
-// The shape of the words after `run`.
+// The shape of the words after `run` or `gen`.
 ghost use Rattle.std.specs.Prelude.{◌≡◌, ◌≤◌, ⊤, List, ◌∷◌, ◌++◌, None, false, length, MatchOption, option_map, is_some};
 ghost use Rattle.std.specs.Option.{option_map_or};
-ghost use Rattle.command_words.specs.Words.{joined, run_of};
+ghost use Rattle.command_words.specs.Words.{gen_of, joined, run_of};
 ghost use Rattle.command_words.specs.Commands.{texts};
-ghost use Rattle.command_words.specs.Shape.{fits, kind_at, kinds_of, seen_kinds};
+ghost use Rattle.command_words.specs.Shape.{fits, fits_gen, kind_at, kinds_of, seen_kinds};
 ghost use Rattle.command_words.specs.declared.shape.PartKind.{PartKind as AnyKind};
 
-use crate::values::{file_name, trace_of, workers_of};
+use crate::values::{file_name, seed_of, trace_of, workers_of};
 
-// What a part of the words is: a file, or an option with its value.
+// What a part of the words is: a file, or an option with its value. Where a file's name is a seed, the
+// part can be that seed too.
 #[derive(Clone, Copy)]
 pub enum PartKind {
-    File,
+    File { seed: bool },
     Workers,
     Trace,
 }
@@ -27,7 +28,10 @@ fn kind_at(word: &str) -> Option<PartKind>
     if let Some(value) = bytes.strip_prefix(b"--trace=") {
         return trace_of(value).map(|_| PartKind::Trace);
     }
-    file_name(word).map(|_| PartKind::File)
+    let name = file_name(word)?;
+    Some(PartKind::File {
+        seed: seed_of(name).is_some(),
+    })
 }
 
 // What the first part of some words is, and the words after it.
@@ -52,10 +56,11 @@ fn first_kind<'a>(word: &str, more: &'a [String]) -> Option<(PartKind, &'a [Stri
     }
 }
 
-// Which parts the words had so far.
+// Which parts the words had so far, and whether the name of the file is a seed.
 #[derive(Clone, Copy, Default)]
 pub struct Seen {
     pub file: bool,
+    pub seed: bool,
     pub workers: bool,
     pub trace: bool,
 }
@@ -63,11 +68,17 @@ pub struct Seen {
 impl Seen {
     // The same with one more part, unless such a part was seen before.
     fn with(self, kind: PartKind) -> Option<Seen>
-        ensures { (kinds : List AnyKind) → fits (seen_kinds self ++ kind ∷ kinds)
+        ensures run { (kinds : List AnyKind) → fits (seen_kinds self ++ kind ∷ kinds)
             ≡ option_map_or (λ seen. fits (seen_kinds seen ++ kinds)) result false }
+        ensures gen_ { (kinds : List AnyKind) → fits_gen (seen_kinds self ++ kind ∷ kinds)
+            ≡ option_map_or (λ seen. fits_gen (seen_kinds seen ++ kinds)) result false }
     {
         match kind {
-            PartKind::File if !self.file => Some(Seen { file: true, ..self }),
+            PartKind::File { seed } if !self.file => Some(Seen {
+                file: true,
+                seed,
+                ..self
+            }),
             PartKind::Workers if !self.workers => Some(Seen {
                 workers: true,
                 ..self
@@ -83,7 +94,8 @@ impl Seen {
 
 // Which parts the words have, where each word is a part and none comes twice.
 fn seen_in(words: &[String]) -> Option<Seen>
-    ensures { option_map_or (λ seen. fits (seen_kinds seen)) result false ≡ is_some (run_of (texts words.now)) }
+    ensures run { option_map_or (λ seen. fits (seen_kinds seen)) result false ≡ is_some (run_of (texts words.now)) }
+    ensures gen_ { option_map_or (λ seen. fits_gen (seen_kinds seen)) result false ≡ is_some (gen_of (texts words.now)) }
 {
     let mut seen = Seen::default();
     let mut rest = words;
@@ -100,4 +112,12 @@ pub fn has_run_shape(words: &[String]) -> bool
     ensures { result ≡ is_some (run_of (texts words.now)) }
 {
     seen_in(words).is_some_and(|seen| seen.file)
+}
+
+// Whether these are the words after `gen` of a command line: one seed, and the number of workers at
+// most once.
+pub fn has_gen_shape(words: &[String]) -> bool
+    ensures { result ≡ is_some (gen_of (texts words.now)) }
+{
+    seen_in(words).is_some_and(|seen| seen.file && seen.seed && !seen.trace)
 }

@@ -1,7 +1,8 @@
 // What single words and the values of options write.
 ghost use Rattle.std.specs.Prelude.{◌≡◌, ◌≤◌, IfSome, option_map};
-ghost use Rattle.command_words.specs.Words.{file_name, workers_of, trace_of};
+ghost use Rattle.command_words.specs.Words.{file_name, seed_of, workers_of, trace_of};
 
+use itoa::Buffer;
 use tlm_model::Trace;
 
 // A file's name: not empty, and it doesn't begin with `-`.
@@ -11,6 +12,21 @@ pub fn file_name(word: &str) -> Option<&str>
     match word.as_bytes() {
         [] | [b'-', ..] => None,
         _ => Some(word),
+    }
+}
+
+// A number below 2^64 in decimal, without sign or leading zeros: as it is printed.
+pub fn seed_of(word: &str) -> Option<u64>
+    ensures { result ≡ seed_of word.now }
+{
+    let Ok(seed) = word.parse::<u64>() else {
+        return None;
+    };
+    let mut printed = Buffer::new();
+    if printed.format(seed) == word {
+        Some(seed)
+    } else {
+        None
     }
 }
 

@@ -37,7 +37,15 @@ static RUNS: [(&str, &str, u32, Trace); 5] = [
     ("run run --trace=none", "run", 4, Trace::None),
 ];
 
-static REFUSED: [&str; 12] = [
+// Lines with the seed and the number of workers of what they generate.
+static SEEDS: [(&str, u64, u32); 4] = [
+    ("gen 7", 7, 4),
+    ("gen --workers 1 0", 0, 1),
+    ("gen 18446744073709551615 --workers=16", u64::MAX, 16),
+    ("gen --workers=3 100", 100, 3),
+];
+
+static REFUSED: [&str; 23] = [
     "",
     "run",
     "run ''",
@@ -48,7 +56,18 @@ static REFUSED: [&str; 12] = [
     "run p --workers=+4",
     "run p --trace any",
     "run p --trac=all",
-    "gen 1",
+    "gen",
+    "gen p",
+    "gen ''",
+    "gen 01",
+    "gen +1",
+    "gen -1",
+    "gen 0x1",
+    "gen 18446744073709551616",
+    "gen 1 2",
+    "gen 1 --trace=all",
+    "gen 1 --workers 1 --workers=1",
+    "gen --workers=0 1",
     "--help",
 ];
 
@@ -64,6 +83,17 @@ fn runs_are_read(rt: HostRuntime) {
     }
     let script = Command::Script { file: "a-b" };
     assert!(rt; asks_for(&rt, rt.alloc(), "script a-b", Some(script)));
+}
+
+#[test]
+fn seeds_are_read(rt: HostRuntime) {
+    for (line, seed, workers) in &SEEDS {
+        let seeded = Command::Gen {
+            seed: *seed,
+            workers: *workers,
+        };
+        assert!(rt; asks_for(&rt, rt.alloc(), line, Some(seeded)), "{line}");
+    }
 }
 
 #[test]
