@@ -7,11 +7,15 @@ use Rattle.tlm_model.specs.declared.operation.Operation.{Operation}
 use Rattle.tlm_model.specs.declared.platform.InitiatorRow.{InitiatorRow}
 use Rattle.tlm_model.specs.declared.platform.Platform.{Platform}
 use Rattle.traffic_script.specs.Lines.{script_of}
-use Rattle.route_plan.specs.Valid.{checked_plan}
-use Rattle.command_words.specs.Words.{CommandLine, run, script}
-use Rattle.tlm_top.specs.Files.{Holding, shaped_platform, IsText, IsPlatform, IsScript, AreScripts, HasRefusedFile, HasRefusedPlan, IsPlatformRefused, by_its_file, by_its_counts, IsNext, IsScriptRefused, IsLoaded, as_platform, as_script, IsLong, file_limit}
-use Rattle.tlm_top.specs.Headline.{Outside}
-use Rattle.tlm_top.specs.Complete.{IsTold, HasToldPlatform, IsAmple, IsComplete}
+use Rattle.tlm_model.specs.Plan.{Plan}
+use Rattle.route_plan.specs.Valid.{IsValid, checked_plan}
+use Rattle.command_words.specs.Words.{CommandLine, run, script, gen}
+use Rattle.tlm_top.specs.Generated.{generated, platform_name}
+use Rattle.tlm_top.specs.Files.{Files, Holding, files_read, shaped_platform, IsText, IsPlan, IsPlatform, IsScript, AreScripts, HasRefusedFile, HasRefusedPlan, IsPlatformRefused, by_its_file, by_its_counts, IsNext, IsScriptRefused, IsLoaded, as_platform, as_script, IsLong, file_limit}
+use Rattle.tlm_top.specs.Headline.{IsAnswer}
+use Rattle.tlm_top.specs.Complete.{AreTold, HasToldPlatform, IsComplete, IsGeneratedWhole, HasToldFiles, IsServed, IsTold}
+use Rattle.tlm_top.specs.declared.exit.Exit.{Exit}
+use Rattle.tlm_top.proofs.Told.{generated_are_told, generated_is_told, no_failed_load}
 use Rattle.tlm_top.specs.declared.exit.Exit.TheVariants.{Done, Usage, PlatformRefused, ScriptRefused, ReadFault, WriteFault, NoMemory, TooLong}
 
 held_text : (bytes text : List ℕ) (o : Option (List ℕ)) → o ≡ Some bytes → IfSome o (λ b. text ≡ b) → text ≡ bytes
@@ -34,6 +38,9 @@ platform_is h (run file workers trace) p q told first second =
     let same = text_is h file first.text second.text told first.loaded second.loaded in
     let read : Ok p ≡ Ok q = sym first.read ∙ (ap shaped_platform same ∙ second.read) in cc
 platform_is h (script file) p q told first second = first ∙ sym second
+platform_is h (gen seed workers) p q told first second =
+    let same = text_is h platform_name first.text second.text told first.loaded second.loaded in
+    let read : Ok p ≡ Ok q = sym first.read ∙ (ap shaped_platform same ∙ second.read) in cc
 
 script_is : (h : Holding) (version : ℕ) (name : List ℕ) (a b : List Operation) → IsTold h name → IsScript h version name a → IsScript h version name b → a ≡ b
 script_is h version name a b told first second =
@@ -50,6 +57,13 @@ scripts_are h version (row ∷ rows) (x ∷ xs) (y ∷ ys) told first second =
     let head = script_is h version row.script x y told.0 first.0 second.0 in
     let rest = scripts_are h version rows xs ys told.1 first.1 second.1 in cc
 
+-- a command line asks for a valid plan of these files, which are told
+pub record IsAmpleOver (f : Files) (command : CommandLine) : Type 0 where
+  pub plan : Plan
+  pub asked : IsPlan f.holds command plan
+  pub valid : IsValid plan
+  pub told : AreTold f command plan
+
 -- the script of an initiator, and that its file is told
 pub record HasScript (h : Holding) (version : ℕ) (row : InitiatorRow) : Type 0 where
   pub operations : List Operation
@@ -64,51 +78,81 @@ script_at h version (r ∷ rows) (x ∷ xs) zero row told are at =
 script_at h version (r ∷ rows) (x ∷ xs) (suc n) row told are at = script_at h version rows xs n row told.1 are.1 at
 
 -- the script that is loaded next is one of the plan
-next_script : (o : Outside) (command : CommandLine) (n : ℕ) (row : InitiatorRow) (ample : IsAmple o command) → IsNext o.files.holds command n row → HasScript o.files.holds ample.plan.platform.version row
-next_script o command n row ample next =
-    let same = platform_is o.files.holds command next.platform ample.plan.platform ample.platform next.asked ample.asked.platform in
-    script_at o.files.holds ample.plan.platform.version ample.plan.platform.initiators ample.plan.scripts n row ample.scripts ample.asked.scripts
+next_script : (f : Files) (command : CommandLine) (n : ℕ) (row : InitiatorRow) (ample : IsAmpleOver f command) → IsNext f.holds command n row → HasScript f.holds ample.plan.platform.version row
+next_script f command n row ample next =
+    let same = platform_is f.holds command next.platform ample.plan.platform ample.told.platform next.asked ample.asked.platform in
+    script_at f.holds ample.plan.platform.version ample.plan.platform.initiators ample.plan.scripts n row ample.told.scripts ample.asked.scripts
     (ap (λ (p : Platform). slice_get p.initiators n) (sym same) ∙ next.next)
 
-no_refused_file : (o : Outside) (command : CommandLine) (r : PlatformRefusal) → IsAmple o command → HasRefusedFile o.files.holds command r → ⊥
-no_refused_file o (run file workers trace) r ample refused =
+no_refused_file : (f : Files) (command : CommandLine) (r : PlatformRefusal) → IsAmpleOver f command → HasRefusedFile f.holds command r → ⊥
+no_refused_file f (run file workers trace) r ample refused =
     let p = ample.asked.platform in
-    let same = text_is o.files.holds file p.text refused.text ample.platform p.loaded refused.loaded in
+    let same = text_is f.holds file p.text refused.text ample.told.platform p.loaded refused.loaded in
     let wrong : Ok ample.plan.platform ≡ Err r = sym p.read ∙ (ap shaped_platform same ∙ refused.refused) in cc
-no_refused_file o (script file) r ample refused = refused
+no_refused_file f (script file) r ample refused = refused
+no_refused_file f (gen seed workers) r ample refused =
+    let p = ample.asked.platform in
+    let same = text_is f.holds platform_name p.text refused.text ample.told.platform p.loaded refused.loaded in
+    let wrong : Ok ample.plan.platform ≡ Err r = sym p.read ∙ (ap shaped_platform same ∙ refused.refused) in cc
 
-no_refused_plan : (o : Outside) (command : CommandLine) (r : PlatformRefusal) → IsAmple o command → HasRefusedPlan o.files.holds command r → ⊥
-no_refused_plan o command r ample refused =
-    let same = platform_is o.files.holds command refused.plan.platform ample.plan.platform ample.platform refused.asked.platform ample.asked.platform in
-    let scripts = scripts_are o.files.holds ample.plan.platform.version ample.plan.platform.initiators refused.plan.scripts ample.plan.scripts ample.scripts
-    (subst (λ (p : Platform). AreScripts o.files.holds p.version p.initiators refused.plan.scripts) same refused.asked.scripts) ample.asked.scripts in
+no_refused_plan : (f : Files) (command : CommandLine) (r : PlatformRefusal) → IsAmpleOver f command → HasRefusedPlan f.holds command r → ⊥
+no_refused_plan f command r ample refused =
+    let same = platform_is f.holds command refused.plan.platform ample.plan.platform ample.told.platform refused.asked.platform ample.asked.platform in
+    let scripts = scripts_are f.holds ample.plan.platform.version ample.plan.platform.initiators refused.plan.scripts ample.plan.scripts ample.told.scripts
+    (subst (λ (p : Platform). AreScripts f.holds p.version p.initiators refused.plan.scripts) same refused.asked.scripts) ample.asked.scripts in
     let plans : refused.plan ≡ ample.plan = λ i. record { platform = same i; scripts = scripts i } in
     let wrong : Ok tt ≡ Err r = sym ample.valid.limits ∙ (ap checked_plan (sym plans) ∙ refused.refused) in cc
 
-no_refused_script : (o : Outside) (command : CommandLine) (n : ℕ) (name : List ℕ) (line : ℕ) → IsAmple o command → (r : _) → IsScriptRefused o.files.holds command n name r → ⊥
-no_refused_script o command n name line ample r refused =
-    let s = next_script o command n refused.row ample refused.first in
-    let same = text_is o.files.holds refused.row.script s.is.text refused.text s.told s.is.loaded refused.loaded in
-    let platform = platform_is o.files.holds command refused.first.platform ample.plan.platform ample.platform refused.first.asked ample.asked.platform in
+no_refused_script : (f : Files) (command : CommandLine) (n : ℕ) (name : List ℕ) (line : ℕ) → IsAmpleOver f command → (r : _) → IsScriptRefused f.holds command n name r → ⊥
+no_refused_script f command n name line ample r refused =
+    let s = next_script f command n refused.row ample refused.first in
+    let same = text_is f.holds refused.row.script s.is.text refused.text s.told s.is.loaded refused.loaded in
+    let platform = platform_is f.holds command refused.first.platform ample.plan.platform ample.told.platform refused.first.asked ample.asked.platform in
     let version = ap (λ (p : Platform). script_of p.version refused.text) platform in
     let wrong : Ok s.operations ≡ Err r = sym s.is.read ∙ (ap (script_of ample.plan.platform.version) same ∙ (sym version ∙ refused.refused)) in cc
 
-loaded_is_told : (o : Outside) (command : CommandLine) (name : List ℕ) → IsAmple o command → IsLoaded o.files.holds command name → IsTold o.files.holds name
-loaded_is_told o (run file workers trace) name ample (as_platform is) = subst (λ (n : List ℕ). IsTold o.files.holds n) (sym is) ample.platform
-loaded_is_told o (script file) name ample (as_platform is) = absurd is
-loaded_is_told o command name ample (as_script next) =
-    subst (λ (n : List ℕ). IsTold o.files.holds n) (sym next.named) (next_script o command next.number next.row ample next.next).told
+loaded_is_told : (f : Files) (command : CommandLine) (name : List ℕ) → IsAmpleOver f command → IsLoaded f.holds command name → IsTold f.holds name
+loaded_is_told f (run file workers trace) name ample (as_platform is) = subst (λ (n : List ℕ). IsTold f.holds n) (sym is) ample.told.platform
+loaded_is_told f (script file) name ample (as_platform is) = absurd is
+loaded_is_told f (gen seed workers) name ample (as_platform is) = subst (λ (n : List ℕ). IsTold f.holds n) (sym is) ample.told.platform
+loaded_is_told f command name ample (as_script next) =
+    subst (λ (n : List ℕ). IsTold f.holds n) (sym next.named) (next_script f command next.number next.row ample next.next).told
+
+-- the files that a command line reads are told
+told_files : (f : Files) (command : CommandLine) (plan : Plan) → HasToldFiles f command plan → AreTold (files_read f command) command plan
+told_files f (run file workers trace) plan told = told
+told_files f (script file) plan told = told
+told_files f (gen seed workers) plan told = generated_are_told seed workers plan
 
 pub is_complete : IsComplete
-is_complete (Done sealed) o command answer ample = tt
-is_complete Usage o command answer ample = absurd answer.1
-is_complete (PlatformRefused code table key) o command answer ample = by_cause answer.1
+is_complete exit o command answer ample = by_exit exit answer
   where
-    by_cause : IsPlatformRefused o.files.holds command (record { code = code; table = table; key = key }) → ⊥
-    by_cause (by_its_file refused) = no_refused_file o command _ ample refused
-    by_cause (by_its_counts refused) = no_refused_plan o command _ ample refused
-is_complete (ScriptRefused initiator name line code) o command answer ample = absurd (no_refused_script o command initiator name line ample _ answer.1)
-is_complete (ReadFault name) o command answer ample = absurd (ample.loads name answer.1.1)
-is_complete (WriteFault sealed) o command answer ample = absurd (ample.writes answer.1)
-is_complete NoMemory o command answer ample = tt
-is_complete (TooLong name) o command answer ample = absurd (not_long o.files.holds name (loaded_is_told o command name ample answer.1.0) answer.1.1)
+    f : Files
+    f = files_read o.files command
+
+    over : IsAmpleOver f command
+    over = record { plan = ample.plan; asked = ample.asked; valid = ample.valid; told = told_files o.files command ample.plan ample.loaded }
+
+    by_exit : (e : Exit) → IsAnswer e o command → IsServed e
+    by_exit (Done sealed) answer = tt
+    by_exit Usage answer = absurd answer.1
+    by_exit (PlatformRefused code table key) answer = by_cause answer.1
+      where
+        by_cause : IsPlatformRefused f.holds command (record { code = code; table = table; key = key }) → ⊥
+        by_cause (by_its_file refused) = no_refused_file f command _ over refused
+        by_cause (by_its_counts refused) = no_refused_plan f command _ over refused
+    by_exit (ScriptRefused initiator name line code) answer = absurd (no_refused_script f command initiator name line over _ answer.1)
+    by_exit (ReadFault name) answer = absurd (over.told.loads name answer.1.1)
+    by_exit (WriteFault sealed) answer = absurd (ample.writes answer.1)
+    by_exit NoMemory answer = tt
+    by_exit (TooLong name) answer = absurd (not_long f.holds name (loaded_is_told f command name over answer.1.0) answer.1.1)
+
+pub is_generated_whole : IsGeneratedWhole
+is_generated_whole (Done sealed) o seed workers answer = tt
+is_generated_whole Usage o seed workers answer = tt
+is_generated_whole (PlatformRefused code table key) o seed workers answer = tt
+is_generated_whole (ScriptRefused initiator name line code) o seed workers answer = tt
+is_generated_whole (ReadFault name) o seed workers answer = no_failed_load seed name answer.1.1
+is_generated_whole (WriteFault sealed) o seed workers answer = tt
+is_generated_whole NoMemory o seed workers answer = tt
+is_generated_whole (TooLong name) o seed workers answer = not_long (generated seed) name (generated_is_told seed name) answer.1.1

@@ -1,5 +1,6 @@
 -- Lines that are written piece by piece.
-use Rattle.std.proofs.Common.{◌≡◌, ℕ, List, ◌++◌, Option, Bool, true, false, ap, subst, ◌∙◌, append_assoc}
+use Rattle.std.proofs.Common.{◌≡◌, ℕ, List, [], ◌∷◌, ◌++◌, Option, Bool, true, false, ap, subst, ◌∙◌, append_assoc, codes}
+use Rattle.tlm_model.specs.Text.{line_of}
 use Rattle.trace_print.specs.Writes.{Writes}
 use Rattle.trace_print.proofs.Writing.{change, writes-more, writes-part}
 
@@ -31,3 +32,15 @@ last-is old mid next new f i j h a b c d e g l done first second last =
     (writes-more old mid new f i h (a ++ (b ++ c)) (d ++ (e ++ (g ++ l))) done first
     (subst (λ (x : List ℕ). Writes (change mid new i h) x done) (three-and d e g l)
     (writes-more mid next new i j h (d ++ (e ++ g)) l done second last)))
+
+-- the line of a seed's totals, as it is put piece by piece
+pub totals-put : (s a b c d : List ℕ) → (((((codes "gen " ++ s) ++ (codes " transactions " ++ a)) ++ (codes " accesses " ++ b)) ++ (codes " payloads " ++ c)) ++ (codes " syncs " ++ d)) ++ codes "\n"
+    ≡ line_of (codes "gen" ∷ s ∷ codes "transactions" ∷ a ∷ codes "accesses" ∷ b ∷ codes "payloads" ∷ c ∷ codes "syncs" ∷ d ∷ [])
+totals-put s a b c d =
+    let begun = codes "gen " ++ s in
+    let one = codes " transactions " ++ a in
+    let two = codes " accesses " ++ b in
+    let three = codes " payloads " ++ c in
+    let last = codes " syncs " ++ d in
+    ap (λ (x : List ℕ). x ++ codes "\n")
+    (append_assoc ((begun ++ one) ++ two) three last ∙ append_assoc (begun ++ one) two (three ++ last) ∙ append_assoc begun one (two ++ (three ++ last)))

@@ -12,8 +12,9 @@ use Rattle.traffic_script.specs.Lines.{script_of}
 use Rattle.traffic_script.specs.Reading.{ScriptRefusal}
 use Rattle.route_plan.specs.Shape.{checked_shape}
 use Rattle.route_plan.specs.Valid.{checked_plan}
-use Rattle.command_words.specs.Words.{CommandLine, run, script}
+use Rattle.command_words.specs.Words.{CommandLine, run, script, gen}
 use Rattle.tlm_top.specs.BuiltIn.{built_in_platform}
+use Rattle.tlm_top.specs.Generated.{generated, platform_name}
 
 -- a file of more bytes isn't read
 abbrev pub file_limit : ℕ
@@ -28,6 +29,16 @@ pub record Files : Type 0 where
   pub holds : Holding
   pub faults_before : List ℕ → ℕ
   pub faults_after : List ℕ → ℕ
+
+-- the files that are generated of a number, of which no load fails
+abbrev pub generated_library : ℕ → Files
+generated_library seed = record { holds = generated seed; faults_before = λ _. 0; faults_after = λ _. 0 }
+
+-- the files that a command line reads: those of the library, or those that are generated
+abbrev pub files_read : Files → CommandLine → Files
+files_read f (run file workers trace) = f
+files_read f (script file) = f
+files_read f (gen seed workers) = generated_library seed
 
 -- a text that was loaded under this name: the one that is held, where the library tells it, and not too long
 pub record IsText (h : Holding) (name text : List ℕ) : Type 0 where
@@ -44,10 +55,12 @@ pub record IsFilePlatform (h : Holding) (file : List ℕ) (p : Platform) : Type 
   pub loaded : IsText h file text
   pub read : shaped_platform text ≡ Ok p
 
--- the platform that a command line asks for: that of its file, or the built-in one with its one script
+-- the platform that a command line asks for: that of its file, or the built-in one with its one script, or that of the
+-- generated file
 abbrev pub IsPlatform : Holding → CommandLine → Platform → Type 0
 IsPlatform h (run file workers trace) p = IsFilePlatform h file p
 IsPlatform h (script file) p = p ≡ built_in_platform file
+IsPlatform h (gen seed workers) p = IsFilePlatform h platform_name p
 
 -- the operations of a file, read as a script of this version
 pub record IsScript (h : Holding) (version : ℕ) (name : List ℕ) (operations : List Operation) : Type 0 where
@@ -76,6 +89,7 @@ pub record IsFileRefused (h : Holding) (file : List ℕ) (refusal : PlatformRefu
 abbrev pub HasRefusedFile : Holding → CommandLine → PlatformRefusal → Type 0
 HasRefusedFile h (run file workers trace) refusal = IsFileRefused h file refusal
 HasRefusedFile h (script file) refusal = ⊥
+HasRefusedFile h (gen seed workers) refusal = IsFileRefused h platform_name refusal
 
 -- the counts of a plan are refused so
 pub record HasRefusedPlan (h : Holding) (command : CommandLine) (refusal : PlatformRefusal) : Type 0 where
@@ -109,6 +123,7 @@ pub record IsScriptRefused (h : Holding) (command : CommandLine) (n : ℕ) (name
 abbrev pub IsPlatformFile : CommandLine → List ℕ → Type 0
 IsPlatformFile (run file workers trace) name = name ≡ file
 IsPlatformFile (script file) name = ⊥
+IsPlatformFile (gen seed workers) name = name ≡ platform_name
 
 pub record IsNextScript (h : Holding) (command : CommandLine) (name : List ℕ) : Type 0 where
   pub number : ℕ

@@ -1,4 +1,6 @@
 pub mod BuiltIn
+pub mod Generated
+pub mod Totals
 pub mod Exits
 pub mod Files
 pub mod Loads

@@ -9,10 +9,11 @@ use traffic_script::ScriptCode;
 
 /// What came of a call. The order of refusals is: the words; the load of the platform file, its
 /// reading, its shape; for each initiator in order the load of its script, then its reading; the
-/// counted limits; the run; the writing. Want of memory may come at any of these places.
+/// counted limits; the run; the writing. What is generated is refused in the same order, and its loads
+/// never are. Want of memory may come at any of these places.
 #[derive(Drop)]
 pub enum Exit {
-    /// The report of this history, which was closed, was written whole.
+    /// The report of this history, which was closed, was written whole, or for `gen` the line of its totals.
     Done(PlatSealed),
     /// The words are no command line.
     Usage,
@@ -34,7 +35,7 @@ pub enum Exit {
     ReadFault {
         name: Text,
     },
-    /// The sink failed, and has taken a prefix of the report of this history.
+    /// The sink failed, and has taken a prefix of the report of this history, or of that line.
     WriteFault(PlatSealed),
     /// Memory was refused, and nothing was written.
     NoMemory,

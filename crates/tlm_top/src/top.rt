@@ -2,19 +2,25 @@
 ghost use Rattle.std.specs.Prelude.{◌≡◌, ◌≤◌, ℕ, List, IfOk, IfErr};
 ghost use Rattle.command_words.specs.Commands.{line_of, texts};
 ghost use Rattle.trace_print.specs.Writes.{Tells};
-ghost use Rattle.tlm_top.specs.Files.{IsPlan, IsPlatform};
+ghost use Rattle.run_outcome.specs.Outcome.{IsReportable};
+ghost use Rattle.trace_print.specs.Writes.{IsPrinted};
+ghost use Rattle.tlm_top.specs.Files.{IsPlan, IsPlatform, files_read, generated_library};
+ghost use Rattle.tlm_top.specs.Generated.{generated};
 ghost use Rattle.route_plan.specs.Valid.{IsValid};
-ghost use Rattle.tlm_top.specs.Headline.{IsAnswer, IsExplained, IsRefusal, IsRunOf, trace_of, workers_of};
+ghost use Rattle.tlm_top.specs.Headline.{IsAnswer, IsExplained, IsRefusal, IsRunOf, workers_of, written_of};
 ghost use Rattle.tlm_top.specs.Exits.{told_of};
 
 use crate::built_in::built_in;
 use crate::exit::Exit;
+use crate::generated::{PLATFORM_NAME, generated};
 use crate::loads::{load_platform, load_scripts};
 use crate::tells::tell;
+use crate::totals::print_totals;
 use command_words::{Command, read_words};
 use outside::{Library, Pace, Sink};
 use plat_run::run_plan;
 use route_plan::{Plan, Shape, plan};
+use run_outcome::Outcome;
 use std::alloc::Global;
 use std::sync::Wait;
 use std::thread::Threads;
@@ -22,7 +28,7 @@ use tlm_model::Trace;
 use tlm_types::Memory;
 use trace_print::{PrintFault, print};
 
-// The platform that a command line asks for.
+// The platform that a command line asks for, of the files that it reads.
 fn shape_of<L: Library>(alloc: Global, lib: &mut L, command: Command) -> Result<Shape, Exit>
     ensures same { (n : List ℕ) → L.holds lib.new n ≡ L.holds lib.old n }
     ensures later { (n : List ℕ) → L.faults lib.old n ≤ L.faults lib.new n }
@@ -36,11 +42,12 @@ fn shape_of<L: Library>(alloc: Global, lib: &mut L, command: Command) -> Result<
     match command {
         Command::Run { file, .. } => load_platform(alloc, lib, file),
         Command::Script { file } => built_in(alloc, file),
+        Command::Gen { .. } => load_platform(alloc, lib, PLATFORM_NAME),
     }
 }
 
-// The plan that a command line asks for.
-fn plan_of<L: Library>(alloc: Global, lib: &mut L, command: Command) -> Result<Plan, Exit>
+// The plan that a command line asks for, of the files that it reads.
+fn plan_over<L: Library>(alloc: Global, lib: &mut L, command: Command) -> Result<Plan, Exit>
     ensures plan { IfOk result (λ p. IsPlan (L.holds lib.old) (line_of command.entry) p) }
     ensures valid { IfOk result IsValid }
     ensures refused { IfErr result (λ exit. IsRefusal exit (record {
@@ -59,12 +66,34 @@ fn plan_of<L: Library>(alloc: Global, lib: &mut L, command: Command) -> Result<P
     Ok(plan(alloc, shape, scripts.as_slice())?)
 }
 
-fn trace_of(command: Command) -> Trace
-    ensures { result ≡ trace_of (line_of command.entry) }
+// The plan that a command line asks for, of the files that are generated of this number. They are read as those
+// of a library are.
+fn generated_plan(alloc: Global, seed: u64, command: Command) -> Result<Plan, Exit>
+    ensures plan { IfOk result (λ p. IsPlan (generated seed) (line_of command.entry) p) }
+    ensures valid { IfOk result IsValid }
+    ensures refused { IfErr result (λ exit. IsRefusal exit (generated_library seed) (line_of command.entry)) }
+{
+    let mut files = generated(alloc, seed)?;
+    plan_over(alloc, &mut files, command)
+}
+
+// The plan that a command line asks for.
+fn plan_of<L: Library>(alloc: Global, lib: &mut L, command: Command) -> Result<Plan, Exit>
+    ensures plan { IfOk result (λ p. IsPlan (files_read (record {
+      holds = L.holds lib.old;
+      faults_before = L.faults lib.old;
+      faults_after = L.faults lib.new;
+    }) (line_of command.entry)).holds (line_of command.entry) p) }
+    ensures valid { IfOk result IsValid }
+    ensures refused { IfErr result (λ exit. IsRefusal exit (files_read (record {
+      holds = L.holds lib.old;
+      faults_before = L.faults lib.old;
+      faults_after = L.faults lib.new;
+    }) (line_of command.entry)) (line_of command.entry)) }
 {
     match command {
-        Command::Run { trace, .. } => trace,
-        Command::Script { .. } => Trace::All,
+        Command::Gen { seed, .. } => generated_plan(alloc, seed, command),
+        _ => plan_over(alloc, lib, command),
     }
 }
 
@@ -74,31 +103,57 @@ fn workers_of(command: Command) -> u32
     match command {
         Command::Run { workers, .. } => workers,
         Command::Script { .. } => 1,
+        Command::Gen { workers, .. } => workers,
     }
 }
 
-// Runs a plan by so many workers, and writes the report of the run.
+// Writes what a command line wants of a run: its report, or the line of its totals.
+fn print_asked<K: Sink>(
+    alloc: Global,
+    out: &mut K,
+    command: Command,
+    plan: &Plan,
+    outcome: &Outcome,
+) -> Result<(), PrintFault>
+    requires valid { IsValid plan.now }
+    requires reportable { IsReportable plan.now outcome.now }
+    ensures printed { IsPrinted result (record {
+      taken_before = K.taken out.old;
+      taken_after = K.taken out.new;
+      faults_before = K.faults out.old;
+      faults_after = K.faults out.new;
+    }) (written_of (line_of command.entry) plan.now outcome.now.history.entries) }
+    ensures later { K.faults out.old ≤ K.faults out.new }
+{
+    match command {
+        Command::Run { trace, .. } => print(alloc, out, plan, outcome, trace),
+        Command::Script { .. } => print(alloc, out, plan, outcome, Trace::All),
+        Command::Gen { seed, .. } => print_totals(alloc, out, seed, outcome),
+    }
+}
+
+// Runs a plan by the workers of a command line, and writes what it wants of the run.
 fn run_and_print<R: Threads + Wait + Sync, K: Sink, P: Pace + Sync>(
     rt: &R,
     alloc: Global,
     plan: &Plan,
-    workers: u32,
-    trace: Trace,
+    command: Command,
     out: &mut K,
     pace: &P,
 ) -> Exit
+    requires { IsValid plan.now }
     ensures outcome { IsRunOf result (record {
       taken_before = K.taken out.old;
       taken_after = K.taken out.new;
       faults_before = K.faults out.old;
       faults_after = K.faults out.new;
-    }) trace plan.now }
+    }) (line_of command.entry) plan.now }
     ensures later { K.faults out.old ≤ K.faults out.new }
 {
-    let Ok((outcome, sealed)) = run_plan(rt, alloc, plan, workers, pace) else {
+    let Ok((outcome, sealed)) = run_plan(rt, alloc, plan, workers_of(command), pace) else {
         return Exit::NoMemory;
     };
-    match print(alloc, out, plan, &outcome, trace) {
+    match print_asked(alloc, out, command, plan, &outcome) {
         Ok(()) => Exit::Done(sealed),
         Err(PrintFault::Failed) => Exit::WriteFault(sealed),
         Err(PrintFault::Memory) => Exit::NoMemory,
@@ -133,8 +188,7 @@ fn answer<R: Threads + Wait + Sync, L: Library, K: Sink, P: Pace + Sync>(
         Ok(plan) => plan,
         Err(exit) => return exit,
     };
-    let workers = workers_of(command);
-    run_and_print(rt, alloc, &plan, workers, trace_of(command), out, pace)
+    run_and_print(rt, alloc, &plan, command, out, pace)
 }
 
 // The answer, before `diag` is told of it.
@@ -169,9 +223,11 @@ fn explain<R: Threads + Wait + Sync, L: Library, K: Sink, P: Pace + Sync>(
 }
 
 /// Does what the words ask for: `run FILE` loads a platform and the scripts of its initiators, `script
-/// FILE` a script for the built-in platform; it runs them by as many workers as the words say, a script
-/// by one, and writes the report of the run to `out`. `diag` is told of every answer but Done by one
-/// line; a fault of `diag` changes no answer. Nothing is kept between calls.
+/// FILE` a script for the built-in platform, and `gen SEED` generates a platform with its scripts and
+/// doesn't ask the library; it runs them by as many workers as the words say, a script by one, and
+/// writes the report of the run to `out`, or for `gen` one line: how many sequence numbers were taken, how
+/// many accesses there were, how many payloads were taken, and how many syncs. `diag` is told of every
+/// answer but Done by one line; a fault of `diag` changes no answer. Nothing is kept between calls.
 pub fn run<R: Threads + Wait + Sync, L: Library, K: Sink, D: Sink, P: Pace + Sync>(
     rt: &R,
     alloc: Global,

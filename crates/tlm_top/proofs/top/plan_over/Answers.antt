@@ -7,7 +7,7 @@ use Rattle.tlm_top.specs.Files.{Holding, IsPlatform}
 use Rattle.tlm_top.specs.Loads.{IsFirstFault}
 use Rattle.tlm_top.proofs.Loading.{files, held}
 use Rattle.tlm_top.proofs.Planning.{AreScripts-length, AreScripts-moved, planned_is, plan_refused, scripts_refused, refusal-earlier}
-use Rattle.tlm_top.proofs.top.plan_of.Goals as goal
+use Rattle.tlm_top.proofs.top.plan_over.Goals as goal
 
 pub load_scripts-requires : goal.load_scripts-requires
 load_scripts-requires g c =
