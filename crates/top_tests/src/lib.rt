@@ -13,6 +13,8 @@ mod faults;
 #[cfg(test)]
 mod fourphase;
 #[cfg(test)]
+mod generated;
+#[cfg(test)]
 mod limits;
 #[cfg(test)]
 mod loads;
