@@ -22,7 +22,7 @@ static OTHER_WORDS: [&str; 5] = [
     "run",
     "run p.toml --workers 0",
     "run p.toml --workers 17",
-    "gen 7",
+    "gen p",
 ];
 
 #[test]
