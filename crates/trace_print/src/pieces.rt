@@ -6,7 +6,6 @@ ghost use Rattle.report_model.specs.Report.{command_word, way_word};
 ghost use Rattle.tlm_model.specs.Text.{address_word, hex_of};
 ghost use Rattle.trace_print.specs.Pieces.{Adds, asked_text, piece_text, seq_text, status_text, times_text, unmasked_text, width_text};
 
-use itoa::write_digits;
 use std::simd::prelude::*;
 use tlm_types::{Command, Facts, Ps, Response, Way};
 
@@ -71,49 +70,67 @@ pub fn write_name(bytes: &mut [u8], start: usize, name: &[u8]) -> usize
     }
 }
 
-// How many digits a number has that has four at most.
+// The two digits of each number below 100.
+static DECIMAL_PAIRS: [u8; 200] =
+    *b"00010203040506070809101112131415161718192021222324252627282930313233343536373839404142434445464748495051525354555657585960616263646566676869707172737475767778798081828384858687888990919293949596979899";
+
+// The digits of a number below 100.
 #[inline(always)]
-fn few_digits(number: u64) -> usize
-    requires { number < 10000 }
-    ensures { result ≡ length (decimal number) }
+fn decimal_pair(number: u64) -> [u8; 2]
+    requires { number < 100 }
+    ensures { result ≡ (48 + number / 10) ∷ (48 + number % 10) ∷ [] }
+{
+    let from = number as usize * 2;
+    [DECIMAL_PAIRS[from], DECIMAL_PAIRS[from + 1]]
+}
+
+// A number of one or two digits.
+#[inline(always)]
+fn write_short_decimal(bytes: &mut [u8], start: usize, number: u64) -> usize
+    requires { (number < 100) × (start + length (decimal number) ≤ length bytes.old) }
+    ensures { Adds bytes.old bytes.new start result (decimal number) }
 {
     if number < 10 {
-        1
-    } else if number < 100 {
-        2
-    } else if number < 1000 {
-        3
+        write_word(bytes, start, &[b'0' + number as u8])
     } else {
-        4
+        write_word(bytes, start, &decimal_pair(number))
     }
 }
 
-// How many digits a number has.
+// A number of up to four digits.
 #[inline(always)]
-fn digit_count(number: u64) -> usize
-    ensures { result ≡ length (decimal number) }
+fn write_few_decimal(bytes: &mut [u8], start: usize, number: u64) -> usize
+    requires { (number < 10000) × (start + length (decimal number) ≤ length bytes.old) }
+    ensures { Adds bytes.old bytes.new start result (decimal number) }
 {
-    let mut rest = number;
-    let mut count = 0;
-    while rest >= 10_000 {
-        rest /= 10_000;
-        count += 4;
+    if number < 100 {
+        return write_short_decimal(bytes, start, number);
     }
-    count + few_digits(rest)
+    let place = write_short_decimal(bytes, start, number / 100);
+    write_word(bytes, place, &decimal_pair(number % 100))
 }
 
-#[inline(always)]
-fn write_long(bytes: &mut [u8], start: usize, number: u64) -> usize
-    requires { start + 20 ≤ length bytes.old }
-    ensures adds { Adds bytes.old bytes.new start result (decimal number) }
-    ensures within { result ≤ start + 20 }
+// The last four digits follow those in front of them. Up to eight take no call.
+fn write_decimal(bytes: &mut [u8], start: usize, number: u64) -> usize
+    requires { start + length (decimal number) ≤ length bytes.old }
+    ensures { Adds bytes.old bytes.new start result (decimal number) }
 {
-    let end = start + digit_count(number);
-    write_digits(number, bytes, end);
-    end
+    if number < 10_000 {
+        return write_few_decimal(bytes, start, number);
+    }
+    let high = number / 10_000;
+    let place = if high < 10_000 {
+        write_few_decimal(bytes, start, high)
+    } else {
+        write_decimal(bytes, start, high)
+    };
+    let low = number % 10_000;
+    let last = write_word(bytes, place, &decimal_pair(low / 100));
+    write_word(bytes, last, &decimal_pair(low % 100))
 }
 
-// Most lengths and widths have one digit.
+// A decimal number. Most lengths and widths have one digit, and that takes no call.
+#[inline(always)]
 fn write_number(bytes: &mut [u8], start: usize, number: u64) -> usize
     requires { start + 20 ≤ length bytes.old }
     ensures adds { Adds bytes.old bytes.new start result (decimal number) }
@@ -122,7 +139,7 @@ fn write_number(bytes: &mut [u8], start: usize, number: u64) -> usize
     if number < 10 {
         write_word(bytes, start, &[b'0' + number as u8])
     } else {
-        write_long(bytes, start, number)
+        write_decimal(bytes, start, number)
     }
 }
 
