@@ -7,7 +7,6 @@ use Rattle.std.proofs.lemmas.List.{map-append}
 use Rattle.std.proofs.lemmas.List.Elements.{filter-append}
 use Rattle.tlm_types.specs.declared.words.Command.{Command}
 use Rattle.tlm_types.specs.declared.words.Command.TheVariants.{Read, Write, Ignore, FetchAdd}
-use Rattle.tlm_types.specs.declared.words.ObjectNo.{ObjectNo}
 use Rattle.tlm_types.specs.declared.words.ObjectNo.TheVariants.{Memory as memory_object}
 use Rattle.tlm_types.specs.declared.words.TlmSync.{TlmSync}
 use Rattle.tlm_types.specs.declared.words.TlmSync.TheVariants.{Accepted, Updated, Completed}
@@ -22,6 +21,7 @@ use Rattle.tlm_model.specs.declared.trace.Trace.TheVariants.{All, Accesses, None
 use Rattle.report_model.specs.Report.{bytes_word, command_word, entry_words, freed_words, has_operand, initiator_name, kind_word, memory_name, object_word, operand_text, phase_word, range_word, shown_by, status_word, sync_words, traced, txn_word, way_word, what_words}
 use Rattle.tlm_types.specs.Log.{is_access}
 use Rattle.tlm_model.specs.Text.{address_word, data_word, line_of}
+use Rattle.trace_print.specs.EventText.{freed_text}
 use Rattle.trace_print.specs.Pieces.{asked_text, seq_text, status_text, times_text, unmasked_text, width_text}
 use Rattle.trace_print.specs.Told.{access_words, operand_at, shown_at, shown_of, text_of}
 use Rattle.trace_print.proofs.TextLemmas.{access-line, head-front}
@@ -86,6 +86,17 @@ call-words w Accepted = refl
 call-words w (Updated f) = refl
 call-words w Completed = refl
 
+-- the same from the space before them to the end of the line
+pub call-line : (w : List ℕ) (a : TlmSync) → (codes " " ++ w) ++ (codes " " ++ line_of (sync_words a)) ≡ codes " " ++ line_of (w ∷ sync_words a)
+call-line w Accepted = ap (λ (l : List ℕ). 32 ∷ l) (sym (append_assoc w (codes " ACCEPTED") (codes "\n")))
+call-line w (Updated f) = ap (λ (l : List ℕ). 32 ∷ l) (sym (append_assoc w (codes " UPDATED " ++ phase_word f) (codes "\n")))
+call-line w Completed = ap (λ (l : List ℕ). 32 ∷ l) (sym (append_assoc w (codes " COMPLETED") (codes "\n")))
+
+-- the words of a release, with what stands behind its slot
+pub release-line : (s : List ℕ) (f : Bool) → (codes " release " ++ s) ++ freed_text f ≡ codes " " ++ line_of (codes "release" ∷ s ∷ freed_words f)
+release-line s true = ap (λ (l : List ℕ). codes " release " ++ l) (sym (append_assoc s (codes " freed") (codes "\n")))
+release-line s false = refl
+
 -- an access is told by its plain parts, its enables and the bytes that it shows
 pub access-is : (w : What) (f : Facts) (enables operand shown : List ℕ) → facts_of w ≡ Some f → enables_of w ≡ Some enables → operand_at w ≡ Some operand → shown_at w ≡ Some shown → access_words f enables operand shown ≡ what_words w
 access-is (Accessed way a status got) f enables operand shown ef ee eo es =
@@ -102,21 +113,27 @@ access-is (Take s) facts enables operand shown ef ee eo es = cc
 access-is (Acquire s) facts enables operand shown ef ee eo es = cc
 access-is (Release s f) facts enables operand shown ef ee eo es = cc
 
+-- the line of an entry, from the parts of its head and what it was
+pub parts-text-is : (p : Platform) (e : Entry) (object : List ℕ) (w : What) → object ≡ object_word p e.object → w ≡ e.what →
+    times_text e.position e.time ++ (initiator_name p e.txn.initiator ++ (seq_text e.txn.seq ++ (object ++ (codes " " ++ line_of (what_words w))))) ≡ line_of (entry_words p e)
+parts-text-is p e object w at what =
+    head-front (decimal e.position) (decimal e.time) (initiator_name p e.txn.initiator) (codes ".") (decimal e.txn.seq) object (codes " ") (codes " " ++ line_of (what_words w))
+    ∙ (entry-text-is (decimal e.position) (decimal e.time) (txn_word p e.txn) object w
+    ∙ (ap (λ (o : List ℕ). line_of (decimal e.position ∷ decimal e.time ∷ txn_word p e.txn ∷ o ∷ what_words w)) at
+    ∙ ap (λ (v : What). line_of (decimal e.position ∷ decimal e.time ∷ txn_word p e.txn ∷ object_word p e.object ∷ what_words v)) what))
+
 -- the line of an access at a memory, from its parts, where no byte is masked
 pub access-text-is : (p : Platform) (e : Entry) (memory : ℕ) (f : Facts) (enables shown : List ℕ) → e.object ≡ memory_object memory → facts_of e.what ≡ Some f → enables_of e.what ≡ Some enables → operand_at e.what ≡ Some [] → shown_at e.what ≡ Some shown → codes "-" ≡ data_word enables →
     times_text e.position e.time ++ (initiator_name p e.txn.initiator ++ (seq_text e.txn.seq ++ (memory_name p memory ++ (unmasked_text f ++ (data_word shown ++ status_text f.status))))) ≡ line_of (entry_words p e)
 access-text-is p e memory f enables shown at facts masks alone bytes none =
-    let name = initiator_name p e.txn.initiator in
     let behind = unmasked_text f ++ (data_word shown ++ status_text f.status) in
     let words = access-is e.what f enables [] shown facts masks alone bytes in
-    let front = head-front (decimal e.position) (decimal e.time) name (codes ".") (decimal e.txn.seq) (memory_name p memory) (codes " ") behind in
     let told : behind ≡ codes " " ++ line_of (what_words e.what) =
     ap (λ (dash : List ℕ). (asked_text f ++ (dash ++ width_text f.width)) ++ (data_word shown ++ status_text f.status)) none
     ∙ (access-line (way_word f.way) (codes " ") (command_word f.command) (address_word f.offset) (decimal f.length) (codes "be=") (data_word enables) (codes "sw=") (decimal f.width) (data_word shown) (status_word f.status) (codes "\n")
     ∙ ap (λ (ws : List (List ℕ)). codes " " ++ line_of ws) words) in
-    let text = entry-text-is (decimal e.position) (decimal e.time) (txn_word p e.txn) (memory_name p memory) e.what in
-    front ∙ (ap (λ (l : List ℕ). join_with_byte 32 (decimal e.position ∷ decimal e.time ∷ txn_word p e.txn ∷ memory_name p memory ∷ []) ++ l) told
-    ∙ (text ∙ ap (λ (o : ObjectNo). line_of (decimal e.position ∷ decimal e.time ∷ txn_word p e.txn ∷ object_word p o ∷ what_words e.what)) (sym at)))
+    ap (λ (l : List ℕ). times_text e.position e.time ++ (initiator_name p e.txn.initiator ++ (seq_text e.txn.seq ++ (memory_name p memory ++ l)))) told
+    ∙ parts-text-is p e (memory_name p memory) e.what (ap (object_word p) (sym at)) refl
 
 pub has-facts : (w : What) → is_some (facts_of w) ≡ is_access w
 has-facts (Accessed way a status got) = refl

@@ -2,6 +2,7 @@ pub mod LineView
 pub mod Writes
 pub mod Pieces
 pub mod AccessText
+pub mod EventText
 pub mod Putting
 pub mod Told
 pub mod Hops

@@ -20,9 +20,10 @@ pub struct AccessLine<'a> {
     pub shown: &'a [u8],
 }
 
-// How many bytes a name of a short line has at most, and how many bytes its access shows.
-const NAME_MAX: usize = 1024;
+/// How many bytes a name of a short line has at most.
+pub const NAME_MAX: usize = 1024;
 
+// How many bytes its access shows at most.
 const SHOWN_MAX: usize = 4096;
 
 /// How many bytes a short line takes at most.

@@ -8,13 +8,15 @@ ghost use Rattle.report_model.specs.Report.{entry_words, has_operand, operand_te
 ghost use Rattle.tlm_types.specs.Log.{is_access};
 ghost use Rattle.tlm_model.specs.Text.{line_of};
 ghost use Rattle.trace_print.specs.AccessText.{access_text, IsShort};
+ghost use Rattle.trace_print.specs.EventText.{event_text, what_of, IsBrief};
 ghost use Rattle.trace_print.specs.Hops.{ends_at, object_word_by};
 ghost use Rattle.trace_print.specs.Putting.{Puts, page};
 ghost use Rattle.trace_print.specs.Told.{access_words, shown_of, text_of};
 
 use crate::access::AccessLine;
-use crate::line::{Line, flush, put, put_access_line, put_piece};
-use crate::names::{ends_at, initiator_name, memory_name, put_object, put_txn};
+use crate::event::{Event, EventLine};
+use crate::line::{Line, flush, put, put_access_line, put_event_line, put_piece};
+use crate::names::{ends_at, initiator_name, memory_name, place_at, put_object, put_txn};
 use crate::pieces::Piece;
 use crate::words::{kind_text, phase_text, put_data, put_number, put_range, put_sync, put_text};
 use outside::Sink;
@@ -246,6 +248,48 @@ pub fn access_line<'a>(platform: &'a Platform, log: &'a Log, index: u64) -> Opti
     if line.is_short() { Some(line) } else { None }
 }
 
+// What happened, where it happened at a hop or a pool.
+#[inline(always)]
+fn event_of(what: &What) -> Option<Event>
+    ensures { IfSome result (λ event. what_of event ≡ what.now) }
+{
+    match what {
+        What::Call { phase, answer } => Some(Event::Call {
+            phase: *phase,
+            answer: *answer,
+        }),
+        What::Take { slot } => Some(Event::Take { slot: *slot }),
+        What::Acquire { slot } => Some(Event::Acquire { slot: *slot }),
+        What::Release { slot, freed } => Some(Event::Release {
+            slot: *slot,
+            freed: *freed,
+        }),
+        _ => None,
+    }
+}
+
+/// The line of the entry at this place, where it is a call at a hop or an entry of a pool, and its names are
+/// as short as those of a run.
+#[inline(always)]
+pub fn event_line<'a>(plan: &'a Plan, log: &Log, index: u64) -> Option<EventLine<'a>>
+    requires { index < length log.now.entries }
+    ensures brief { IfSome result IsBrief }
+    ensures text { (e : Entry) → slice_get log.now.entries index ≡ Some e →
+        IfSome result (λ line. event_text line ≡ line_of (entry_words plan.now.platform e)) }
+{
+    let what = log.what(index)?;
+    let event = event_of(&what)?;
+    let head = log.head(index);
+    let place = place_at(plan, head.object)?;
+    let line = EventLine {
+        head,
+        initiator: initiator_name(plan.platform(), head.txn.initiator).as_bytes(),
+        place,
+        event,
+    };
+    if line.is_brief() { Some(line) } else { None }
+}
+
 /// The trace shows the entry at this place.
 pub fn is_shown(log: &Log, index: u64, trace: Trace) -> bool
     requires { index < length log.now.entries }
@@ -259,8 +303,24 @@ pub fn is_shown(log: &Log, index: u64, trace: Trace) -> bool
     }
 }
 
-// Puts the line of the entry at this place, where the trace shows it. Only entries that are no short accesses
-// need the ends of a hop.
+// Puts the line of the entry at this place, where it is no short access.
+#[inline(always)]
+fn put_other<K: Sink>(out: &mut K, line: &mut Line, plan: &Plan, log: &Log, index: u64)
+    requires { index < length log.now.entries }
+    ensures { (e : Entry) → slice_get log.now.entries index ≡ Some e →
+        Puts (page (K.taken out.old) (K.faults out.old) line.old)
+        (page (K.taken out.new) (K.faults out.new) line.new) (line_of (entry_words plan.now.platform e)) }
+{
+    if let Some(event) = event_line(plan, log, index) {
+        put_event_line(out, line, &event);
+        flush(out, line);
+    } else {
+        let ends = ends_at(plan, log.head(index).object);
+        put_entry(out, line, plan.platform(), ends, log, index);
+    }
+}
+
+// Puts the line of the entry at this place, where the trace shows it.
 #[inline(always)]
 fn put_traced<K: Sink>(
     out: &mut K,
@@ -283,8 +343,7 @@ fn put_traced<K: Sink>(
         put_access_line(out, line, &access);
         flush(out, line);
     } else {
-        let ends = ends_at(plan, log.head(index).object);
-        put_entry(out, line, plan.platform(), ends, log, index);
+        put_other(out, line, plan, log, index);
     }
 }
 

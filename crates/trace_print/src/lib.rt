@@ -23,6 +23,7 @@ ghost use Rattle.trace_print.specs.Writes.{IsPrinted};
 mod access;
 mod ends;
 mod entries;
+mod event;
 pub mod laws;
 mod line;
 mod memories;

@@ -2,10 +2,12 @@
 ghost use Rattle.std.specs.Prelude.{◌≡◌, ◌+◌, ◌≤◌, ◌∷◌, [], false, length, IfOk};
 ghost use Rattle.tlm_model.specs.Text.{hex_of};
 ghost use Rattle.trace_print.specs.AccessText.{access_text, IsShort};
+ghost use Rattle.trace_print.specs.EventText.{event_text, IsBrief};
 ghost use Rattle.trace_print.specs.Pieces.{piece_text};
 ghost use Rattle.trace_print.specs.Putting.{Puts, page};
 
 use crate::access::{ACCESS_MAX, AccessLine, write_access};
+use crate::event::{EVENT_MAX, EventLine, write_event};
 use crate::pieces::{PIECE_MAX, Piece, write_data, write_piece, write_word};
 use outside::Sink;
 use std::alloc::Global;
@@ -129,6 +131,17 @@ pub fn put_access_line<K: Sink>(out: &mut K, line: &mut Line, access: &AccessLin
 {
     make_room(out, line, ACCESS_MAX);
     line.len = write_access(&mut line.bytes, line.len, access);
+}
+
+/// Puts the line of a call at a hop, or of an entry of a pool.
+#[inline(always)]
+pub fn put_event_line<K: Sink>(out: &mut K, line: &mut Line, event: &EventLine<'_>)
+    requires { IsBrief event.now }
+    ensures { Puts (page (K.taken out.old) (K.faults out.old) line.old)
+        (page (K.taken out.new) (K.faults out.new) line.new) (event_text event.now) }
+{
+    make_room(out, line, EVENT_MAX);
+    line.len = write_event(&mut line.bytes, line.len, event);
 }
 
 /// Puts each of at most 64 bytes as two digits.

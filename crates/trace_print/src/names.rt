@@ -1,9 +1,11 @@
 // Names of a platform's components, as the report has them.
-ghost use Rattle.std.specs.Prelude.{◌≡◌, ◌++◌, codes, slice_get};
-ghost use Rattle.report_model.specs.Report.{initiator_name, memory_name, name_of_router, seq_word, target_name, txn_word};
+ghost use Rattle.std.specs.Prelude.{◌≡◌, ◌++◌, codes, slice_get, IfSome};
+ghost use Rattle.report_model.specs.Report.{initiator_name, memory_name, name_of_router, object_word, seq_word, target_name, txn_word};
+ghost use Rattle.trace_print.specs.EventText.{place_text};
 ghost use Rattle.trace_print.specs.Hops.{ends_at, hop_word_of, object_word_by, up_name};
 ghost use Rattle.trace_print.specs.Putting.{Puts, page};
 
+use crate::event::Place;
 use crate::line::{Line, put, put_piece};
 use crate::pieces::Piece;
 use crate::words::put_text;
@@ -119,5 +121,33 @@ pub fn put_object<K: Sink>(
             put_text(out, line, initiator_name(platform, number));
             put(out, line, b".pool");
         }
+    }
+}
+
+// The name of a hop, by those of its ends.
+#[inline(always)]
+fn hop_place(platform: &Platform, ends: HopEnds) -> Place<'_>
+    ensures { place_text result ≡ hop_word_of platform.now ends }
+{
+    Place::Hop {
+        up: up_name(platform, ends.up).as_bytes(),
+        down: target_name(platform, ends.down).as_bytes(),
+    }
+}
+
+/// The name of a hop or a pool. `None` for a memory, and for a hop that isn't there.
+#[inline(always)]
+pub fn place_at(plan: &Plan, object: ObjectNo) -> Option<Place<'_>>
+    ensures { IfSome result (λ place. place_text place ≡ object_word plan.now.platform object) }
+{
+    match object {
+        ObjectNo::Memory(_) => None,
+        ObjectNo::Hop(number) => {
+            let ends = plan.hop_ends(number)?;
+            Some(hop_place(plan.platform(), ends))
+        }
+        ObjectNo::Pool(number) => Some(Place::Pool {
+            initiator: initiator_name(plan.platform(), number).as_bytes(),
+        }),
     }
 }

@@ -129,9 +129,9 @@ fn write_decimal(bytes: &mut [u8], start: usize, number: u64) -> usize
     write_word(bytes, last, &decimal_pair(low % 100))
 }
 
-// A decimal number. Most lengths and widths have one digit, and that takes no call.
+/// Writes a decimal number. Most lengths and widths have one digit, and that takes no call.
 #[inline(always)]
-fn write_number(bytes: &mut [u8], start: usize, number: u64) -> usize
+pub fn write_number(bytes: &mut [u8], start: usize, number: u64) -> usize
     requires { start + 20 ≤ length bytes.old }
     ensures adds { Adds bytes.old bytes.new start result (decimal number) }
     ensures within { result ≤ start + 20 }

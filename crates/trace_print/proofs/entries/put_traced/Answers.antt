@@ -1,11 +1,8 @@
-use Rattle.std.proofs.Common.{◌≡◌, ◌∙◌, ap, sym}
+use Rattle.std.proofs.Common.{◌∙◌, ap}
 use Rattle.std.proofs.lemmas.List.{append-nil}
-use Rattle.tlm_types.specs.declared.entry.Head.{Head}
-use Rattle.tlm_types.specs.Log.{head_of}
 use Rattle.tlm_model.specs.declared.platform.Platform.{Platform}
 use Rattle.report_model.specs.Report.{entry_words}
 use Rattle.tlm_model.specs.Text.{line_of}
-use Rattle.trace_print.specs.Hops.{ends_at}
 use Rattle.trace_print.proofs.EntryLemmas.{hidden-one, shown-one}
 use Rattle.trace_print.proofs.Putting.{puts-as, puts-more, puts-nothing}
 use Rattle.trace_print.proofs.entries.put_traced.Goals as goal
@@ -22,9 +19,4 @@ returns-in-Some g c e here =
 
 pub returns-in_default : goal.returns-in_default
 returns-in_default g c e here =
-    let p = c.args.plan.now.platform in
-    let found = rw here at c.head.ensures in
-    let same : c.head.result ≡ head_of e = cc in
-    let ends = c.ends_at-ends.ensures ∙ (ap (λ (h : Head). ends_at p h.object) same ∙ ap (λ (r : Platform). ends_at r e.object) (sym c.platform-in_default.ensures.same)) in
-    let shown = ap (λ (r : Platform). line_of (entry_words r e)) c.platform-in_default.ensures.same ∙ shown-one p c.args.trace e _ (c.is_shown.ensures e here) c.if-not-is_shown.false in
-    puts-as _ _ _ _ (c.put_entry.ensures e here ends) shown
+    puts-as _ _ _ _ (c.put_other.ensures e here) (shown-one c.args.plan.now.platform c.args.trace e _ (c.is_shown.ensures e here) c.if-not-is_shown.false)
