@@ -21,11 +21,12 @@
 //! Promises: a request goes to the hop behind its window and with the address there, after the router's
 //! latency; without a window it is answered with ADDRESS_ERROR. END_REQ is made above after BEGIN_REQ
 //! below. The response goes up as it came, with the reference that came with the request. END_RESP and
-//! Release are made below after the end above. What is refused comes back as it was. A pump goes once through
-//! all that is held, in order of arrival, and fetches at most one response and one request, each from the first
-//! hop at which one waits. It tells `Did` exactly where it has moved a transaction, and `Nothing` with a look in
-//! vain at each place where there could have been something to do. A response goes to the first transaction that
-//! it is of, and is kept where there is none. No pump takes memory; `new` is refused for want of memory alone.
+//! Release are made below after the end above. What is refused comes back as it was. A pump goes through all that
+//! is held, in order of arrival, and fetches at most one response and one request. It does so in haste first,
+//! without tries and looks that are likely to be in vain, and only where nothing was moved so once more with every
+//! one. It tells `Did` exactly where it has moved a transaction, and `Nothing` with a look in vain at each place
+//! where there could have been something to do. A response goes to the first transaction that it is of, and is kept
+//! where there is none. No pump takes memory; `new` is refused for want of memory alone.
 #![tactic(auto)]
 
 mod choice;
