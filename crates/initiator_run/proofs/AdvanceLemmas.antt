@@ -1,14 +1,12 @@
 -- A run that goes on, move by move.
-use Rattle.std.proofs.Common.{◌≡◌, ℕ, zero, suc, ◌<◌, List, [], ◌∷◌, length, true, false, ap, ◌∙◌, arith}
+use Rattle.std.proofs.Common.{◌≡◌, ℕ, List, true, false, ap, ◌∙◌}
 use Rattle.time_board.specs.declared.rounds.Member.{Member}
 use Rattle.time_board.specs.Rounds.{AreClose, members_finished}
 use Rattle.tlm_model.specs.Plan.{Plan}
 use Rattle.initiator_run.specs.Board.{HasGoneOn, IsInRound, SyncsOnce}
-use Rattle.region_object.specs.Region.{LoggedMemory}
 use Rattle.script_engine.specs.declared.part.Transfer.{Transfer}
 use Rattle.initiator_run.specs.Moves.{HasAdvanced, IsUnderWay, Keeps}
 use Rattle.initiator_run.specs.Run.{Run, accessed}
-use Rattle.initiator_run.specs.Turns.{HasRoomAt}
 use Rattle.initiator_run.proofs.BoardLemmas.{HasGoneOn-finished, HasGoneOn-moved, HasGoneOn-then}
 use Rattle.initiator_run.proofs.RunLemmas.{IsUnderWay-kept, Keeps-round, Keeps-then, SyncsOnce-by_access, accessed_finished, few_syncs}
 
@@ -45,9 +43,3 @@ pub gone_accessed : (p : Plan) (a b c : Run) (before after : List Member) (x : T
 gone_accessed p a b c before after x by got way keeps gone let_in run =
     HasGoneOn-moved a b c before after gone let_in (SyncsOnce-by_access b c x by got run (few_syncs p b (IsUnderWay-kept p a b way keeps)))
     (ap (λ (r : Run). r.finished) run ∙ accessed_finished x by got b)
-
--- a memory that has room is there
-pub room_within : (regions : List LoggedMemory) (k : ℕ) → HasRoomAt regions k → k < length regions
-room_within [] k room = absurd room
-room_within (m ∷ regions) zero room = omega arith
-room_within (m ∷ regions) (suc k) room = omega (arith, room_within regions k room)

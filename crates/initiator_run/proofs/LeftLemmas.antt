@@ -18,7 +18,7 @@ use Rattle.script_engine.proofs.States.{state}
 use Rattle.route_plan.specs.Paths.{once}
 use Rattle.route_plan.specs.Planned.{leads_to}
 use Rattle.region_object.specs.Call.{payload_cost}
-use Rattle.initiator_run.specs.Left.{asks_left, bytes_at, bytes_left, leads, total_left}
+use Rattle.initiator_run.specs.Left.{asks_left, bytes_at, bytes_left, leads, total_of}
 use Rattle.initiator_run.specs.Run.{Run, engine_after}
 
 left_paused : (p : Plan) (i : Initiator) (m n s : ℕ) (due : Option Due) (ops : List Operation) (b : Bool) (pause : Pause) → part_of (op_at s due ops) ≡ Pauses pause
@@ -67,22 +67,12 @@ leads_nowhere p i m a is = ap (λ (o : Option Route). once (leads_to o m)) is
 pub leads_elsewhere : (p : Plan) (i : Initiator) (m a : ℕ) (route : Route) → route_of p.platform i a ≡ Some route → (m ≡ route.memory → ⊥) → leads p i m a ≡ 0
 leads_elsewhere p i m a route is other = ap (λ (o : Option Route). once (leads_to o m)) is ∙ ap once (ne_eqb route.memory m (λ same. other (sym same)))
 
--- what is left of all runs, where one of them has come further
-pub total_left-set : (p : Plan) (m d : ℕ) (is : List Initiator) (rs : List Run) (k : ℕ) (i : Initiator) (r new : Run) → slice_get is k ≡ Some i → slice_get rs k ≡ Some r → asks_left p i m new.engine + d ≤ asks_left p i m r.engine → total_left p m is (set rs k new) + d ≤ total_left p m is rs
-total_left-set p m d [] rs k i r new mine run less = cc
-total_left-set p m d (j ∷ is) [] k i r new mine run less = cc
-total_left-set p m d (j ∷ is) (q ∷ rs) zero i r new mine run less =
+-- what is counted of all runs, where one of them has come further
+pub total-set : (count : Initiator → State → ℕ) (d : ℕ) (is : List Initiator) (rs : List Run) (k : ℕ) (i : Initiator) (r new : Run) → slice_get is k ≡ Some i → slice_get rs k ≡ Some r → count i new.engine + d ≤ count i r.engine → total_of count is (set rs k new) + d ≤ total_of count is rs
+total-set count d [] rs k i r new mine run less = cc
+total-set count d (j ∷ is) [] k i r new mine run less = cc
+total-set count d (j ∷ is) (q ∷ rs) zero i r new mine run less =
     let same_i : j ≡ i = cc in
     let same_r : q ≡ r = cc in
-    omega (arith, ap (λ (x : Initiator). asks_left p x m new.engine) same_i, ap (λ (x : Initiator). asks_left p x m q.engine) same_i, ap (λ (x : Run). asks_left p i m x.engine) same_r)
-total_left-set p m d (j ∷ is) (q ∷ rs) (suc k) i r new mine run less = omega (arith, total_left-set p m d is rs k i r new mine run less)
-
--- a run's part is no more than all
-pub total_left-at : (p : Plan) (m : ℕ) (is : List Initiator) (rs : List Run) (k : ℕ) (i : Initiator) (r : Run) → slice_get is k ≡ Some i → slice_get rs k ≡ Some r → asks_left p i m r.engine ≤ total_left p m is rs
-total_left-at p m [] rs k i r mine run = cc
-total_left-at p m (j ∷ is) [] k i r mine run = cc
-total_left-at p m (j ∷ is) (q ∷ rs) zero i r mine run =
-    let same_i : j ≡ i = cc in
-    let same_r : q ≡ r = cc in
-    omega (arith, ap (λ (x : Initiator). asks_left p x m q.engine) same_i, ap (λ (x : Run). asks_left p i m x.engine) same_r)
-total_left-at p m (j ∷ is) (q ∷ rs) (suc k) i r mine run = omega (arith, total_left-at p m is rs k i r mine run)
+    omega (arith, ap (λ (x : Initiator). count x new.engine) same_i, ap (λ (x : Initiator). count x q.engine) same_i, ap (λ (x : Run). count i x.engine) same_r)
+total-set count d (j ∷ is) (q ∷ rs) (suc k) i r new mine run less = omega (arith, total-set count d is rs k i r new mine run less)

@@ -1,5 +1,5 @@
 -- The call that carries an access or a debug read to its memory.
-use Rattle.std.proofs.Common.{◌≡◌, ℕ, List, [], ◌∷◌, ◌++◌, length, true, refl, ap, sym, subst, ◌∙◌, arith}
+use Rattle.std.proofs.Common.{◌≡◌, ℕ, ◌+◌, ◌≤◌, List, [], length, true, refl, ap, sym, subst, ◌∙◌, arith}
 use Rattle.std.proofs.lemmas.Grind.{common_steps}
 use Rattle.tlm_types.specs.declared.entry.Access.{Access}
 use Rattle.tlm_types.specs.declared.entry.Entry.{Entry}
@@ -10,12 +10,14 @@ use Rattle.tlm_types.specs.declared.words.ObjectNo.TheVariants.{Memory as memory
 use Rattle.tlm_types.specs.declared.words.Response.{Response}
 use Rattle.tlm_types.specs.declared.words.TxnId.{TxnId}
 use Rattle.tlm_types.specs.declared.words.Way.TheVariants.{Blocking, Debug as by_debug}
+use Rattle.tlm_types.specs.Log.{kept_of}
 use Rattle.tlm_model.specs.Log.{log_bytes}
 use Rattle.tlm_model.specs.Store.{got_by, status_of, zeros}
 use Rattle.generic_payload.specs.Payload.{PayloadView}
-use Rattle.region_object.specs.Call.{IsFit}
+use Rattle.region_object.specs.Call.{Fits, IsFit, cost_of, payload_cost}
 use Rattle.region_object.specs.declared.call.RegionCall.{RegionCall}
-use Rattle.region_object.specs.Region.{LoggedMemory, answered, buffer_after, region_entry as entry_of_call}
+use Rattle.region_object.specs.Region.{LoggedMemory, answered, buffer_after, region_entry as entry_of_call, with_logged}
+use Rattle.region_object.proofs.Cost.{kept_of-call}
 use Rattle.route_plan.specs.declared.step.Route.{Route}
 use Rattle.script_engine.specs.declared.part.Part.TheVariants.{Asks}
 use Rattle.script_engine.specs.declared.part.Transfer.{Transfer}
@@ -28,7 +30,7 @@ use Rattle.script_engine.proofs.Payloads.{reads_into_zeros, room_of_payload}
 use Rattle.script_engine.proofs.Steps.{fills}
 use Rattle.quantum_keeper.specs.Keeper.{current_time}
 use Rattle.initiator_run.specs.declared.run.NextAccess.{NextAccess}
-use Rattle.initiator_run.specs.Access.{HasLog, call_at, next_call, payload_back, model_route, entry_made, bytes_back, payload_room}
+use Rattle.initiator_run.specs.Access.{call_at, cost_next, next_call, payload_back, model_route, entry_made, bytes_back, payload_room}
 use Rattle.initiator_run.specs.Entry.{access_at, answered_by, back, got_for, way_of}
 use Rattle.initiator_run.specs.Run.{Run}
 use Rattle.initiator_run.proofs.ReplyLemmas.{length-found, length-got}
@@ -102,18 +104,37 @@ call_is_next r next txn t p mine now filled = rw (mine, now, filled) refl
 
 -- what comes back of a call
 pub record IsSent (r : Run) (x : Transfer) (old new : LoggedMemory) (route : Route) (position : ℕ) (returned : PayloadView) : Type 0 where
-  pub logged : HasLog old new (old.log.entries ++ entry_made r x old route position ∷ [])
+  pub logged : new ≡ with_logged old (entry_made r x old route position)
   pub bytes : is_fenced_kind x.kind ≡ true → returned.bytes ≡ bytes_back r x old route
   pub whole : is_fenced_kind x.kind ≡ true → length returned.bytes ≡ x.length
   pub room : returned.room ≡ payload_room
 
-pub call_is_sent : (r : Run) (x : Transfer) (old new : LoggedMemory) (route : Route) (position : ℕ) (call : RegionCall) (returned : PayloadView) → next_of r.engine ≡ Asks x → call ≡ next_call r x route → HasLog old new (old.log.entries ++ entry_of_call old position call ∷ []) → returned ≡ payload_back old call → IsSent r x old new route position returned
+pub call_is_sent : (r : Run) (x : Transfer) (old new : LoggedMemory) (route : Route) (position : ℕ) (call : RegionCall) (returned : PayloadView) → next_of r.engine ≡ Asks x → call ≡ next_call r x route → new ≡ with_logged old (entry_of_call old position call) → returned ≡ payload_back old call → IsSent r x old new route position returned
 call_is_sent r x old new route position call returned is same logged comes =
     let back_is : returned ≡ payload_back old (next_call r x route) = comes ∙ ap (payload_back old) same in
     let entry : entry_of_call old position call ≡ entry_made r x old route position = ap (entry_of_call old position) same ∙ entry_is_made r x old route position is in
     record {
-      logged = subst (λ (e : Entry). HasLog old new (old.log.entries ++ e ∷ [])) entry logged;
+      logged = logged ∙ ap (with_logged old) entry;
       bytes = λ waits. ap (λ (p : PayloadView). p.bytes) back_is ∙ bytes_come_back r x old route waits;
       whole = λ waits. ap (λ (p : PayloadView). length p.bytes) back_is ∙ (ap length (bytes_come_back r x old route waits) ∙ whole_comes_back r x old route is waits);
       room = ap (λ (p : PayloadView). p.room) back_is ∙ (room_back old x.kind (record { initiator = r.engine.initiator; seq = r.engine.seq }) (current_time r.keeper) route.before (record (payload_of r.engine payload_room) { address = route.offset }) ∙ room_of_payload payload_room r.engine);
     }
+
+cost_by : (kind : TransferKind) (txn : TxnId) (t before : ℕ) (p : PayloadView) → cost_of (call_at kind txn t before p) ≡ payload_cost p
+cost_by (transfer.Access command plain fenced) txn t before p = refl
+cost_by transfer.DebugRead txn t before p = refl
+
+fits_by : (kind : TransferKind) (txn : TxnId) (t before : ℕ) (p : PayloadView) → IsFit (call_at kind txn t before p) → Fits [] (call_at kind txn t before p)
+fits_by (transfer.Access command plain fenced) txn t before p fit = fit
+fits_by transfer.DebugRead txn t before p fit = fit
+
+-- the entry of a transfer takes no more of the room of its log than its payload costs
+pub left_of_next : (r : Run) (x : Transfer) (m : LoggedMemory) (route : Route) (position : ℕ) → next_of r.engine ≡ Asks x → m.log.room_bytes ≤ (with_logged m (entry_made r x m route position)).log.room_bytes + cost_next r
+left_of_next r x m route position is =
+    let txn : TxnId = record { initiator = r.engine.initiator; seq = r.engine.seq } in
+    let payload : PayloadView = record (payload_of r.engine payload_room) { address = route.offset } in
+    let fit = fits_by x.kind txn (current_time r.keeper) route.before payload (payload_fits r.engine x payload_room txn (current_time r.keeper) route.before route.offset is) in
+    let kept : kept_of (entry_of_call m position (next_call r x route)).what ≤ cost_of (next_call r x route) = kept_of-call m position [] (next_call r x route) fit in
+    let cost : cost_of (next_call r x route) ≡ cost_next r = cost_by x.kind txn (current_time r.keeper) route.before payload in
+    let same : kept_of (entry_of_call m position (next_call r x route)).what ≡ kept_of (entry_made r x m route position).what = ap (λ (e : Entry). kept_of e.what) (entry_is_made r x m route position is) in
+    omega arith

@@ -11,7 +11,7 @@ use Rattle.tlm_model.specs.Route.{Route as RouteOfModel, later, route_of, before
 use Rattle.generic_payload.specs.Payload.{PayloadView}
 use Rattle.region_object.specs.declared.call.RegionCall.{RegionCall}
 use Rattle.region_object.specs.declared.call.RegionCall.TheVariants.{Access, Debug}
-use Rattle.region_object.specs.Call.{returned}
+use Rattle.region_object.specs.Call.{payload_cost, returned}
 use Rattle.region_object.specs.Region.{LoggedMemory, reply_of}
 use Rattle.route_plan.specs.declared.step.Route.{Route}
 use Rattle.script_engine.specs.declared.part.Transfer.{Transfer}
@@ -26,13 +26,6 @@ use Rattle.initiator_run.specs.Run.{Run}
 -- how many data bytes the payload of an initiator has room for
 abbrev pub payload_room : ℕ
 payload_room = 4096
-
--- a memory that has these entries, and is else as before
-pub record HasLog (old new : LoggedMemory) (entries : List Entry) : Type 0 where
-  pub number : new.number ≡ old.number
-  pub traits : new.traits ≡ old.traits
-  pub room : new.log.room ≡ old.log.room
-  pub all : new.log.entries ≡ entries
 
 abbrev pub model_route : Route → RouteOfModel
 model_route route = record { memory = route.memory; offset = route.offset }
@@ -55,6 +48,10 @@ payload_back m call = returned (reply_of m call)
 -- what a transfer that is next asks for
 abbrev pub asked_next : Run → Transfer → Asked
 asked_next r x = asked_for x.kind x.length (payload_of r.engine payload_room)
+
+-- how many bytes of the room of its memory's log it may take
+abbrev pub cost_next : Run → ℕ
+cost_next r = payload_cost (payload_of r.engine payload_room)
 
 -- the entry of a transfer that is next, at a memory and at this position
 abbrev pub entry_made : Run → Transfer → LoggedMemory → Route → ℕ → Entry

@@ -41,8 +41,16 @@ logged_due p i m (Some w) = bytes_at p i m w.address (length w.bytes)
 abbrev pub bytes_left : Plan → Initiator → ℕ → State → ℕ
 bytes_left p i m e = logged_due p i m e.due + logged_in p i m e.remaining
 
+-- what is counted of each initiator and its run, all together
+abbrev pub total_of : (Initiator → State → ℕ) → List Initiator → List Run → ℕ
+total_of count [] rs = 0
+total_of count (i ∷ is) [] = 0
+total_of count (i ∷ is) (r ∷ rs) = count i r.engine + total_of count is rs
+
 -- what all runs are still to ask of memory m
 abbrev pub total_left : Plan → ℕ → List Initiator → List Run → ℕ
-total_left p m [] rs = 0
-total_left p m (i ∷ is) [] = 0
-total_left p m (i ∷ is) (r ∷ rs) = asks_left p i m r.engine + total_left p m is rs
+total_left p m is rs = total_of (λ i e. asks_left p i m e) is rs
+
+-- and how many bytes they are still to log there
+abbrev pub total_bytes : Plan → ℕ → List Initiator → List Run → ℕ
+total_bytes p m is rs = total_of (λ i e. bytes_left p i m e) is rs

@@ -1,57 +1,38 @@
 -- What a turn of an initiator does to its run and to the memories.
-use Rattle.std.specs.Prelude.{ℕ, ◌≡◌, ◌<◌, true, List, [], ◌∷◌, ◌++◌, length, Some, IsSomeAnd, slice_get, slice_set}
+use Rattle.std.specs.Prelude.{ℕ, ◌≡◌, ◌<◌, ◌≤◌, true, List, length, Some, IsSomeAnd, slice_get, slice_set}
 use Rattle.tlm_model.specs.Plan.{Plan}
-use Rattle.region_object.specs.Region.{LoggedMemory}
+use Rattle.region_object.specs.Region.{LoggedMemory, with_logged}
 use Rattle.route_plan.specs.declared.step.Route.{Route}
 use Rattle.time_board.specs.declared.rounds.Member.{Member}
 use Rattle.script_engine.specs.declared.part.Transfer.{Transfer}
 use Rattle.script_engine.specs.Part.{is_fenced_kind}
 use Rattle.initiator_run.specs.declared.turn.Turn.{Turn}
 use Rattle.initiator_run.specs.declared.run.NextInvalidation.{NextInvalidation}
-use Rattle.initiator_run.specs.declared.turn.Turn.TheVariants.{Made, Invalidates, Waits, Ended, NoMemory}
-use Rattle.initiator_run.specs.Access.{HasLog, bytes_back, entry_made}
+use Rattle.initiator_run.specs.declared.turn.Turn.TheVariants.{Made, Invalidates, Waits, Ended}
+use Rattle.initiator_run.specs.Access.{bytes_back, entry_made}
 use Rattle.initiator_run.specs.Board.{IsWaiting}
 use Rattle.initiator_run.specs.Moves.{HasNoMore, HasReached, HasToInvalidate, Keeps}
 use Rattle.initiator_run.specs.Run.{Run, accessed}
 
--- one memory has a log with these entries, and is else as before; the others are as before
-pub record HasLogAt (old new : List LoggedMemory) (k : ℕ) (region next : LoggedMemory) : Type 0 where
-  pub was : slice_get old k ≡ Some region
-  pub now : new ≡ slice_set old k next
+-- there is such a memory, and it has room for one more entry of so many bytes
+abbrev pub HasRoomAt : List LoggedMemory → ℕ → ℕ → Type 0
+HasRoomAt regions k bytes = IsSomeAnd (slice_get regions k) (λ m. (length m.log.entries < m.log.room) × (bytes ≤ m.log.room_bytes))
 
--- there is such a memory, and it has room for one more entry
-abbrev pub HasRoomAt : List LoggedMemory → ℕ → Type 0
-HasRoomAt regions k = IsSomeAnd (slice_get regions k) (λ m. length m.log.entries < m.log.room)
-
--- the run has moved to an access with a route, and made it
+-- the run has moved to an access with a route, and made it: its memory has the entry, and the others are as before
 pub record HasMadeAccess (p : Plan) (old new : Run) (before after : List LoggedMemory) (position : ℕ) : Type 0 where
   pub middle : Run
   pub transfer : Transfer
   pub route : Route
   pub region : LoggedMemory
-  pub next : LoggedMemory
   pub got : List ℕ
   pub keeps : Keeps p old middle
   pub finished : middle.finished ≡ old.finished
   pub reached : HasReached p middle transfer route
   pub through : middle.round ≡ middle.syncs
-  pub memory : HasLogAt before after route.memory region next
-  pub logged : HasLog region next (region.log.entries ++ entry_made middle transfer region route position ∷ [])
+  pub was : slice_get before route.memory ≡ Some region
+  pub now : after ≡ slice_set before route.memory (with_logged region (entry_made middle transfer region route position))
   pub told : is_fenced_kind transfer.kind ≡ true → got ≡ bytes_back middle transfer region route
   pub run : new ≡ accessed transfer route.latency got middle
-
--- the run has moved to an access with a route, and memory was refused
-pub record HasMoved (p : Plan) (old new : Run) (before after : List LoggedMemory) : Type 0 where
-  pub keeps : Keeps p old new
-  pub finished : new.finished ≡ old.finished
-  pub transfer : Transfer
-  pub route : Route
-  pub reached : HasReached p new transfer route
-  pub place : ℕ
-  pub region : LoggedMemory
-  pub next : LoggedMemory
-  pub memory : HasLogAt before after place region next
-  pub logged : HasLog region next region.log.entries
 
 -- the run has moved to an invalidation with a route, which its caller makes
 pub record HasMovedToInvalidate (p : Plan) (old new : Run) (before after : List LoggedMemory) (x : NextInvalidation) : Type 0 where
@@ -80,4 +61,3 @@ IsTurn p old new members before after position Made = HasMadeAccess p old new be
 IsTurn p old new members before after position (Invalidates x) = HasMovedToInvalidate p old new before after x
 IsTurn p old new members before after position Waits = HasMovedToWait p old new members before after
 IsTurn p old new members before after position Ended = HasMovedToEnd p old new before after
-IsTurn p old new members before after position NoMemory = HasMoved p old new before after

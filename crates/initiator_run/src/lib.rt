@@ -11,8 +11,8 @@
 //! Promises: a move keeps to the script by the replies so far (`Keeps`), makes at most one sync
 //! (`SyncsOnce`) and takes at most one operation, or access of one (`StepsOnce`); where it makes no
 //! entry there is less of the script left (`IsMove`). A turn ends with an entry, at the end of the script,
-//! or just where the last sync isn't let through (`IsTurn`, `HasGoneOn`; IEEE 1666-2011, clause 16.2). The
-//! only error is want of memory, after which no entry was made.
+//! or just where the last sync isn't let through (`IsTurn`, `HasGoneOn`; IEEE 1666-2011, clause 16.2). Want
+//! of memory is answered only where a run is made: no move and no turn can fail.
 #![tactic(auto)]
 
 mod run;

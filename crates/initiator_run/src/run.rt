@@ -1,15 +1,15 @@
 // The run of one initiator: its script, its local time, and what is counted of it.
-ghost use Rattle.std.specs.Prelude.{◌≡◌, ◌+◌, ◌*◌, ◌^◌, ◌<◌, ◌≤◌, [], ◌∷◌, ◌++◌, length, IfOk, OnOk, OnErr, IsTrue, ◌↔◌, ◌≢◌, true, false};
+ghost use Rattle.std.specs.Prelude.{◌≡◌, ◌+◌, ◌*◌, ◌^◌, ◌<◌, ◌≤◌, [], length, IfOk, IsTrue, ◌↔◌, ◌≢◌, true, false};
 ghost use Rattle.tlm_model.specs.Plan.{Plan as PlanView};
-ghost use Rattle.region_object.specs.Call.{IsFit};
-ghost use Rattle.region_object.specs.Region.{region_entry as entry_of_call};
+ghost use Rattle.region_object.specs.Call.{IsFit, payload_cost};
+ghost use Rattle.region_object.specs.Region.{region_entry as entry_of_call, with_logged};
 ghost use Rattle.traffic_script.specs.Proper.{AreProper};
 ghost use Rattle.script_engine.specs.declared.part.Part.TheVariants.{Asks, Invalidates, Pauses};
 ghost use Rattle.script_engine.specs.Part.{is_fenced_kind, is_sync_pause};
 ghost use Rattle.script_engine.specs.State.{next_of, payload_of};
 ghost use Rattle.quantum_keeper.specs.Keeper.{current_time};
 ghost use Rattle.time_board.specs.Rounds.{AreClose};
-ghost use Rattle.initiator_run.specs.Access.{HasLog, bytes_back, call_at, entry_made, payload_back};
+ghost use Rattle.initiator_run.specs.Access.{bytes_back, call_at, cost_next, entry_made, payload_back};
 ghost use Rattle.initiator_run.specs.Board.{HasGoneOn, IsInRound, IsLet, SyncsOnce};
 ghost use Rattle.initiator_run.specs.Moves.{Advances, IsInvalidation, IsMove, IsUnderWay, Keeps, last_byte, steps_left};
 ghost use Rattle.initiator_run.specs.Steps.{StepsOnce};
@@ -411,21 +411,21 @@ impl InitiatorRun {
     }
 
     /// Makes the access or debug read that is next at its memory, as the entry at this position, and goes
-    /// on after it. Its only error is want of memory, after which nothing has changed but the payload.
+    /// on after it. The memory has room for that entry and for the bytes of the payload.
     pub(crate) fn access(
         &mut self,
         region: &mut Region,
         next: &NextAccess,
         position: u64,
         payload: &mut Payload,
-    ) -> Result<(), Memory>
+    )
         requires next { next_of self.old.engine ≡ Asks next.now.transfer }
         requires room { length region.old.log.entries < region.old.log.room }
+        requires room_bytes { cost_next self.old ≤ region.old.log.room_bytes }
         requires roomy { payload.old.room ≡ 4096 }
-        ensures ok { let transfer = next.now.transfer in OnOk result ((self.new ≡ accessed transfer next.now.route.latency payload.new.bytes self.old)
-            × HasLog region.old region.new (region.old.log.entries ++ entry_made self.old transfer region.old next.now.route position ∷ [])
-            × (is_fenced_kind transfer.kind ≡ true → payload.new.bytes ≡ bytes_back self.old transfer region.old next.now.route)) }
-        ensures err { OnErr result ((self.new ≡ self.old) × HasLog region.old region.new region.old.log.entries) }
+        ensures run { self.new ≡ accessed next.now.transfer next.now.route.latency payload.new.bytes self.old }
+        ensures memory { region.new ≡ with_logged region.old (entry_made self.old next.now.transfer region.old next.now.route position) }
+        ensures told { is_fenced_kind next.now.transfer.kind ≡ true → payload.new.bytes ≡ bytes_back self.old next.now.transfer region.old next.now.route }
         ensures roomy { payload.new.room ≡ 4096 }
     {
         self.fill(&next.route, payload);
@@ -439,9 +439,8 @@ impl InitiatorRun {
             time,
             next.route.before,
             payload,
-        )?;
+        );
         self.complete(next.transfer, next.route.latency, payload);
-        Ok(())
     }
 
     // Makes it the payload of the access or debug read that is next, at the end of its route.
@@ -481,15 +480,13 @@ fn send(
     time: Ps,
     before: Ps,
     payload: &mut Payload,
-) -> Result<(), Memory>
+)
     requires fit { IsFit (call_at kind txn time before payload.old) }
     requires room { length region.old.log.entries < region.old.log.room }
-    ensures ok { let call = call_at kind txn time before payload.old in
-        OnOk result (HasLog region.old region.new (region.old.log.entries ++ entry_of_call region.old position call ∷ [])
-        × (payload.new ≡ payload_back region.old call)) }
-    ensures err { OnErr result (HasLog region.old region.new region.old.log.entries × (payload.new ≡ payload.old)) }
+    requires room_bytes { payload_cost payload.old ≤ region.old.log.room_bytes }
+    ensures memory { region.new ≡ with_logged region.old (entry_of_call region.old position (call_at kind txn time before payload.old)) }
+    ensures payload { payload.new ≡ payload_back region.old (call_at kind txn time before payload.old) }
 {
-    region.make_room_for(payload)?;
     match kind {
         TransferKind::DebugRead => {
             region.debug(position, txn, time, payload);
@@ -499,5 +496,4 @@ fn send(
             region.transport(position, txn, arrival, Way::Blocking, payload);
         }
     }
-    Ok(())
 }

@@ -1,6 +1,7 @@
 // A turn of an initiator: its moves up to and with its next entry.
 ghost use Rattle.std.specs.Prelude.{◌≡◌, ◌<◌, length, false};
 ghost use Rattle.time_board.specs.Rounds.{AreClose};
+ghost use Rattle.initiator_run.specs.Access.{cost_next};
 ghost use Rattle.initiator_run.specs.Board.{HasGoneOn, IsInRound};
 ghost use Rattle.initiator_run.specs.Moves.{HasReached, IsUnderWay, Keeps};
 ghost use Rattle.initiator_run.specs.Run.{Run};
@@ -14,7 +15,6 @@ use outside::Pace;
 use region_object::Region;
 use route_plan::Plan;
 use time_board::Rounds;
-use tlm_types::Memory;
 
 /// How a turn ended.
 pub enum Turn {
@@ -27,12 +27,11 @@ pub enum Turn {
     Waits,
     /// At the end of the script.
     Ended,
-    /// Want of memory, before its entry.
-    NoMemory,
 }
 
 /// Makes the moves of a run up to and with its next entry, which has this position, as far as the
-/// rounds let it.
+/// rounds let it. The memory of each access that the run may come to has room for its entry and for the
+/// bytes of its payload.
 pub fn take_turn<P: Pace>(
     plan: &Plan,
     run: &mut InitiatorRun,
@@ -47,7 +46,7 @@ pub fn take_turn<P: Pace>(
     requires round { IsInRound rounds.old run.old.engine.initiator run.old }
     requires close { AreClose rounds.old }
     requires roomy { payload.old.room ≡ 4096 }
-    requires room { (middle : Run) (x : TransferView) (route : RouteView) → Keeps plan.now run.old middle → HasReached plan.now middle x route → HasRoomAt regions.old route.memory }
+    requires room { (middle : Run) (x : TransferView) (route : RouteView) → Keeps plan.now run.old middle → HasReached plan.now middle x route → HasRoomAt regions.old route.memory (cost_next middle) }
     ensures turn { IsTurn plan.now run.old run.new rounds.new regions.old regions.new position result }
     ensures rounds { HasGoneOn run.old run.new rounds.old rounds.new }
     ensures roomy { payload.new.room ≡ 4096 }
@@ -59,8 +58,6 @@ pub fn take_turn<P: Pace>(
         Stop::Ended => return Turn::Ended,
     };
     let region = &mut regions[next.route.memory as usize];
-    match run.access(region, &next, position, payload) {
-        Ok(()) => Turn::Made,
-        Err(Memory) => Turn::NoMemory,
-    }
+    run.access(region, &next, position, payload);
+    Turn::Made
 }

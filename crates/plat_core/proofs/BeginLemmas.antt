@@ -12,14 +12,15 @@ use Rattle.grant_model.specs.Laws.{HasNoInvalidation}
 use Rattle.good_history.specs.Good.{IsSound}
 use Rattle.good_history.proofs.Ungranted.{sound_empty}
 use Rattle.region_object.specs.Region.{LoggedMemory}
-use Rattle.route_plan.specs.Planned.{planned_at, share_of}
+use Rattle.route_plan.specs.Planned.{logged_bytes, logged_share, planned_at, share_of}
+use Rattle.script_engine.specs.State.{State}
 use Rattle.script_engine.proofs.Remaining.{few_numbers}
 use Rattle.script_engine.proofs.Steps.{begins}
 use Rattle.plat_core.specs.Core.{IsCore, IsMemoryAt, IsRunOf, are_finished, begun_run, history_of, logs_of, no_runs}
 use Rattle.route_plan.specs.Shape.{IsBlocking}
 use Rattle.route_plan.specs.Valid.{IsValid}
 use Rattle.plat_core.specs.Fresh.{AreFresh, IsFresh}
-use Rattle.initiator_run.specs.Left.{asked_in, total_left}
+use Rattle.initiator_run.specs.Left.{asks_left, bytes_left, total_bytes, total_left, total_of}
 use Rattle.run_outcome.specs.Merge.{by_position, entries_in}
 use Rattle.initiator_run.specs.Run.{Run, fresh_run}
 use Rattle.initiator_run.proofs.EndLemmas.{HasCome-begun}
@@ -28,18 +29,27 @@ use Rattle.run_outcome.proofs.PlanLemmas.{no_direct, no_fourphase}
 use Rattle.traffic_script.specs.Proper.{AreProper}
 use Rattle.initiator_run.proofs.BeginLemmas.{proper_at, syncs_bound}
 
-share_bound : (p : Plan) (i : Initiator) (m : ℕ) → asked_in p i m i.script ≤ share_of p i (memory_object m)
+share_bound : (p : Plan) (i : Initiator) (m : ℕ) → asks_left p i m (begun_run p i).engine ≤ share_of p i (memory_object m)
 unfolding share_of
 share_bound p i m = omega arith
 
-total_bound : (p : Plan) (m : ℕ) (is : List Initiator) → total_left p m is (map (begun_run p) is) ≤ sum_by (λ i. share_of p i (memory_object m)) is
-total_bound p m [] = omega arith
-total_bound p m (i ∷ is) = omega (arith, share_bound p i m, total_bound p m is, sum_by-cons (λ (x : Initiator). share_of p x (memory_object m)) i is)
+logged_bound : (p : Plan) (i : Initiator) (m : ℕ) → bytes_left p i m (begun_run p i).engine ≤ logged_share p i m
+unfolding logged_share
+logged_bound p i m = omega arith
 
--- what is planned at a memory is enough for all that is left
+-- what is counted of all runs is no more than all shares, where it is so for each
+total_bound : (p : Plan) (count : Initiator → State → ℕ) (share : Initiator → ℕ) (is : List Initiator) → ((i : Initiator) → count i (begun_run p i).engine ≤ share i) → total_of count is (map (begun_run p) is) ≤ sum_by share is
+total_bound p count share [] each = omega arith
+total_bound p count share (i ∷ is) each = omega (arith, each i, total_bound p count share is each, sum_by-cons share i is)
+
+-- the entries and the bytes that are planned at a memory are enough for all that is left
 planned_bound : (p : Plan) (m : ℕ) → total_left p m (initiators_of p) (no_runs p) ≤ planned_at p (memory_object m)
 unfolding planned_at
-planned_bound p m = total_bound p m (initiators_of p)
+planned_bound p m = total_bound p (λ i e. asks_left p i m e) (λ i. share_of p i (memory_object m)) (initiators_of p) (λ i. share_bound p i m)
+
+bytes_bound : (p : Plan) (m : ℕ) → total_bytes p m (initiators_of p) (no_runs p) ≤ logged_bytes p m
+unfolding logged_bytes
+bytes_bound p m = total_bound p (λ i e. bytes_left p i m e) (λ i. logged_share p i m) (initiators_of p) (λ i. logged_bound p i m)
 
 begun_at : (p : Plan) (is : List Initiator) (k : ℕ) (i : Initiator) (r : Run) → slice_get is k ≡ Some i → slice_get (map (begun_run p) is) k ≡ Some r → begun_run p i ≡ r
 begun_at p [] k i r mine run = cc
@@ -86,6 +96,7 @@ core_begun p runs regions valid blocking quiet same fresh count =
       log = is.empty;
       few = is.few;
       roomy = omega (arith, ap length is.empty, planned_bound p k, is.room);
+      roomy_bytes = omega (arith, bytes_bound p k, is.bytes);
     }
 
 -- the flags of runs that have not begun

@@ -17,26 +17,29 @@ use Rattle.tlm_model.specs.Route.{route_of}
 use Rattle.tlm_model.proofs.EachLemmas.{append_nil}
 use Rattle.good_history.specs.Good.{IsSound}
 use Rattle.good_history.proofs.Ungranted.{sound_grows}
-use Rattle.region_object.specs.Region.{LoggedMemory}
+use Rattle.region_object.specs.Region.{LoggedMemory, with_logged}
 use Rattle.time_board.specs.declared.rounds.Member.{Member}
 use Rattle.route_plan.specs.declared.step.Route.{Route}
+use Rattle.script_engine.specs.declared.part.Part.TheVariants.{Asks}
 use Rattle.script_engine.specs.declared.part.Transfer.{Transfer}
-use Rattle.script_engine.specs.State.{State}
-use Rattle.script_engine.proofs.Steps.{ends}
-use Rattle.initiator_run.specs.Access.{HasLog, IsRouteOf, entry_made, model_route}
+use Rattle.script_engine.specs.Part.{is_fenced_kind}
+use Rattle.script_engine.specs.State.{State, next_of, payload_of}
+use Rattle.script_engine.proofs.Steps.{ends, fills}
+use Rattle.initiator_run.specs.Access.{IsRouteOf, cost_next, entry_made, model_route}
 use Rattle.initiator_run.specs.Come.{HasCome, has_ended}
 use Rattle.plat_core.specs.Core.{CoreView, IsCore, IsInitiatorStep, IsMemoryAt, IsNodeStep, IsRunOf, IsStep, are_finished, history_of, logs_of}
 use Rattle.plat_core.specs.declared.steps.CoreStep.{CoreStep}
-use Rattle.initiator_run.specs.Left.{asks_left, leads, total_left}
+use Rattle.initiator_run.specs.Left.{asks_left, bytes_left, leads, total_bytes, total_left}
 use Rattle.run_outcome.specs.Merge.{entries_in, merged}
 use Rattle.initiator_run.specs.Moves.{HasReached, IsUnderWay, Keeps}
 use Rattle.initiator_run.specs.Run.{Run, engine_after}
 use Rattle.initiator_run.specs.declared.turn.Turn.{Turn}
-use Rattle.initiator_run.specs.declared.turn.Turn.TheVariants.{Made as turn_made, Waits as turn_waits, Ended as turn_ended, NoMemory as no_memory}
-use Rattle.initiator_run.specs.Turns.{IsTurn, HasLogAt, HasMadeAccess, HasMoved, HasMovedToEnd, HasMovedToWait, HasRoomAt}
+use Rattle.initiator_run.specs.declared.turn.Turn.TheVariants.{Made as turn_made, Waits as turn_waits, Ended as turn_ended}
+use Rattle.initiator_run.specs.Turns.{IsTurn, HasMadeAccess, HasMovedToEnd, HasMovedToWait, HasRoomAt}
 use Rattle.initiator_run.proofs.EndLemmas.{HasCome-other, HasCome-ended, HasCome-open}
 use Rattle.initiator_run.proofs.EntryLemmas.{IsAtMemory, KeepsRequests-turn, HasCome-turn, entries_at-push, some_row}
-use Rattle.initiator_run.proofs.LeftLemmas.{left_after, leads_there, total_left-set, total_left-at}
+use Rattle.initiator_run.proofs.LeftLemmas.{bytes_after, left_after, leads_there, total-set}
+use Rattle.initiator_run.proofs.SendLemmas.{left_of_next, whole_comes_back}
 use Rattle.run_outcome.proofs.ListLemmas.{HasElement, at_map, at_set, has_element, length-set', map-set, set-same, within, is_within}
 use Rattle.run_outcome.proofs.MergeLemmas.{merged-push, length-by_position}
 use Rattle.initiator_run.proofs.RunLemmas.{accessed_finished, accessed_step}
@@ -94,11 +97,43 @@ not_finished p i h old new x route mine own keeps reached finished =
     let unended : has_ended p.platform i h ≡ false = HasCome-open p.platform i h new x (model_route route) reached.next leads.leads come in
     cc
 
-same_total : (p : Plan) (runs : List Run) (k j : ℕ) (i : Initiator) (old new : Run) → slice_get (initiators_of p) k ≡ Some i → slice_get (initiators_of p) old.engine.initiator ≡ Some i → slice_get runs k ≡ Some old → Keeps p old new → total_left p j (initiators_of p) (set runs k new) ≤ total_left p j (initiators_of p) runs
-same_total p runs k j i old new mine own run keeps = omega (arith, total_left-set p j 0 (initiators_of p) runs k i old new mine run (omega (arith, keeps.left i j own)))
+-- of what all runs are still to make at memory j, so many entries and so many bytes are left no more
+pub record IsLess (p : Plan) (j entries bytes : ℕ) (runs next : List Run) : Type 0 where
+  pub fewer : total_left p j (initiators_of p) next + entries ≤ total_left p j (initiators_of p) runs
+  pub less : total_bytes p j (initiators_of p) next + bytes ≤ total_bytes p j (initiators_of p) runs
 
-memory_moved : (p : Plan) (runs next : List Run) (h : List Entry) (j : ℕ) (m : LoggedMemory) → total_left p j (initiators_of p) next ≤ total_left p j (initiators_of p) runs → IsMemoryAt p runs h j m → IsMemoryAt p next h j m
-memory_moved p runs next h j m less is = record { number = is.number; row = is.row; log = is.log; few = is.few; roomy = omega (arith, is.roomy) }
+less_by_run : (p : Plan) (runs : List Run) (k j n b : ℕ) (i : Initiator) (old new : Run) → slice_get (initiators_of p) k ≡ Some i → slice_get runs k ≡ Some old → asks_left p i j new.engine + n ≤ asks_left p i j old.engine → bytes_left p i j new.engine + b ≤ bytes_left p i j old.engine → IsLess p j n b runs (set runs k new)
+less_by_run p runs k j n b i old new mine run fewer less = record {
+  fewer = total-set (λ (x : Initiator) (e : State). asks_left p x j e) n (initiators_of p) runs k i old new mine run fewer;
+  less = total-set (λ (x : Initiator) (e : State). bytes_left p x j e) b (initiators_of p) runs k i old new mine run less;
+}
+
+-- moves without an entry leave no more
+less_by_moves : (p : Plan) (runs : List Run) (k j : ℕ) (i : Initiator) (old new : Run) → slice_get (initiators_of p) k ≡ Some i → slice_get (initiators_of p) old.engine.initiator ≡ Some i → slice_get runs k ≡ Some old → Keeps p old new → IsLess p j 0 0 runs (set runs k new)
+less_by_moves p runs k j i old new mine own run keeps = less_by_run p runs k j 0 0 i old new mine run (omega (arith, keeps.left i j own)) (omega (arith, keeps.bytes i j))
+
+-- and an access leaves one entry and the bytes of its payload less, at the memory that its address leads to
+less_by_access : (p : Plan) (runs : List Run) (k j : ℕ) (i : Initiator) (old middle new : Run) (got : List ℕ) (x : Transfer) → slice_get (initiators_of p) k ≡ Some i → slice_get (initiators_of p) old.engine.initiator ≡ Some i → slice_get runs k ≡ Some old → Keeps p old middle → next_of middle.engine ≡ Asks x → (is_fenced_kind x.kind ≡ true → length got ≡ x.length) → new.engine ≡ engine_after middle.engine got
+    → IsLess p j (leads p i j x.address) (cost_next middle * leads p i j x.address) runs (set runs k new)
+less_by_access p runs k j i old middle new got x mine own run keeps next whole same =
+    let asked : asks_left p i j new.engine ≡ asks_left p i j (engine_after middle.engine got) = ap (asks_left p i j) same in
+    let logged : bytes_left p i j new.engine ≡ bytes_left p i j (engine_after middle.engine got) = ap (bytes_left p i j) same in
+    let paid : bytes_left p i j (engine_after middle.engine got) + cost_next middle * leads p i j x.address ≡ bytes_left p i j middle.engine = bytes_after p i j 4096 middle.engine got x next whole in
+    less_by_run p runs k j (leads p i j x.address) (cost_next middle * leads p i j x.address) i old new mine run
+    (omega (arith, asked, left_after p i j middle.engine got x next, keeps.left i j own))
+    (omega (arith, logged, paid, keeps.bytes i j))
+
+-- at the memory where its route ends
+less_there : (p : Plan) (runs next : List Run) (i : Initiator) (a cost : ℕ) (route : Route) → IsRouteOf p i a route → IsLess p route.memory (leads p i route.memory a) (cost * leads p i route.memory a) runs next → IsLess p route.memory 1 cost runs next
+less_there p runs next i a cost route leads is =
+    let one = subst (λ (n : ℕ). IsLess p route.memory n (cost * n) runs next) (leads_there p i a (model_route route) leads.leads) is in
+    record { fewer = one.fewer; less = omega (arith, one.less) }
+
+no_more : (p : Plan) (j n b : ℕ) (runs next : List Run) → IsLess p j n b runs next → IsLess p j 0 0 runs next
+no_more p j n b runs next is = record { fewer = omega (arith, is.fewer); less = omega (arith, is.less) }
+
+memory_moved : (p : Plan) (runs next : List Run) (h : List Entry) (j : ℕ) (m : LoggedMemory) → IsLess p j 0 0 runs next → IsMemoryAt p runs h j m → IsMemoryAt p next h j m
+memory_moved p runs next h j m less is = record { number = is.number; row = is.row; log = is.log; few = is.few; roomy = omega (arith, is.roomy, less.fewer); roomy_bytes = omega (arith, is.roomy_bytes, less.less) }
 
 -- the others stay where they are
 runs_moved : (p : Plan) (runs : List Run) (h : List Entry) (k : ℕ) (i : Initiator) (new : Run) → slice_get (initiators_of p) k ≡ Some i → IsRunOf p h i new
@@ -128,7 +163,7 @@ core_ended p runs regions after made k old new core at moved =
       run_count = length-set' runs k new ∙ core.run_count;
       region_count = core.region_count;
       each_run = runs_moved p runs (history_of regions) k turn.initiator new turn.at (record { come = moved.keeps.come turn.initiator (history_of regions) turn.mine turn.own.come; finished = λ f. moved.ended.done }) core.each_run;
-      each_region = λ j m is. memory_moved p runs (set runs k new) (history_of regions) j m (same_total p runs k j turn.initiator old new turn.at turn.mine at moved.keeps) (core.each_region j m is);
+      each_region = λ j m is. memory_moved p runs (set runs k new) (history_of regions) j m (less_by_moves p runs k j turn.initiator old new turn.at turn.mine at moved.keeps) (core.each_region j m is);
     })
 
 -- a core whose run has moved to a sync that isn't let through
@@ -144,60 +179,8 @@ core_waited p runs regions after members made k old new core at going moved =
       run_count = length-set' runs k new ∙ core.run_count;
       region_count = core.region_count;
       each_run = runs_moved p runs (history_of regions) k turn.initiator new turn.at (record { come = moved.keeps.come turn.initiator (history_of regions) turn.mine turn.own.come; finished = λ f. absurd (false≢true (sym (moved.finished ∙ going) ∙ f)) }) core.each_run;
-      each_region = λ j m is. memory_moved p runs (set runs k new) (history_of regions) j m (same_total p runs k j turn.initiator old new turn.at turn.mine at moved.keeps) (core.each_region j m is);
+      each_region = λ j m is. memory_moved p runs (set runs k new) (history_of regions) j m (less_by_moves p runs k j turn.initiator old new turn.at turn.mine at moved.keeps) (core.each_region j m is);
     })
-
-same_history : (regions after : List LoggedMemory) (j : ℕ) (m next : LoggedMemory) → HasLogAt regions after j m next → HasLog m next m.log.entries → history_of after ≡ history_of regions
-same_history regions after j m next memory logged =
-    ap history_of memory.now
-    ∙ (ap merged (map-set (λ (x : LoggedMemory). x.log.entries) regions j next)
-    ∙ (ap (λ (log : List Entry). merged (set (logs_of regions) j log)) logged.all
-    ∙ ap merged (set-same (logs_of regions) j m.log.entries (at_map (λ (x : LoggedMemory). x.log.entries) regions j m memory.was))))
-
--- a memory as before, but for its log
-memory_with : (p : Plan) (runs : List Run) (h : List Entry) (j : ℕ) (m next : LoggedMemory) (entries : List Entry) → HasLog m next entries → entries ≡ m.log.entries → IsMemoryAt p runs h j m → IsMemoryAt p runs h j next
-memory_with p runs h j m next entries logged same is = record {
-  number = logged.number ∙ is.number;
-  row = subst (λ (t : _). IsSomeAnd (slice_get p.platform.memories j) (λ (row : MemoryRow). t ≡ row.traits)) (sym logged.traits) is.row;
-  log = logged.all ∙ (same ∙ is.log);
-  few = subst (λ (n : ℕ). n ≤ 1000000) (sym logged.room) is.few;
-  roomy = omega (arith, logged.room, ap length (logged.all ∙ same), is.roomy);
-}
-
-pub history_moved : (p : Plan) (old new : Run) (regions after : List LoggedMemory) → HasMoved p old new regions after → history_of after ≡ history_of regions
-history_moved p old new regions after moved = same_history regions after moved.place moved.region moved.next moved.memory moved.logged
-
--- a core whose run has moved to an access that wasn't made
-pub core_moved : (p : Plan) (runs : List Run) (regions after : List LoggedMemory) (made k : ℕ) (old new : Run) → IsCore p runs regions made → slice_get runs k ≡ Some old → HasMoved p old new regions after → IsCore p (set runs k new) after made
-core_moved p runs regions after made k old new core at moved =
-    let turn = has_turn p runs regions made k old core at in
-    let same : history_of after ≡ history_of regions = history_moved p old new regions after moved in
-    record {
-      valid = core.valid;
-      blocking = core.blocking;
-      quiet = core.quiet;
-      sound = subst (IsSound p) (sym same) core.sound;
-      count = core.count ∙ sym (ap length same);
-      run_count = length-set' runs k new ∙ core.run_count;
-      region_count = ap length moved.memory.now ∙ (length-set' regions moved.place moved.next ∙ core.region_count);
-      each_run = λ j x r mine run. subst (λ (h : List Entry). IsRunOf p h x r) (sym same)
-          (runs_moved p runs (history_of regions) k turn.initiator new turn.at (record {
-            come = moved.keeps.come turn.initiator (history_of regions) turn.mine turn.own.come;
-            finished = λ f. absurd (not_finished p turn.initiator (history_of regions) old new moved.transfer moved.route turn.mine turn.own moved.keeps moved.reached (sym moved.finished ∙ f));
-          }) core.each_run j x r mine run);
-      each_region = λ j m is. subst (λ (h : List Entry). IsMemoryAt p (set runs k new) h j m) (sym same)
-          (regions_moved j m (subst (λ (x : List LoggedMemory). slice_get x j ≡ Some m) moved.memory.now is)
-          (λ x y here. memory_moved p runs (set runs k new) (history_of regions) x y (same_total p runs k x turn.initiator old new turn.at turn.mine at moved.keeps) (core.each_region x y here)));
-    }
-  where
-    regions_moved : (j : ℕ) (m : LoggedMemory) → slice_get (set regions moved.place moved.next) j ≡ Some m → ((x : ℕ) (y : LoggedMemory) → slice_get regions x ≡ Some y → IsMemoryAt p (set runs k new) (history_of regions) x y) → IsMemoryAt p (set runs k new) (history_of regions) j m
-    regions_moved j m is each =
-        elim (at_set regions moved.place j moved.next m is) [
-          | inl here ↦ subst (IsMemoryAt p (set runs k new) (history_of regions) j) here.1
-              (subst (λ (n : ℕ). IsMemoryAt p (set runs k new) (history_of regions) n moved.next) (sym here.0)
-              (memory_with p (set runs k new) (history_of regions) moved.place moved.region moved.next moved.region.log.entries moved.logged refl (each moved.place moved.region moved.memory.was)))
-          | inr other ↦ each j m other.1
-        ]
 
 -- the memory that a route leads to
 record HasMemory (p : Plan) (runs : List Run) (regions : List LoggedMemory) (route : Route) : Type 0 where
@@ -215,18 +198,19 @@ memory_of p runs regions made i a route core leads =
 pub route_at : (p : Plan) (i : Initiator) (old middle : Run) (x : Transfer) (route : Route) → slice_get (initiators_of p) old.engine.initiator ≡ Some i → Keeps p old middle → HasReached p middle x route → IsRouteOf p i x.address route
 route_at p i old middle x route mine keeps reached = MatchOption-at_some ⊥ (λ (j : Initiator). IsRouteOf p j x.address route) i (ap (slice_get (initiators_of p)) keeps.initiator ∙ mine) reached.leads
 
-one_asked : (p : Plan) (i : Initiator) (old middle : Run) (got : List ℕ) (x : Transfer) (route : Route) → slice_get (initiators_of p) old.engine.initiator ≡ Some i → Keeps p old middle → HasReached p middle x route → IsRouteOf p i x.address route → asks_left p i route.memory (engine_after middle.engine got) + 1 ≤ asks_left p i route.memory old.engine
-one_asked p i old middle got x route mine keeps reached leads =
-    omega (arith, left_after p i route.memory middle.engine got x reached.next, leads_there p i x.address (model_route route) leads.leads, keeps.left i route.memory mine)
-
 -- a memory has room for the access that a run comes to
-pub room_for_access : (p : Plan) (runs : List Run) (regions : List LoggedMemory) (made k : ℕ) (old middle : Run) (x : Transfer) (route : Route) → IsCore p runs regions made → slice_get runs k ≡ Some old → Keeps p old middle → HasReached p middle x route → HasRoomAt regions route.memory
+pub room_for_access : (p : Plan) (runs : List Run) (regions : List LoggedMemory) (made k : ℕ) (old middle : Run) (x : Transfer) (route : Route) → IsCore p runs regions made → slice_get runs k ≡ Some old → Keeps p old middle → HasReached p middle x route → HasRoomAt regions route.memory (cost_next middle)
 room_for_access p runs regions made k old middle x route core at keeps reached =
     let turn = has_turn p runs regions made k old core at in
-    let leads = route_at p turn.initiator old middle x route turn.mine keeps reached in
-    let memory = memory_of p runs regions made turn.initiator x.address route core leads.leads in
-    subst (λ (o : Option LoggedMemory). IsSomeAnd o (λ m. length m.log.entries < m.log.room)) (sym memory.at)
-    (omega (arith, memory.is.roomy, total_left-at p route.memory (initiators_of p) runs k turn.initiator old turn.at at, one_asked p turn.initiator old middle [] x route turn.mine keeps reached leads))
+    let i = turn.initiator in
+    let leads = route_at p i old middle x route turn.mine keeps reached in
+    let memory = memory_of p runs regions made i x.address route core leads.leads in
+    let got = (payload_of middle.engine 4096).bytes in
+    let new : Run = record middle { engine = engine_after middle.engine got } in
+    let less = less_there p runs (set runs k new) i x.address (cost_next middle) route leads
+    (less_by_access p runs k route.memory i old middle new got x turn.at turn.mine at keeps reached.next (λ waits. (fills.transfer middle.engine 4096 x reached.next).1.sized) refl) in
+    subst (λ (o : Option LoggedMemory). IsSomeAnd o (λ m. (length m.log.entries < m.log.room) × (cost_next middle ≤ m.log.room_bytes))) (sym memory.at)
+    (omega (arith, memory.is.roomy, less.fewer), omega (arith, memory.is.roomy_bytes, less.less))
 
 few_entries : (regions : List LoggedMemory) → ((k : ℕ) (m : LoggedMemory) → slice_get regions k ≡ Some m → length m.log.entries ≤ 1000000) → length (entries_in (logs_of regions)) ≤ 1000000 * length regions
 few_entries [] each = omega arith
@@ -250,20 +234,14 @@ few_made p runs regions made core =
 pub history_made : (p : Plan) (old new : Run) (regions after : List LoggedMemory) (made : ℕ) → IsNumbered (history_of regions) → made ≡ length (history_of regions) → (is : HasMadeAccess p old new regions after made) → history_of after ≡ history_of regions ++ entry_made is.middle is.transfer is.region is.route made ∷ []
 history_made p old new regions after made numbered count is =
     let e = entry_made is.middle is.transfer is.region is.route made in
-    ap history_of is.memory.now
-    ∙ (ap merged (map-set (λ (x : LoggedMemory). x.log.entries) regions is.route.memory is.next)
-    ∙ (ap (λ (log : List Entry). merged (set (logs_of regions) is.route.memory log)) is.logged.all
-    ∙ merged-push (logs_of regions) is.route.memory is.region.log.entries e (at_map (λ (x : LoggedMemory). x.log.entries) regions is.route.memory is.region is.memory.was) numbered count))
+    ap history_of is.now
+    ∙ (ap merged (map-set (λ (x : LoggedMemory). x.log.entries) regions is.route.memory (with_logged is.region e))
+    ∙ merged-push (logs_of regions) is.route.memory is.region.log.entries e (at_map (λ (x : LoggedMemory). x.log.entries) regions is.route.memory is.region is.was) numbered count)
 
 pub at_memory : (p : Plan) (runs : List Run) (h : List Entry) (route : Route) (m : LoggedMemory) → IsMemoryAt p runs h route.memory m → IsAtMemory p h route m
 at_memory p runs h route m is =
     let found = some_row (slice_get p.platform.memories route.memory) (λ (row : MemoryRow). m.traits ≡ row.traits) is.row in
     record { row = found.row; memory = found.at; traits = found.has; number = is.number; log = is.log }
-
-fewer_asks : (p : Plan) (i : Initiator) (j : ℕ) (old middle new : Run) (got : List ℕ) (x : Transfer) (route : Route) → new.engine ≡ engine_after middle.engine got → slice_get (initiators_of p) old.engine.initiator ≡ Some i → Keeps p old middle → HasReached p middle x route → asks_left p i j new.engine + 0 ≤ asks_left p i j old.engine
-fewer_asks p i j old middle new got x route same mine keeps reached =
-    let engine : asks_left p i j new.engine ≡ asks_left p i j (engine_after middle.engine got) = ap (asks_left p i j) same in
-    omega (arith, engine, left_after p i j middle.engine got x reached.next, keeps.left i j mine)
 
 apart : (a b : ℕ) → nat_eq a b ≡ false → nat_eq b a ≡ false
 apart a b is = grind (arith, nat_tests)
@@ -293,21 +271,21 @@ runs_made p runs h e k i new mine number own each j x r at run =
     same_some a b q = cc
 
 -- the memory at which the entry was made
-memory_made : (p : Plan) (runs next_runs : List Run) (h : List Entry) (e : Entry) (k : ℕ) (m next : LoggedMemory) → IsMemoryAt p runs h k m → HasLog m next (m.log.entries ++ e ∷ []) → e.object ≡ memory_object m.number → total_left p k (initiators_of p) next_runs + 1 ≤ total_left p k (initiators_of p) runs → IsMemoryAt p next_runs (h ++ e ∷ []) k next
-memory_made p runs next_runs h e k m next is logged object less = record {
-  number = logged.number ∙ is.number;
-  row = subst (λ (t : _). IsSomeAnd (slice_get p.platform.memories k) (λ (row : MemoryRow). t ≡ row.traits)) (sym logged.traits) is.row;
+memory_made : (p : Plan) (runs next : List Run) (h : List Entry) (e : Entry) (k cost : ℕ) (m : LoggedMemory) → IsMemoryAt p runs h k m → e.object ≡ memory_object m.number → m.log.room_bytes ≤ (with_logged m e).log.room_bytes + cost → IsLess p k 1 cost runs next → IsMemoryAt p next (h ++ e ∷ []) k (with_logged m e)
+memory_made p runs next h e k cost m is object left less = record {
+  number = is.number;
+  row = is.row;
   log =
-      logged.all
-      ∙ (ap (λ (l : List Entry). l ++ e ∷ []) is.log
+      ap (λ (l : List Entry). l ++ e ∷ []) is.log
       ∙ sym (entries_at-push (memory_object k) h e
-      ∙ ap (λ (b : Bool). entries_at (memory_object k) h ++ cond b (e ∷ []) []) (ap (is_object (memory_object k)) object ∙ own_memory m.number k is.number)));
-  few = subst (λ (n : ℕ). n ≤ 1000000) (sym logged.room) is.few;
-  roomy = omega (arith, logged.room, ap length logged.all, length-append m.log.entries (e ∷ []), is.roomy);
+      ∙ ap (λ (b : Bool). entries_at (memory_object k) h ++ cond b (e ∷ []) []) (ap (is_object (memory_object k)) object ∙ own_memory m.number k is.number));
+  few = is.few;
+  roomy = omega (arith, length-append m.log.entries (e ∷ []), is.roomy, less.fewer);
+  roomy_bytes = omega (arith, is.roomy_bytes, left, less.less);
 }
 
 -- another memory
-memory_kept : (p : Plan) (runs next_runs : List Run) (h : List Entry) (e : Entry) (j n : ℕ) (m : LoggedMemory) → IsMemoryAt p runs h j m → e.object ≡ memory_object n → nat_eq j n ≡ false → total_left p j (initiators_of p) next_runs ≤ total_left p j (initiators_of p) runs → IsMemoryAt p next_runs (h ++ e ∷ []) j m
+memory_kept : (p : Plan) (runs next_runs : List Run) (h : List Entry) (e : Entry) (j n : ℕ) (m : LoggedMemory) → IsMemoryAt p runs h j m → e.object ≡ memory_object n → nat_eq j n ≡ false → IsLess p j 0 0 runs next_runs → IsMemoryAt p next_runs (h ++ e ∷ []) j m
 memory_kept p runs next_runs h e j n m is object other less = record {
   number = is.number;
   row = is.row;
@@ -317,52 +295,62 @@ memory_kept p runs next_runs h e j n m is object other less = record {
       ∙ (ap (λ (b : Bool). entries_at (memory_object j) h ++ cond b (e ∷ []) []) (ap (is_object (memory_object j)) object ∙ apart j n other)
       ∙ append_nil (entries_at (memory_object j) h)));
   few = is.few;
-  roomy = omega (arith, is.roomy);
+  roomy = omega (arith, is.roomy, less.fewer);
+  roomy_bytes = omega (arith, is.roomy_bytes, less.less);
 }
 
 -- a core whose run has made an access
 pub core_made : (p : Plan) (runs : List Run) (regions after : List LoggedMemory) (made k : ℕ) (old new : Run) → IsCore p runs regions made → slice_get runs k ≡ Some old → HasMadeAccess p old new regions after made → IsCore p (set runs k new) after (made + 1)
 core_made p runs regions after made k old new core at is =
     let h = history_of regions in
-    let e = entry_made is.middle is.transfer is.region is.route made in
     let turn = has_turn p runs regions made k old core at in
     let i = turn.initiator in
-    let leads = route_at p i old is.middle is.transfer is.route turn.mine is.keeps is.reached in
-    let memory = core.each_region is.route.memory is.region is.memory.was in
+    let route = route_at p i old is.middle is.transfer is.route turn.mine is.keeps is.reached in
+    let memory = core.each_region is.route.memory is.region is.was in
     let come = is.keeps.come i h turn.mine turn.own.come in
     let same : history_of after ≡ h ++ e ∷ [] = history_made p old new regions after made core.sound.requests.numbered core.count is in
     let mine : slice_get (initiators_of p) i.number ≡ Some i = ap (slice_get (initiators_of p)) turn.number ∙ turn.at in
     let engine : new.engine ≡ engine_after is.middle.engine is.got = ap (λ (r : Run). r.engine) is.run ∙ accessed_step is.transfer is.route.latency is.got is.middle in
+    let whole : is_fenced_kind is.transfer.kind ≡ true → length is.got ≡ is.transfer.length =
+    λ waits. ap length (is.told waits) ∙ whole_comes_back is.middle is.transfer is.region is.route is.reached.next waits in
+    let left : (y : ℕ) → IsLess p y (leads p i y is.transfer.address) (cost_next is.middle * leads p i y is.transfer.address) runs (set runs k new) =
+    λ y. less_by_access p runs k y i old is.middle new is.got is.transfer turn.at turn.mine at is.keeps is.reached.next whole engine in
     let own : IsRunOf p (h ++ e ∷ []) i new = record {
-      come = subst (HasCome p.platform i (h ++ e ∷ [])) (sym is.run) (HasCome-turn p i h is.middle is.transfer is.region is.route made is.got come is.reached.next leads memory.number is.told);
+      come = subst (HasCome p.platform i (h ++ e ∷ [])) (sym is.run) (HasCome-turn p i h is.middle is.transfer is.region is.route made is.got come is.reached.next route memory.number is.told);
       finished = λ f. absurd (not_finished p i h old is.middle is.transfer is.route turn.mine turn.own is.keeps is.reached (sym is.finished ∙ (sym (ap (λ (r : Run). r.finished) is.run ∙ accessed_finished is.transfer is.route.latency is.got is.middle) ∙ f)));
     } in
     record {
       valid = core.valid;
       blocking = core.blocking;
       quiet = core.quiet;
-      sound = subst (IsSound p) (sym same) (sound_grows p h e (no_fourphase p core.blocking) (no_direct p core.blocking) core.sound tt tt (KeepsRequests-turn p i h is.middle is.transfer is.region is.route made core.sound.requests mine turn.blocking come is.reached.next leads (at_memory p runs h is.route is.region memory) core.count));
+      sound = subst (IsSound p) (sym same) (sound_grows p h e (no_fourphase p core.blocking) (no_direct p core.blocking) core.sound tt tt (KeepsRequests-turn p i h is.middle is.transfer is.region is.route made core.sound.requests mine turn.blocking come is.reached.next route (at_memory p runs h is.route is.region memory) core.count));
       count = sym (ap length same ∙ (length-append h (e ∷ []) ∙ ap (λ (n : ℕ). n + 1) (sym core.count)));
       run_count = length-set' runs k new ∙ core.run_count;
-      region_count = ap length is.memory.now ∙ (length-set' regions is.route.memory is.next ∙ core.region_count);
+      region_count = ap length is.now ∙ (length-set' regions is.route.memory (with_logged is.region e) ∙ core.region_count);
       each_run = λ j x r at_j run. subst (λ (l : List Entry). IsRunOf p l x r) (sym same) (runs_made p runs h e k i new turn.at (come.counted.number ∙ turn.number) own core.each_run j x r at_j run);
       each_region = λ j m here. subst (λ (l : List Entry). IsMemoryAt p (set runs k new) l j m) (sym same)
-          (regions_made j m i memory (subst (λ (x : List LoggedMemory). slice_get x j ≡ Some m) is.memory.now here)
-          (λ x. omega (arith, total_left-set p x 0 (initiators_of p) runs k i old new turn.at at (fewer_asks p i x old is.middle new is.got is.transfer is.route engine turn.mine is.keeps is.reached)))
-          (total_left-set p is.route.memory 1 (initiators_of p) runs k i old new turn.at at
-          (subst (λ (s : State). asks_left p i is.route.memory s + 1 ≤ asks_left p i is.route.memory old.engine) (sym engine) (one_asked p i old is.middle is.got is.transfer is.route turn.mine is.keeps is.reached leads))));
+          (regions_made j m memory (subst (λ (x : List LoggedMemory). slice_get x j ≡ Some m) is.now here)
+          (λ y. no_more p y _ _ runs (set runs k new) (left y))
+          (less_there p runs (set runs k new) i is.transfer.address (cost_next is.middle) is.route route (left is.route.memory)));
     }
   where
-    regions_made : (j : ℕ) (m : LoggedMemory) (i : Initiator) → IsMemoryAt p runs (history_of regions) is.route.memory is.region → slice_get (set regions is.route.memory is.next) j ≡ Some m
-        → ((x : ℕ) → total_left p x (initiators_of p) (set runs k new) ≤ total_left p x (initiators_of p) runs)
-        → total_left p is.route.memory (initiators_of p) (set runs k new) + 1 ≤ total_left p is.route.memory (initiators_of p) runs
-        → IsMemoryAt p (set runs k new) (history_of regions ++ entry_made is.middle is.transfer is.region is.route made ∷ []) j m
-    regions_made j m i memory here less one =
-        elim (at_set regions is.route.memory j is.next m here) [
-          | inl same ↦ subst (IsMemoryAt p (set runs k new) (history_of regions ++ entry_made is.middle is.transfer is.region is.route made ∷ []) j) same.1
-              (subst (λ (n : ℕ). IsMemoryAt p (set runs k new) (history_of regions ++ entry_made is.middle is.transfer is.region is.route made ∷ []) n is.next) (sym same.0)
-              (memory_made p runs (set runs k new) (history_of regions) (entry_made is.middle is.transfer is.region is.route made) is.route.memory is.region is.next memory is.logged refl one))
-          | inr other ↦ memory_kept p runs (set runs k new) (history_of regions) (entry_made is.middle is.transfer is.region is.route made) j is.route.memory m (core.each_region j m other.1) (ap memory_object memory.number) other.0 (less j)
+    e : Entry
+    e = entry_made is.middle is.transfer is.region is.route made
+
+    next : LoggedMemory
+    next = with_logged is.region e
+
+    regions_made : (j : ℕ) (m : LoggedMemory) → IsMemoryAt p runs (history_of regions) is.route.memory is.region → slice_get (set regions is.route.memory next) j ≡ Some m
+        → ((y : ℕ) → IsLess p y 0 0 runs (set runs k new))
+        → IsLess p is.route.memory 1 (cost_next is.middle) runs (set runs k new)
+        → IsMemoryAt p (set runs k new) (history_of regions ++ e ∷ []) j m
+    regions_made j m memory here less one =
+        elim (at_set regions is.route.memory j next m here) [
+          | inl same ↦ subst (IsMemoryAt p (set runs k new) (history_of regions ++ e ∷ []) j) same.1
+              (subst (λ (n : ℕ). IsMemoryAt p (set runs k new) (history_of regions ++ e ∷ []) n next) (sym same.0)
+              (memory_made p runs (set runs k new) (history_of regions) e is.route.memory (cost_next is.middle) is.region memory refl
+              (left_of_next is.middle is.transfer is.region is.route made is.reached.next) one))
+          | inr other ↦ memory_kept p runs (set runs k new) (history_of regions) e j is.route.memory m (core.each_region j m other.1) (ap memory_object memory.number) other.0 (less j)
         ]
 
 -- the finished flags of the runs
@@ -394,9 +382,6 @@ moved_to_end p old new members before regions after made turn same is how = subs
 
 pub moved_to_wait : (p : Plan) (old new : Run) (members : List Member) (before regions after : List LoggedMemory) (made : ℕ) (turn : Turn) → before ≡ regions → IsTurn p old new members before after made turn → turn ≡ turn_waits → HasMovedToWait p old new members regions after
 moved_to_wait p old new members before regions after made turn same is how = subst (λ (x : List LoggedMemory). HasMovedToWait p old new members x after) same (subst (IsTurn p old new members before after made) how is)
-
-pub moved_on : (p : Plan) (old new : Run) (members : List Member) (before regions after : List LoggedMemory) (made : ℕ) (turn : Turn) → before ≡ regions → IsTurn p old new members before after made turn → turn ≡ no_memory → HasMoved p old new regions after
-moved_on p old new members before regions after made turn same is how = subst (λ (x : List LoggedMemory). HasMoved p old new x after) same (subst (IsTurn p old new members before after made) how is)
 
 -- an actor that is no initiator
 pub node_at : (p : Plan) (runs : List Run) (regions : List LoggedMemory) (made k : ℕ) → IsCore p runs regions made → length runs ≤ k → slice_get (initiators_of p) k ≡ None

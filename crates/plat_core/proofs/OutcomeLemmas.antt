@@ -17,7 +17,7 @@ use Rattle.report_model.proofs.Ending.{ends_by_latencies}
 use Rattle.good_history.specs.Good.{IsGood}
 use Rattle.good_history.proofs.Ungranted.{sound_ends}
 use Rattle.region_object.specs.Region.{LoggedMemory}
-use Rattle.route_plan.specs.Planned.{planned_at}
+use Rattle.route_plan.specs.Planned.{logged_bytes, planned_at}
 use Rattle.time_board.specs.declared.rounds.Member.{Member}
 use Rattle.script_engine.proofs.Steps.{ends}
 use Rattle.run_outcome.specs.declared.outcome.Outcome.{Outcome}
@@ -132,11 +132,12 @@ fresh_none p regions none = subst (λ (r : List LoggedMemory). AreFresh p r 0) (
     nothing : (k : ℕ) (m : LoggedMemory) → slice_get [] k ≡ Some m → ⊥
     nothing k m is = cc
 
-pub fresh_region : (p : Plan) (k : ℕ) (rows : List MemoryRow) (row : MemoryRow) (m : LoggedMemory) (entries bytes gate : ℕ) → rows ≡ p.platform.memories → k < length rows → row ≡ get_or rows k row → m ≡ record { number = k; traits = row.traits; first_gate = gate; log = record { entries = []; room = entries; room_bytes = bytes } } → entries ≡ planned_at p (memory_object k) → entries ≤ 1000000 → IsFresh p k m
-fresh_region p k rows row m entries bytes gate same below is made planned few = subst (IsFresh p k) (sym made) (record {
+pub fresh_region : (p : Plan) (k : ℕ) (rows : List MemoryRow) (row : MemoryRow) (m : LoggedMemory) (entries bytes gate : ℕ) → rows ≡ p.platform.memories → k < length rows → row ≡ get_or rows k row → m ≡ record { number = k; traits = row.traits; first_gate = gate; log = record { entries = []; room = entries; room_bytes = bytes } } → entries ≡ planned_at p (memory_object k) → entries ≤ 1000000 → bytes ≡ logged_bytes p k → IsFresh p k m
+fresh_region p k rows row m entries bytes gate same below is made planned few logged = subst (IsFresh p k) (sym made) (record {
   number = refl;
   row = subst (λ (o : Option MemoryRow). IsSomeAnd o (λ r. row.traits ≡ r.traits)) (sym (ap (λ (l : List MemoryRow). slice_get l k) (sym same) ∙ (slice_get-get_or rows k row below ∙ ap (λ (r : MemoryRow). Some r) (sym is)))) refl;
   empty = refl;
   room = planned;
+  bytes = logged;
   few = few;
 })

@@ -7,16 +7,16 @@ use Rattle.region_object.specs.Region.{LoggedMemory}
 use Rattle.time_board.specs.declared.rounds.Member.{Member}
 use Rattle.plat_core.specs.Board.{AreInRounds}
 use Rattle.initiator_run.specs.Board.{HasGoneOn, IsInRound}
-use Rattle.plat_core.specs.Core.{GoesOn, HasRisen, HasStopped, IsCore, IsStep, history_of}
+use Rattle.plat_core.specs.Core.{GoesOn, HasStopped, IsCore, IsStep, history_of}
 use Rattle.plat_core.specs.declared.steps.CoreStep.{CoreStep}
 use Rattle.plat_core.specs.declared.steps.CoreStep.TheVariants.{Made, Waits, Finished}
 use Rattle.initiator_run.specs.declared.turn.Turn.{Turn}
 use Rattle.initiator_run.specs.declared.turn.Turn.TheVariants as turn
 use Rattle.initiator_run.specs.Run.{Run}
 use Rattle.initiator_run.specs.Turns.{IsTurn}
-use Rattle.plat_core.proofs.CoreLemmas.{core_ended, core_made, core_moved, core_waited, has_turn, history_moved, made_access, moved_on, moved_to_end, moved_to_wait, whole_write, written}
+use Rattle.plat_core.proofs.CoreLemmas.{core_ended, core_made, core_waited, has_turn, made_access, moved_to_end, moved_to_wait, whole_write, written}
 use Rattle.plat_core.proofs.ProgressLemmas.{goes_made, goes_moved, stops_ended, stops_waited}
-use Rattle.plat_core.proofs.ViewLemmas.{risen_moved, rounds_made, rounds_same, step_ended, step_made, step_waited, view}
+use Rattle.plat_core.proofs.ViewLemmas.{rounds_made, rounds_same, step_ended, step_made, step_waited, view}
 
 -- an initiator that takes a turn, and what the turn does
 pub record Turns (p : Plan) (runs : List Run) (regions : List LoggedMemory) (members : List Member) (made k : ℕ) (old new : Run) (given left : List LoggedMemory) (after : List Member) (turn : Turn) : Type 0 where
@@ -48,13 +48,6 @@ pub record HasStepped (p : Plan) (runs : List Run) (regions : List LoggedMemory)
   pub step_is : IsStep (view p regions runs members) k (view p later (set runs k new) after) step
   pub goes : GoesOn (view p regions runs members) (view p later (set runs k new) after)
   pub stops : HasStopped (view p regions runs members) k (view p later (set runs k new) after) step
-
--- the core after a turn that was refused memory
-pub record HasGivenUp (p : Plan) (runs : List Run) (regions : List LoggedMemory) (members : List Member) (k : ℕ) (new : Run) (later : List LoggedMemory) (after : List Member) (made : ℕ) : Type 0 where
-  pub core : IsCore p (set runs k new) later made
-  pub rounds : AreInRounds p (history_of later) (set runs k new) after
-  pub risen : HasRisen (view p regions runs members) k (view p later (set runs k new) after)
-  pub goes : GoesOn (view p regions runs members) (view p later (set runs k new) after)
 
 module _ (p : Plan) (runs : List Run) (regions : List LoggedMemory) (members : List Member) (made k : ℕ) (old new : Run) (given left : List LoggedMemory) (after : List Member) (size : ℕ) (same : length left ≡ size) where
   pub stepped_made : Turns p runs regions members made k old new given left after turn.Made → HasStepped p runs regions members k new (written size left regions) after (made + 1) (Made made)
@@ -91,15 +84,4 @@ module _ (p : Plan) (runs : List Run) (regions : List LoggedMemory) (members : L
         step_is = step_ended p runs regions left members after made k old new t.core t.rounds t.at t.going is t.gone;
         goes = goes_moved p runs regions left members after made k old new t.core t.rounds t.at t.going still t.gone;
         stops = stops_ended p runs regions left members after made k old new t.core t.rounds t.at t.going is t.gone;
-      })
-
-  pub given_up : Turns p runs regions members made k old new given left after turn.NoMemory → HasGivenUp p runs regions members k new (written size left regions) after made
-  given_up t =
-      let is = moved_on p old new after given regions left made turn.NoMemory t.given_is t.turn_is refl in
-      let still = history_moved p old new regions left is in
-      subst (λ (l : List LoggedMemory). HasGivenUp p runs regions members k new l after made) (sym (whole_write size left regions same)) (record {
-        core = core_moved p runs regions left made k old new t.core t.at is;
-        rounds = rounds_same p runs regions left members after made k old new t.core t.rounds t.at t.going still t.gone (λ f. absurd (false≢true (sym (is.finished ∙ t.going) ∙ f)));
-        risen = risen_moved p runs regions left members after made k old new t.core t.rounds t.at t.going is t.gone;
-        goes = goes_moved p runs regions left members after made k old new t.core t.rounds t.at t.going still t.gone;
       })

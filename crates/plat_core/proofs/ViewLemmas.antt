@@ -14,10 +14,10 @@ use Rattle.plat_core.specs.Core.{CoreView, HasRisen, IsCore, IsStep, are_finishe
 use Rattle.plat_core.specs.declared.steps.CoreStep.TheVariants.{Made, Waits, Finished}
 use Rattle.plat_core.specs.Rounds.{due_round, round_at, round_by}
 use Rattle.initiator_run.specs.Run.{Run}
-use Rattle.initiator_run.specs.Turns.{HasMadeAccess, HasMoved, HasMovedToEnd, HasMovedToWait}
+use Rattle.initiator_run.specs.Turns.{HasMadeAccess, HasMovedToEnd, HasMovedToWait}
 use Rattle.plat_core.proofs.BoardLemmas.{HasMember, has_member, is_held, not_held, not_held_done}
 use Rattle.initiator_run.proofs.BoardLemmas.{at_round, set_own}
-use Rattle.plat_core.proofs.CoreLemmas.{HasTurn, core_made, finished_same, has_turn, history_made, history_moved, route_at, step_of}
+use Rattle.plat_core.proofs.CoreLemmas.{HasTurn, core_made, finished_same, has_turn, history_made, route_at, step_of}
 use Rattle.initiator_run.proofs.RunLemmas.{accessed_finished, accessed_round}
 use Rattle.plat_core.proofs.DueLemmas.{due_after_syncs, due_at_access, due_at_end, round_at_next}
 use Rattle.initiator_run.proofs.EndLemmas.{HasCome-ended, HasCome-open}
@@ -156,12 +156,6 @@ step_waited p runs regions later members after made k old new core are at going 
       held = is_held members after k (due_round p.platform turn.initiator (history_of regions)) old new taken.has is.waiting (due_after_syncs p.platform turn.initiator (history_of regions) new turn.blocking come);
       risen = risen p runs regions later members after k old new taken.has at going (ap history_of is.same) is.finished gone;
     })
-
-pub risen_moved : (p : Plan) (runs : List Run) (regions later : List LoggedMemory) (members after : List Member) (made k : ℕ) (old new : Run) → IsCore p runs regions made → AreInRounds p (history_of regions) runs members → slice_get runs k ≡ Some old → old.finished ≡ false → HasMoved p old new regions later → HasGoneOn old new members after
-    → HasRisen (view p regions runs members) k (view p later (set runs k new) after)
-risen_moved p runs regions later members after made k old new core are at going is gone =
-    let taken = takes_turn p runs regions members after made k old new core are at going gone in
-    risen p runs regions later members after k old new taken.has at going (history_moved p old new regions later is) is.finished gone
 
 -- the rounds after moves without an entry, in a history that is the same
 pub rounds_same : (p : Plan) (runs : List Run) (regions later : List LoggedMemory) (members after : List Member) (made k : ℕ) (old new : Run) → IsCore p runs regions made → AreInRounds p (history_of regions) runs members → slice_get runs k ≡ Some old → old.finished ≡ false → history_of later ≡ history_of regions → HasGoneOn old new members after → (new.finished ≡ true → new.round ≡ new.syncs)

@@ -15,7 +15,7 @@ use Rattle.time_board.specs.Rounds.{member_of, new_member}
 use Rattle.script_engine.specs.declared.op.Op.TheVariants as next
 use Rattle.script_engine.specs.State.{op_of}
 use Rattle.initiator_run.specs.Come.{HasCome, has_ended}
-use Rattle.initiator_run.specs.Left.{total_left}
+use Rattle.initiator_run.specs.Left.{total_bytes, total_left}
 use Rattle.run_outcome.specs.Merge.{merged}
 use Rattle.plat_core.specs.Rounds.{IsHeldBack, due_round}
 use Rattle.initiator_run.specs.Run.{Run, fresh_run}
@@ -55,13 +55,14 @@ no_runs p = map (begun_run p) (initiators_of p)
 abbrev pub begun_core : Plan → CoreView
 begun_core p = record { plan = p; history = []; finished = map (λ (i : Initiator). false) (initiators_of p); rounds = replicate (length p.platform.initiators) new_member }
 
--- memory k of a core
+-- memory k of a core: its log has room for all entries and all bytes that the runs are still to make there
 pub record IsMemoryAt (p : Plan) (runs : List Run) (h : List Entry) (k : ℕ) (m : LoggedMemory) : Type 0 where
   pub number : m.number ≡ k
   pub row : IsSomeAnd (slice_get p.platform.memories k) (λ (row : MemoryRow). m.traits ≡ row.traits)
   pub log : m.log.entries ≡ entries_at (memory_object k) h
   pub few : m.log.room ≤ 1000000
   pub roomy : length m.log.entries + total_left p k (initiators_of p) runs ≤ m.log.room
+  pub roomy_bytes : total_bytes p k (initiators_of p) runs ≤ m.log.room_bytes
 
 -- the run of an initiator
 pub record IsRunOf (p : Plan) (h : List Entry) (i : Initiator) (r : Run) : Type 0 where

@@ -13,7 +13,8 @@
 //! r - 2. Once all have finished, the history is good, and the stores and ends are those of the
 //! definitions. All initiators of the plan have to be blocking, and no script may invalidate: the core moves
 //! no four-phase traffic, and ends no grants. `can_run` tells whether a plan is one that it runs. The only
-//! error is want of memory, after which the history is as before.
+//! error is want of memory, where a core or its outcome is made: its memories have room for all that is
+//! planned, so no step can fail.
 #![tactic(auto)]
 
 mod plans;

@@ -1,5 +1,5 @@
 // Whole runs on one thread.
-ghost use Rattle.std.specs.Prelude.{IfOk, OnOk};
+ghost use Rattle.std.specs.Prelude.{IfOk};
 ghost use Rattle.grant_model.specs.Laws.{HasNoInvalidation};
 ghost use Rattle.plat_core.specs.Outcome.{IsScheduled, IsTurnOf};
 ghost use Rattle.route_plan.specs.Shape.{IsBlocking};
@@ -22,19 +22,18 @@ pub fn run_schedule(alloc: Global, plan: &Plan, schedule: &[u32]) -> Result<Outc
 {
     let mut core = Core::new(alloc, plan)?;
     for number in schedule {
-        take_number(&mut core, *number)?;
+        take_number(&mut core, *number);
     }
     core.into_outcome()
 }
 
 // A step of the actor of this number, if there is one.
-fn take_number(core: &mut Core<'_>, number: u32) -> Result<(), Memory>
-    ensures { OnOk result (IsTurnOf core.old number core.new) }
+fn take_number(core: &mut Core<'_>, number: u32)
+    ensures { IsTurnOf core.old number core.new }
 {
     if number < core.actors() {
-        core.step(number)?;
+        core.step(number);
     }
-    Ok(())
 }
 
 /// Runs a plan of blocking initiators whose scripts don't invalidate (`can_run` tells) to its end: each
@@ -48,7 +47,7 @@ pub fn run_in_order<P: Pace>(alloc: Global, plan: &Plan, pace: &P) -> Result<Out
 {
     let mut core = Core::new(alloc, plan)?;
     while !core.has_finished() {
-        core.go_round(pace)?;
+        core.go_round(pace);
     }
     core.into_outcome()
 }

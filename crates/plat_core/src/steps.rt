@@ -1,5 +1,5 @@
 // The core.
-ghost use Rattle.std.specs.Prelude.{◌≡◌, ◌<◌, ◌≤◌, length, map, true, false, IfOk, OnOk, OnErr};
+ghost use Rattle.std.specs.Prelude.{◌≡◌, ◌<◌, ◌≤◌, length, map, true, false, IfOk};
 ghost use Rattle.tlm_model.specs.Log.{log_bytes};
 ghost use Rattle.grant_model.specs.Laws.{HasNoInvalidation};
 ghost use Rattle.region_object.specs.Region.{LoggedMemory};
@@ -9,7 +9,7 @@ ghost use Rattle.plat_core.specs.Fresh.{AreFresh};
 ghost use Rattle.plat_core.specs.Outcome.{IsOutcome};
 ghost use Rattle.run_outcome.specs.Places.{entries_of_logs};
 ghost use Rattle.initiator_run.specs.Run.{end_at};
-ghost use Rattle.plat_core.specs.Core.{GoesOn, HasRisen, HasStopped, IsStep, IsStuck, actors_of, all_true, are_finished, begun_core, logs_of, no_runs, progress};
+ghost use Rattle.plat_core.specs.Core.{GoesOn, HasStopped, IsStep, IsStuck, actors_of, all_true, are_finished, begun_core, logs_of, no_runs, progress};
 
 use generic_payload::Payload;
 use initiator_run::{InitiatorRun, Turn, take_turn};
@@ -113,20 +113,18 @@ impl<'a> Core<'a> {
     /// Makes one event of an actor: its moves that add no entry, up to and with its next entry. A
     /// blocking initiator waits where that entry, or its end, is more than one round after the round of
     /// another one that hasn't finished. One that has finished stays so; a router or a memory has no work
-    /// of its own, and has finished once all initiators have. Its only error is want of memory, after
-    /// which the history is as before, and the initiator may have been let into a later round.
-    pub fn step(&mut self, actor: u32) -> Result<CoreStep, Memory>
+    /// of its own, and has finished once all initiators have.
+    pub fn step(&mut self, actor: u32) -> CoreStep
         requires { actor < actors_of self.old.plan.platform }
-        ensures ok { IfOk result (λ step. IsStep self.old actor self.new step) }
-        ensures err { OnErr result (HasRisen self.old actor self.new) }
+        ensures { IsStep self.old actor self.new result }
     {
         let index = actor as usize;
         if index < self.runs.len() {
             self.step_initiator(index, &NoPace)
         } else if self.has_finished() {
-            Ok(CoreStep::Finished)
+            CoreStep::Finished
         } else {
-            Ok(CoreStep::Waits)
+            CoreStep::Waits
         }
     }
 
@@ -139,26 +137,24 @@ impl<'a> Core<'a> {
     }
 
     /// Steps an initiator until it has finished or waits. The pace is told of each access and debug read
-    /// that its script asks for. Its only error is want of memory.
-    pub fn go_on<P: Pace>(&mut self, initiator: u32, pace: &P) -> Result<(), Memory>
+    /// that its script asks for.
+    pub fn go_on<P: Pace>(&mut self, initiator: u32, pace: &P)
         requires { initiator < length self.old.finished }
         ensures goes { GoesOn self.old self.new }
-        ensures stuck { OnOk result (progress self.new ≤ progress self.old → (self.new ≡ self.old) × IsStuck self.old.rounds initiator) }
+        ensures stuck { progress self.new ≤ progress self.old → (self.new ≡ self.old) × IsStuck self.old.rounds initiator }
     {
-        while let CoreStep::Made(_) = self.step_initiator(initiator as usize, pace)? {}
-        Ok(())
+        while let CoreStep::Made(_) = self.step_initiator(initiator as usize, pace) {}
     }
 
     /// Lets each initiator in order go on until it has finished or waits. Where not all have finished,
-    /// there is progress. Its only error is want of memory.
-    pub fn go_round<P: Pace>(&mut self, pace: &P) -> Result<(), Memory>
+    /// there is progress.
+    pub fn go_round<P: Pace>(&mut self, pace: &P)
         ensures plan { self.new.plan ≡ self.old.plan }
-        ensures progress { OnOk result (all_true self.old.finished ≡ false → progress self.old < progress self.new) }
+        ensures progress { all_true self.old.finished ≡ false → progress self.old < progress self.new }
     {
         for initiator in 0..self.initiators() {
-            self.go_on(initiator, pace)?;
+            self.go_on(initiator, pace);
         }
-        Ok(())
     }
 
     /// How the run ended, as far as it has come. Its only error is want of memory.
@@ -177,16 +173,15 @@ impl<'a> Core<'a> {
         })
     }
 
-    fn step_initiator<P: Pace>(&mut self, index: usize, pace: &P) -> Result<CoreStep, Memory>
+    fn step_initiator<P: Pace>(&mut self, index: usize, pace: &P) -> CoreStep
         requires { index < length self.old.finished }
-        ensures ok { IfOk result (λ step. IsStep self.old index self.new step) }
+        ensures step { IsStep self.old index self.new result }
         ensures goes { GoesOn self.old self.new }
-        ensures stops { IfOk result (λ step. HasStopped self.old index self.new step) }
-        ensures err { OnErr result (HasRisen self.old index self.new) }
+        ensures stops { HasStopped self.old index self.new result }
         ensures few { progress self.new ≤ 20000000 }
     {
         if self.runs[index].has_finished() {
-            return Ok(CoreStep::Finished);
+            return CoreStep::Finished;
         }
         let run = &mut self.runs[index];
         let turn = take_turn(
@@ -202,12 +197,11 @@ impl<'a> Core<'a> {
             Turn::Made => {
                 let position = self.made;
                 self.made += 1;
-                Ok(CoreStep::Made(position))
+                CoreStep::Made(position)
             }
             Turn::Invalidates(_) => unreachable!(),
-            Turn::Waits => Ok(CoreStep::Waits),
-            Turn::Ended => Ok(CoreStep::Finished),
-            Turn::NoMemory => Err(Memory),
+            Turn::Waits => CoreStep::Waits,
+            Turn::Ended => CoreStep::Finished,
         }
     }
 }

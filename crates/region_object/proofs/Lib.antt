@@ -2,7 +2,7 @@ pub mod GateLemmas
 pub mod Transports
 mod Consistent
 mod Told
-mod Cost
+pub mod Cost
 pub mod Written
 mod Rows
 pub mod Least

@@ -9,7 +9,7 @@ pub loop-number-init : goal.loop-number-init
 loop-number-init c = c.in_ok-core.ensures
 
 pub loop-number-preserved : goal.loop-number-preserved
-loop-number-preserved c = followed_next (begun_core c.args.plan.now) c.loop-number.core c.take_number.new.core c.args.schedule.now c.loop-number.number-index (get_or c.args.schedule.now c.loop-number.number-index 0) c.loop-number-test.true refl c.loop-number.invariant c.in_ok-take_number.ensures
+loop-number-preserved c = followed_next (begun_core c.args.plan.now) c.loop-number.core c.take_number.new.core c.args.schedule.now c.loop-number.number-index (get_or c.args.schedule.now c.loop-number.number-index 0) c.loop-number-test.true refl c.loop-number.invariant c.take_number.ensures
 
 pub returns : goal.returns
 returns c = IfOk-weaker c.into_outcome.result (IsOutcome c.loop-number.core) (IsScheduled c.args.plan.now c.args.schedule.now) (λ o is. scheduled c.args.plan.now c.args.schedule.now c.loop-number.number-index c.loop-number.core o c.loop-number-test.false c.loop-number.invariant is) c.into_outcome.ensures

@@ -15,7 +15,7 @@ loop-number-preserved c =
     let few = few_gates_at c.args.plan.now.platform c.as_slice-row-items.result.now c.loop-number.number c.row-item.result c.platform.ensures.valid.shape.bounded rows c.loop-number-test.true c.row-item.is in
     record {
       fresh = fresh_more c.args.plan.now c.loop-number.regions.items c.push.new.self.items c.loop-number.number c.in_ok-region.region c.loop-number.invariant.fresh c.in_ok-push.ensures.items
-          (fresh_region c.args.plan.now c.loop-number.number c.as_slice-row-items.result.now c.row-item.result c.in_ok-region.region c.entries-entries.result c.logged-logged.result c.loop-number.first_gate rows c.loop-number-test.true c.row-item.is c.in_ok-region.ensures c.entries-entries.ensures.planned c.entries-entries.ensures.few);
+          (fresh_region c.args.plan.now c.loop-number.number c.as_slice-row-items.result.now c.row-item.result c.in_ok-region.region c.entries-entries.result c.logged-logged.result c.loop-number.first_gate rows c.loop-number-test.true c.row-item.is c.in_ok-region.ensures c.entries-entries.ensures.planned c.entries-entries.ensures.few c.logged-logged.ensures.logged);
       gates = omega (arith, c.saturating_add-first_gate.ensures, few.0, c.loop-number.invariant.gates);
     }
 

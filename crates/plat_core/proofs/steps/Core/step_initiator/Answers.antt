@@ -1,15 +1,16 @@
 use Rattle.std.proofs.Common.{◌≤◌, ◌+◌, false, arith, ap, sym, subst, ◌∙◌, List}
 use Rattle.std.proofs.Math.ListN.{set}
 use Rattle.region_object.specs.Region.{LoggedMemory}
-use Rattle.plat_core.specs.Core.{CoreView, GoesOn, HasRisen, HasStopped, IsStep, progress}
+use Rattle.plat_core.specs.Core.{CoreView, GoesOn, HasStopped, IsStep, progress}
 use Rattle.plat_core.specs.declared.steps.CoreStep.TheVariants.{Made, Waits, Finished}
 use Rattle.initiator_run.specs.declared.turn.Turn.TheVariants as turn
+use Rattle.initiator_run.specs.Access.{cost_next}
 use Rattle.initiator_run.specs.Turns.{HasRoomAt, IsTurn}
 use Rattle.initiator_run.proofs.RunLemmas.{IsUnderWay-kept}
 use Rattle.plat_core.proofs.CoreLemmas.{few_made, room_for_access, run_at, run_under_way, written}
 use Rattle.plat_core.proofs.ProgressLemmas.{few_steps, stops_done}
 use Rattle.plat_core.proofs.QuietLemmas.{never_invalidates}
-use Rattle.plat_core.proofs.SteppedLemmas.{Turns, flag_is, given_up, in_round, stepped_ended, stepped_made, stepped_waits}
+use Rattle.plat_core.proofs.SteppedLemmas.{Turns, flag_is, in_round, stepped_ended, stepped_made, stepped_waits}
 use Rattle.plat_core.proofs.ViewLemmas.{step_done, view}
 use Rattle.plat_core.proofs.steps.Core.step_initiator.Goals as goal
 
@@ -18,14 +19,14 @@ take_turn-turn-requires-clause-way g c = run_under_way c.self.inside.plan.now c.
 
 pub take_turn-turn-requires-clause-room : goal.take_turn-turn-requires-clause-room
 take_turn-turn-requires-clause-room g c = λ middle x route keeps reached.
-    subst (λ (regions : List LoggedMemory). HasRoomAt regions route.memory) (sym c.deref_mut.ensures.value)
+    subst (λ (regions : List LoggedMemory). HasRoomAt regions route.memory (cost_next middle)) (sym c.deref_mut.ensures.value)
     (room_for_access c.self.inside.plan.now c.self.inside.runs.items c.self.inside.regions.items c.self.inside.made c.args.index c.index_mut-run.result.now middle x route c.self.invariant.0 (run_at c.self.inside.runs.items c.args.index c.index_mut-run.result.now c.args.self.now.finished (ap (λ (v : CoreView). v.finished) c.self.view_is) c.requires c.index_mut-run.ensures.value) keeps reached)
 
 pub take_turn-turn-requires-clause-round : goal.take_turn-turn-requires-clause-round
 take_turn-turn-requires-clause-round g c = in_round c.self.inside.plan.now c.self.inside.runs.items c.self.inside.regions.items c.self.inside.rounds c.self.inside.made c.args.index c.index_mut-run.result.now c.self.invariant.0 c.self.invariant.1 (run_at c.self.inside.runs.items c.args.index c.index_mut-run.result.now c.args.self.now.finished (ap (λ (v : CoreView). v.finished) c.self.view_is) c.requires c.index_mut-run.ensures.value)
 
-pub returns-then-has_finished-clause-ok : goal.returns-then-has_finished-clause-ok
-returns-then-has_finished-clause-ok g c =
+pub returns-then-has_finished-clause-step : goal.returns-then-has_finished-clause-step
+returns-then-has_finished-clause-step g c =
     subst (λ (v : CoreView). IsStep v c.args.index v Finished) c.self.view_is
     (step_done c.self.inside.plan.now c.self.inside.runs.items c.self.inside.regions.items c.self.inside.rounds c.self.inside.made c.args.index c.index.result.now c.self.invariant.0 c.self.invariant.1 (run_at c.self.inside.runs.items c.args.index c.index.result.now c.args.self.now.finished (ap (λ (v : CoreView). v.finished) c.self.view_is) c.requires c.index.ensures) (sym c.has_finished.ensures ∙ c.if-has_finished.true))
 
@@ -71,10 +72,9 @@ returns-in-Made g c =
     let s = stepped_made c.self.inside.plan.now c.self.inside.runs.items c.self.inside.regions.items c.self.inside.rounds c.self.inside.made c.args.index c.index_mut-run.result.now c.take_turn-turn.new.run c.deref_mut.result.now c.take_turn-turn.new.regions c.take_turn-turn.new.rounds c.self.inside.regions.len (omega (arith, c.take_turn-turn.auto.regions, c.deref_mut.ensures.len)) turns in
     let next : CoreView = view c.self.inside.plan.now (written c.self.inside.regions.len c.take_turn-turn.new.regions c.self.inside.regions.items) (set c.self.inside.runs.items c.args.index c.take_turn-turn.new.run) c.take_turn-turn.new.rounds in
     record {
-      ok = subst (λ (v : CoreView). IsStep v c.args.index next (Made c.self.inside.made)) c.self.view_is s.step_is;
+      step = subst (λ (v : CoreView). IsStep v c.args.index next (Made c.self.inside.made)) c.self.view_is s.step_is;
       goes = subst (λ (v : CoreView). GoesOn v next) c.self.view_is s.goes;
       stops = subst (λ (v : CoreView). HasStopped v c.args.index next (Made c.self.inside.made)) c.self.view_is s.stops;
-      err = tt;
       few = few_steps c.self.inside.plan.now (set c.self.inside.runs.items c.args.index c.take_turn-turn.new.run) (written c.self.inside.regions.len c.take_turn-turn.new.regions c.self.inside.regions.items) c.take_turn-turn.new.rounds (c.self.inside.made + 1) s.core s.rounds;
     }
 
@@ -108,10 +108,9 @@ returns-in-Waits g c =
     let s = stepped_waits c.self.inside.plan.now c.self.inside.runs.items c.self.inside.regions.items c.self.inside.rounds c.self.inside.made c.args.index c.index_mut-run.result.now c.take_turn-turn.new.run c.deref_mut.result.now c.take_turn-turn.new.regions c.take_turn-turn.new.rounds c.self.inside.regions.len (omega (arith, c.take_turn-turn.auto.regions, c.deref_mut.ensures.len)) turns in
     let next : CoreView = view c.self.inside.plan.now (written c.self.inside.regions.len c.take_turn-turn.new.regions c.self.inside.regions.items) (set c.self.inside.runs.items c.args.index c.take_turn-turn.new.run) c.take_turn-turn.new.rounds in
     record {
-      ok = subst (λ (v : CoreView). IsStep v c.args.index next Waits) c.self.view_is s.step_is;
+      step = subst (λ (v : CoreView). IsStep v c.args.index next Waits) c.self.view_is s.step_is;
       goes = subst (λ (v : CoreView). GoesOn v next) c.self.view_is s.goes;
       stops = subst (λ (v : CoreView). HasStopped v c.args.index next Waits) c.self.view_is s.stops;
-      err = tt;
       few = few_steps c.self.inside.plan.now (set c.self.inside.runs.items c.args.index c.take_turn-turn.new.run) (written c.self.inside.regions.len c.take_turn-turn.new.regions c.self.inside.regions.items) c.take_turn-turn.new.rounds c.self.inside.made s.core s.rounds;
     }
 
@@ -145,47 +144,9 @@ returns-in-Ended g c =
     let s = stepped_ended c.self.inside.plan.now c.self.inside.runs.items c.self.inside.regions.items c.self.inside.rounds c.self.inside.made c.args.index c.index_mut-run.result.now c.take_turn-turn.new.run c.deref_mut.result.now c.take_turn-turn.new.regions c.take_turn-turn.new.rounds c.self.inside.regions.len (omega (arith, c.take_turn-turn.auto.regions, c.deref_mut.ensures.len)) turns in
     let next : CoreView = view c.self.inside.plan.now (written c.self.inside.regions.len c.take_turn-turn.new.regions c.self.inside.regions.items) (set c.self.inside.runs.items c.args.index c.take_turn-turn.new.run) c.take_turn-turn.new.rounds in
     record {
-      ok = subst (λ (v : CoreView). IsStep v c.args.index next Finished) c.self.view_is s.step_is;
+      step = subst (λ (v : CoreView). IsStep v c.args.index next Finished) c.self.view_is s.step_is;
       goes = subst (λ (v : CoreView). GoesOn v next) c.self.view_is s.goes;
       stops = subst (λ (v : CoreView). HasStopped v c.args.index next Finished) c.self.view_is s.stops;
-      err = tt;
-      few = few_steps c.self.inside.plan.now (set c.self.inside.runs.items c.args.index c.take_turn-turn.new.run) (written c.self.inside.regions.len c.take_turn-turn.new.regions c.self.inside.regions.items) c.take_turn-turn.new.rounds c.self.inside.made s.core s.rounds;
-    }
-
-pub invariant_of-self-in-NoMemory : goal.invariant_of-self-in-NoMemory
-invariant_of-self-in-NoMemory g c =
-    let at = (run_at c.self.inside.runs.items c.args.index c.index_mut-run.result.now c.args.self.now.finished (ap (λ (v : CoreView). v.finished) c.self.view_is) c.requires c.index_mut-run.ensures.value) in
-    let turns : Turns c.self.inside.plan.now c.self.inside.runs.items c.self.inside.regions.items c.self.inside.rounds c.self.inside.made c.args.index c.index_mut-run.result.now c.take_turn-turn.new.run c.deref_mut.result.now c.take_turn-turn.new.regions c.take_turn-turn.new.rounds turn.NoMemory = record {
-      core = c.self.invariant.0;
-      rounds = c.self.invariant.1;
-      at = at;
-      going = flag_is c.self.inside.runs.items c.args.index c.index.result.now c.index_mut-run.result.now false (run_at c.self.inside.runs.items c.args.index c.index.result.now c.args.self.now.finished (ap (λ (v : CoreView). v.finished) c.self.view_is) c.requires c.index.ensures) at (sym c.has_finished.ensures ∙ c.if-has_finished.false);
-      given_is = c.deref_mut.ensures.value;
-      turn_is = subst (IsTurn c.self.inside.plan.now c.index_mut-run.result.now c.take_turn-turn.new.run c.take_turn-turn.new.rounds c.deref_mut.result.now c.take_turn-turn.new.regions c.self.inside.made) c.in-NoMemory.is c.take_turn-turn.ensures.turn;
-      gone = c.take_turn-turn.ensures.rounds;
-    } in
-    let s = given_up c.self.inside.plan.now c.self.inside.runs.items c.self.inside.regions.items c.self.inside.rounds c.self.inside.made c.args.index c.index_mut-run.result.now c.take_turn-turn.new.run c.deref_mut.result.now c.take_turn-turn.new.regions c.take_turn-turn.new.rounds c.self.inside.regions.len (omega (arith, c.take_turn-turn.auto.regions, c.deref_mut.ensures.len)) turns in
-    (s.core, s.rounds, c.take_turn-turn.ensures.roomy)
-
-pub returns-in-NoMemory : goal.returns-in-NoMemory
-returns-in-NoMemory g c =
-    let at = (run_at c.self.inside.runs.items c.args.index c.index_mut-run.result.now c.args.self.now.finished (ap (λ (v : CoreView). v.finished) c.self.view_is) c.requires c.index_mut-run.ensures.value) in
-    let turns : Turns c.self.inside.plan.now c.self.inside.runs.items c.self.inside.regions.items c.self.inside.rounds c.self.inside.made c.args.index c.index_mut-run.result.now c.take_turn-turn.new.run c.deref_mut.result.now c.take_turn-turn.new.regions c.take_turn-turn.new.rounds turn.NoMemory = record {
-      core = c.self.invariant.0;
-      rounds = c.self.invariant.1;
-      at = at;
-      going = flag_is c.self.inside.runs.items c.args.index c.index.result.now c.index_mut-run.result.now false (run_at c.self.inside.runs.items c.args.index c.index.result.now c.args.self.now.finished (ap (λ (v : CoreView). v.finished) c.self.view_is) c.requires c.index.ensures) at (sym c.has_finished.ensures ∙ c.if-has_finished.false);
-      given_is = c.deref_mut.ensures.value;
-      turn_is = subst (IsTurn c.self.inside.plan.now c.index_mut-run.result.now c.take_turn-turn.new.run c.take_turn-turn.new.rounds c.deref_mut.result.now c.take_turn-turn.new.regions c.self.inside.made) c.in-NoMemory.is c.take_turn-turn.ensures.turn;
-      gone = c.take_turn-turn.ensures.rounds;
-    } in
-    let s = given_up c.self.inside.plan.now c.self.inside.runs.items c.self.inside.regions.items c.self.inside.rounds c.self.inside.made c.args.index c.index_mut-run.result.now c.take_turn-turn.new.run c.deref_mut.result.now c.take_turn-turn.new.regions c.take_turn-turn.new.rounds c.self.inside.regions.len (omega (arith, c.take_turn-turn.auto.regions, c.deref_mut.ensures.len)) turns in
-    let next : CoreView = view c.self.inside.plan.now (written c.self.inside.regions.len c.take_turn-turn.new.regions c.self.inside.regions.items) (set c.self.inside.runs.items c.args.index c.take_turn-turn.new.run) c.take_turn-turn.new.rounds in
-    record {
-      ok = tt;
-      goes = subst (λ (v : CoreView). GoesOn v next) c.self.view_is s.goes;
-      stops = tt;
-      err = subst (λ (v : CoreView). HasRisen v c.args.index next) c.self.view_is s.risen;
       few = few_steps c.self.inside.plan.now (set c.self.inside.runs.items c.args.index c.take_turn-turn.new.run) (written c.self.inside.regions.len c.take_turn-turn.new.regions c.self.inside.regions.items) c.take_turn-turn.new.rounds c.self.inside.made s.core s.rounds;
     }
 
