@@ -1,5 +1,5 @@
 // A memory with its log, and its accesses.
-ghost use Rattle.std.specs.Prelude.{◌≡◌, ◌≢◌, ◌⊎◌, ◌+◌, ◌-◌, ◌<◌, ◌≤◌, max, [], length, take, true, false, All, IsOk, IfOk, OnOk, OnErr, None, IsTrue};
+ghost use Rattle.std.specs.Prelude.{◌≡◌, ◌≢◌, ◌⊎◌, ◌+◌, ◌-◌, ◌<◌, ◌≤◌, [], length, take, true, false, All, IfOk, None, IsTrue};
 ghost use Rattle.tlm_types.specs.declared.words.Command.TheVariants.{Read};
 ghost use Rattle.tlm_types.specs.declared.entry.What.TheVariants.{Access as Accessed, Granted, Invalidated};
 ghost use Rattle.tlm_types.specs.Traits.{allowed_kind};
@@ -13,7 +13,7 @@ ghost use Rattle.region_object.specs.Grants.{IsGrantLog, grants_in, is_closed, l
 ghost use Rattle.region_object.specs.Region.{accessed, after_call, answered, buffer_after, debugged, denial_of, got_told, sent_told, grant_reply, head_at, is_admitted, next_gate, reply_of, told_by, what_of, with_logged};
 ghost use Rattle.region_object.specs.Written.{written_from};
 
-use crate::call::{Denial, RegionCall, RegionReply, payload_cost};
+use crate::call::{Denial, RegionCall, RegionReply};
 use crate::gates::Gates;
 use generic_payload::Payload;
 use one_history::Sign;
@@ -129,18 +129,6 @@ impl Region {
         ensures size { length result.1 ≡ self.traits.size }
     {
         (self.log, Bytes::from_vec(self.store))
-    }
-
-    /// Makes room in the log for the bytes of a call with this payload. Entries and bytes stay. Its only error
-    /// is want of memory, after which the memory is as before.
-    pub fn make_room_for(&mut self, payload: &Payload) -> Result<(), Memory>
-        ensures ok { OnOk result (self.new ≡ record self.old {
-          log = record self.old.log { room_bytes = max self.old.log.room_bytes (payload_cost payload.now) };
-        }) }
-        ensures err { OnErr result (self.new ≡ self.old) }
-        ensures roomy { payload_cost payload.now ≤ self.old.log.room_bytes → IsOk result }
-    {
-        self.log.make_room(payload_cost(payload))
     }
 
     /// Makes this call. Where it adds an entry, there has to be room for it, and for its bytes, so that it

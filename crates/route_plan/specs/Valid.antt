@@ -52,8 +52,8 @@ unfoldable pub planned : Plan → Result Plan PlatformRefusal
 planned p = checked_plan p >>= λ _. Ok p
 
 -- A valid plan: a platform of a good shape, a script for each of its initiators, and counts within the limits. Each
--- script is as a text gives one: numbers in their ranges, lengths of 1 to 4,096, and no `invalidate`. Its initiators
--- may be of every style.
+-- script is as a text gives one: numbers in their ranges, accesses and debug reads of 1 to 4,096 bytes, and
+-- invalidations of one byte at least. Its initiators may be of every style.
 pub record IsValid (p : Plan) : Type 0 where
   pub shape : IsShape p.platform
   pub scripts : length p.scripts ≡ length p.platform.initiators

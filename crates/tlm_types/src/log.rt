@@ -1,5 +1,5 @@
 // The log of an object: its entries in order, kept without a list of bytes for each.
-ghost use Rattle.std.specs.Prelude.{◌≡◌, ◌≢◌, ◌+◌, ◌^◌, ◌<◌, ◌≤◌, [], ◌++◌, length, max, false, All, Some, IsOk, IsSome, IsSomeAnd, IfSome, IfOk, IfErr, OnOk, OnErr, IsTrue, ◌↔◌, slice_get, option_map, vec_len, vec_capacity};
+ghost use Rattle.std.specs.Prelude.{◌≡◌, ◌≢◌, ◌+◌, ◌^◌, ◌<◌, ◌≤◌, [], ◌++◌, length, false, All, Some, IsOk, IsSome, IsSomeAnd, IfSome, IfOk, IfErr, OnOk, OnErr, IsTrue, ◌↔◌, slice_get, option_map, vec_len, vec_capacity};
 ghost use Rattle.tlm_types.specs.LogItem.{IsLast};
 ghost use Rattle.tlm_types.specs.Log.{access_by, enables_of, entry_at, facts_of, got_of, head_of, is_access, plain_of, read_at, read_sends, sent_of, with_entry};
 ghost use Rattle.tlm_types.specs.declared.words.Command.TheVariants.{Read};
@@ -135,21 +135,6 @@ impl Log {
         self.items.push_access(head, facts, span)?;
         append(&mut self.bytes, sent, enables, got);
         self.room_bytes = self.room_bytes.saturating_sub(count as u64);
-        Ok(())
-    }
-
-    /// Makes room for the bytes of accesses: for so many at least. The entries stay. Its only error is
-    /// want of memory, after which the log is as before.
-    pub fn make_room(&mut self, bytes: u64) -> Result<(), Memory>
-        ensures ok { OnOk result (self.new ≡ record self.old { room_bytes = max self.old.room_bytes bytes }) }
-        ensures err { OnErr result (self.new ≡ self.old) }
-        ensures roomy { bytes ≤ self.old.room_bytes → IsOk result }
-    {
-        if bytes > BYTES_MAX - self.bytes.len() as u64 {
-            return Err(Memory);
-        }
-        self.bytes.reserve(bytes as usize)?;
-        self.room_bytes = self.room_bytes.max(bytes);
         Ok(())
     }
 

@@ -170,7 +170,6 @@ const BEGUN: What = What::Call {
 fn a_log_reads_back_what_was_pushed(rt: HostRuntime) {
     let mut log = Log::with_room(rt.alloc(), 2, 6).expect(&rt, "memory");
     assert!(rt; log.is_empty());
-    log.make_room(6).expect(&rt, "memory");
     let written = log.push_access(WRITE_HEAD, WRITE, SENT, ENABLES, &[]);
     assert!(rt; written.is_ok() && log.push(CALL_HEAD, BEGUN).is_ok());
     assert!(rt; log.len() == 2);

@@ -1,4 +1,4 @@
-use Rattle.std.proofs.Common.{ap, subst, ◌<◌, ◌^◌}
+use Rattle.std.proofs.Common.{subst, ◌<◌, ◌^◌}
 use Rattle.std.specs.Prelude.{All}
 use Rattle.tlm_types.specs.declared.entry.Entry.{Entry}
 use Rattle.tlm_types.specs.Log.{LogView}
