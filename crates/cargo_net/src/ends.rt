@@ -21,6 +21,7 @@ use tlm_types::{Content, Ps};
 use token_book::{Ticket, Tokens};
 
 // The answer to END_REQ.
+#[inline(always)]
 fn ended_req(reply: HopReply<Cargo>) -> (Leg, Ps)
     requires { IsEndedReq reply }
     ensures { reply ≡ EndedReq result.0 result.1 }
@@ -34,6 +35,7 @@ fn ended_req(reply: HopReply<Cargo>) -> (Leg, Ps)
 /// Makes END_REQ on a hop, by the leg of a lane whose request is open and a ticket of the hop, which is
 /// spent (IEEE 1666-2011, clause 15.2). It is tried at `at` picoseconds, and answers the leg of the same
 /// lane, which waits for its response, and the time of the entry. It can't fail.
+#[inline(always)]
 pub fn end_req<R: Wait, N: Naming<Plan, TlmLaw>>(
     hop: &Shared<Hop<Cargo>, Plan, TlmLaw, N>,
     rt: &R,
@@ -72,6 +74,7 @@ pub fn end_req<R: Wait, N: Naming<Plan, TlmLaw>>(
 }
 
 // The answer to END_RESP.
+#[inline(always)]
 fn ended_resp(reply: HopReply<Cargo>) -> Ps
     requires { IsEndedResp reply }
     ensures { reply ≡ EndedResp result }
@@ -85,6 +88,7 @@ fn ended_resp(reply: HopReply<Cargo>) -> Ps
 /// Makes END_RESP on a hop, by the leg of a lane whose response is open and a ticket of the hop, which is
 /// spent (IEEE 1666-2011, clause 15.2). It is tried at `at` picoseconds, and answers the time of the
 /// entry. It can't fail.
+#[inline(always)]
 pub fn end_resp<R: Wait, N: Naming<Plan, TlmLaw>>(
     hop: &Shared<Hop<Cargo>, Plan, TlmLaw, N>,
     rt: &R,

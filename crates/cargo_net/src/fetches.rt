@@ -30,6 +30,7 @@ pub struct FetchedRequest {
 }
 
 // The answer to a fetch of a request.
+#[inline(always)]
 fn fetched_request(reply: HopReply<Cargo>) -> Option<FetchedRequest>
     requires { IsDownReply reply }
     ensures { reply ≡ down_reply result }
@@ -49,6 +50,7 @@ fn fetched_request(reply: HopReply<Cargo>) -> Option<FetchedRequest>
 
 /// Fetches the request that waits on a hop with the least time, equal times in order of arrival; none
 /// exactly where none waits. It makes no entry and spends no ticket.
+#[inline(always)]
 pub fn fetch_request<R: Wait, N: Naming<Plan, TlmLaw>>(
     hop: &Shared<Hop<Cargo>, Plan, TlmLaw, N>,
     rt: &R,
@@ -82,6 +84,7 @@ pub struct FetchedResponse {
 }
 
 // The answer to a fetch of a response.
+#[inline(always)]
 fn fetched_response(reply: HopReply<Cargo>) -> Option<FetchedResponse>
     requires { IsUpReply reply }
     ensures { reply ≡ up_reply result }
@@ -101,6 +104,7 @@ fn fetched_response(reply: HopReply<Cargo>) -> Option<FetchedResponse>
 /// Fetches the response that waits on a hop with the least time, equal times in order of arrival; none
 /// exactly where none waits. The leg of END_RESP comes where the component upstream accepts responses.
 /// It makes no entry and spends no ticket.
+#[inline(always)]
 pub fn fetch_response<R: Wait, N: Naming<Plan, TlmLaw>>(
     hop: &Shared<Hop<Cargo>, Plan, TlmLaw, N>,
     rt: &R,
@@ -125,6 +129,7 @@ pub fn fetch_response<R: Wait, N: Naming<Plan, TlmLaw>>(
 }
 
 // The answer to whether a transaction has ended.
+#[inline(always)]
 fn ended(reply: HopReply<Cargo>) -> bool
     requires { IsEndedReply reply }
     ensures { reply ≡ ended_reply result }
@@ -137,6 +142,7 @@ fn ended(reply: HopReply<Cargo>) -> bool
 
 /// Looks whether a transaction has ended on a hop: true exactly where no lane is held by it. It makes no
 /// entry and spends no ticket.
+#[inline(always)]
 pub fn has_ended<R: Wait, N: Naming<Plan, TlmLaw>>(
     hop: &Shared<Hop<Cargo>, Plan, TlmLaw, N>,
     rt: &R,

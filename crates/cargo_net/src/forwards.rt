@@ -54,6 +54,7 @@ pub enum Forwarded {
 /// made in this call, after the hop's step; a router never answers so. `Busy` comes exactly where a request
 /// is open on the hop or no lane is free: no entry is made, and payload and tickets come back. It can't
 /// fail otherwise.
+#[inline(always)]
 pub fn forward<R: Wait, N: Naming<Plan, TlmLaw>>(
     hop: &Shared<Hop<Cargo>, Plan, TlmLaw, N>,
     memory: Option<&Shared<Region, Plan, TlmLaw, N>>,

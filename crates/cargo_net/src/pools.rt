@@ -36,6 +36,7 @@ pub enum Taken {
 }
 
 // The answer to a Take.
+#[inline(always)]
 fn took(reply: PoolReply) -> Option<Baton>
     requires { IsTookReply reply }
     ensures { reply ≡ Replies.Took result }
@@ -47,6 +48,7 @@ fn took(reply: PoolReply) -> Option<Baton>
 }
 
 // The answer to an Acquire.
+#[inline(always)]
 fn acquired(reply: PoolReply) -> (Baton, Hold)
     requires { IsAcquiredReply reply }
     ensures { reply ≡ Replies.Acquired result.0 result.1 }
@@ -58,6 +60,7 @@ fn acquired(reply: PoolReply) -> (Baton, Hold)
 }
 
 // The answer to a Release.
+#[inline(always)]
 fn released(reply: PoolReply) -> bool
     requires { IsReleasedReply reply }
     ensures { reply ≡ Replies.Released result }
@@ -71,6 +74,7 @@ fn released(reply: PoolReply) -> bool
 /// Takes a payload for a four-phase access from its initiator's pool at `at` picoseconds, with a ticket of
 /// the pool (IEEE 1666-2011, clause 14.5). `Full` comes exactly where all slots are live: no entry is made,
 /// and the ticket comes back. It can't fail otherwise.
+#[inline(always)]
 pub fn take<R: Wait, N: Naming<Plan, TlmLaw>>(
     pool: &Shared<Pool, Plan, TlmLaw, N>,
     rt: &R,
@@ -114,6 +118,7 @@ pub fn take<R: Wait, N: Naming<Plan, TlmLaw>>(
 /// Acquires one reference more at `at` picoseconds, with a ticket of the pool from the baton's own wallet
 /// (IEEE 1666-2011, clause 14.5). The baton comes back as part of a cargo, with the new reference. It can't
 /// fail.
+#[inline(always)]
 pub fn acquire<R: Wait, N: Naming<Plan, TlmLaw>>(
     pool: &Shared<Pool, Plan, TlmLaw, N>,
     rt: &R,
@@ -151,6 +156,7 @@ pub fn acquire<R: Wait, N: Naming<Plan, TlmLaw>>(
 
 /// Gives a reference up at `at` picoseconds, with a ticket of the pool (IEEE 1666-2011, clause 14.5), and
 /// answers whether it was the last one of its slot. It can't fail.
+#[inline(always)]
 pub fn release<R: Wait, N: Naming<Plan, TlmLaw>>(
     pool: &Shared<Pool, Plan, TlmLaw, N>,
     rt: &R,
@@ -188,6 +194,7 @@ pub fn release<R: Wait, N: Naming<Plan, TlmLaw>>(
 /// Gives the initiator's own reference up at `at` picoseconds, with a ticket of the pool, and puts the
 /// payload back (IEEE 1666-2011, clause 14.5). The baton's wallet is empty. It answers whether this was the
 /// last reference of its slot. It can't fail.
+#[inline(always)]
 pub fn stow<R: Wait, N: Naming<Plan, TlmLaw>>(
     pool: &Shared<Pool, Plan, TlmLaw, N>,
     rt: &R,
@@ -222,6 +229,7 @@ pub fn stow<R: Wait, N: Naming<Plan, TlmLaw>>(
 }
 
 // The answer to how many slots are live.
+#[inline(always)]
 fn counted(reply: PoolReply) -> u32
     requires { IsLiveReply reply }
     ensures { reply ≡ Replies.Live result }

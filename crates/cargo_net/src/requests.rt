@@ -51,6 +51,7 @@ pub enum Tried {
 }
 
 // The answer to BEGIN_REQ.
+#[inline(always)]
 fn begun_answer(reply: HopReply<Cargo>) -> Begun<Cargo>
     requires { IsBegunReply reply }
     ensures { reply ≡ AnswerTo result }
@@ -65,6 +66,7 @@ fn begun_answer(reply: HopReply<Cargo>) -> Begun<Cargo>
 /// It is tried at `at` picoseconds. `Left` and `Now` spend the ticket. `Busy` comes exactly where a request
 /// is open on the hop or no lane is free: no entry is made, and payload and tickets come back. It can't fail
 /// otherwise.
+#[inline(always)]
 pub fn begin_req<R: Wait, N: Naming<Plan, TlmLaw>>(
     hop: &Shared<Hop<Cargo>, Plan, TlmLaw, N>,
     rt: &R,

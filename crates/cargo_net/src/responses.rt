@@ -41,6 +41,7 @@ pub enum Answered {
 }
 
 // The answer to BEGIN_RESP.
+#[inline(always)]
 fn responded(reply: HopReply<Cargo>) -> Responded<Cargo>
     requires { IsResponded reply }
     ensures { reply ≡ AnswerTo result }
@@ -55,6 +56,7 @@ fn responded(reply: HopReply<Cargo>) -> Responded<Cargo>
 /// (IEEE 1666-2011, clause 15.2). It is tried at `at` picoseconds. `Sent` spends the ticket and hands the
 /// payload to the component upstream. `Busy` comes exactly where a response is open on the hop: no entry
 /// is made, and leg, payload and tickets come back. It can't fail otherwise.
+#[inline(always)]
 pub fn backward<R: Wait, N: Naming<Plan, TlmLaw>>(
     hop: &Shared<Hop<Cargo>, Plan, TlmLaw, N>,
     rt: &R,

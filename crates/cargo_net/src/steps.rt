@@ -26,6 +26,7 @@ use tlm_types::Content;
 use token_book::{Ticket, Tokens};
 
 // Makes a call of a pool, by what the note knows.
+#[inline(always)]
 pub(crate) fn step_pool<R: Wait, N: Naming<Plan, TlmLaw>>(
     pool: &Shared<Pool, Plan, TlmLaw, N>,
     rt: &R,
@@ -60,6 +61,7 @@ pub(crate) fn step_pool<R: Wait, N: Naming<Plan, TlmLaw>>(
 }
 
 // Makes a call of a hop, by what the note knows.
+#[inline(always)]
 pub(crate) fn step_hop<R: Wait, N: Naming<Plan, TlmLaw>>(
     hop: &Shared<Hop<Cargo>, Plan, TlmLaw, N>,
     rt: &R,

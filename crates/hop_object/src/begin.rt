@@ -21,6 +21,7 @@ impl<T> Hop<T> {
 
     /// BEGIN_REQ. Busy comes exactly where a request is open or no lane is free, and changes nothing.
     /// Else the entry's time is the greater of `at` and that of the last call that ended a request.
+    #[inline(always)]
     pub fn begin_req(
         &mut self,
         tokens: &Tokens,
@@ -73,6 +74,7 @@ impl<T> Hop<T> {
     }
 
     // A BEGIN_REQ whose item waits for the component downstream.
+    #[inline(always)]
     fn leave(&mut self, position: u64, txn: TxnId, at: Ps, state: LaneState, item: T)
         requires can { can_begin self.old ≡ true }
         requires may { MayCall self.old position }
@@ -102,6 +104,7 @@ impl<T> Hop<T> {
     }
 
     // A BEGIN_REQ that is answered with BEGIN_RESP: the leg goes back at once.
+    #[inline(always)]
     fn answer_now(&mut self, tokens: &Tokens, position: u64, txn: TxnId, at: Ps) -> Leg
         requires tokens { self.old.book.table ≡ tokens.now }
         requires can { can_begin self.old ≡ true }
@@ -133,6 +136,7 @@ impl<T> Hop<T> {
     }
 
     // A BEGIN_REQ that ends the transaction.
+    #[inline(always)]
     fn complete_now(&mut self, position: u64, txn: TxnId, at: Ps)
         requires can { can_begin self.old ≡ true }
         requires may { MayCall self.old position }

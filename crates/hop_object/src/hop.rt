@@ -119,6 +119,7 @@ impl<T> Hop<T> {
     }
 
     /// Whether a BEGIN_REQ is taken now.
+    #[inline(always)]
     pub fn can_begin(&self) -> bool
         ensures { result ≡ can_begin self.now }
     {
@@ -126,6 +127,7 @@ impl<T> Hop<T> {
     }
 
     /// Whether a BEGIN_RESP is taken now.
+    #[inline(always)]
     pub fn can_respond(&self) -> bool
         ensures { result ≡ not (any_responding self.now.lanes) }
     {
@@ -133,6 +135,7 @@ impl<T> Hop<T> {
     }
 
     /// Whether a lane has this leg.
+    #[inline(always)]
     pub fn knows(&self, leg: &Leg) -> bool
         ensures { result ≡ list_any (has_leg leg.now.name) self.now.lanes }
     {
@@ -148,6 +151,7 @@ impl<T> Hop<T> {
 }
 
 // Adds the entry of a call with its mark, for which there is room.
+#[inline(always)]
 pub(crate) fn push_call(log: &mut NumberedLog, head: Head, phase: Phase, answer: TlmSync, mark: u32)
     requires { length log.old.events < log.old.room }
     ensures { log.new ≡ with_event log.old (event_of (entry_at head (Call phase answer)) mark) }

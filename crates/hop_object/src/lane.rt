@@ -131,6 +131,7 @@ pub(crate) fn all_ended<T>(lanes: &[Lane<T>], txn: TxnId) -> bool
     lanes.iter().all(|lane| lane.is_ended(txn))
 }
 
+#[inline(always)]
 pub(crate) fn any_leg<T>(lanes: &[Lane<T>], name: u32) -> bool
     requires { All HasPosition lanes.now }
     ensures { result ≡ list_any (has_leg name) lanes.now }
@@ -138,6 +139,7 @@ pub(crate) fn any_leg<T>(lanes: &[Lane<T>], name: u32) -> bool
     lanes.iter().any(|lane| lane.has_leg(name))
 }
 
+#[inline(always)]
 fn find_leg<T>(lanes: &[Lane<T>], name: u32) -> Option<usize>
     requires { All HasPosition lanes.now }
     ensures { result ≡ position (has_leg name) lanes.now }
@@ -146,6 +148,7 @@ fn find_leg<T>(lanes: &[Lane<T>], name: u32) -> Option<usize>
 }
 
 // The place of the lane whose leg has this name.
+#[inline(always)]
 pub(crate) fn lane_of<T>(lanes: &[Lane<T>], name: u32) -> usize
     requires placed { All HasPosition lanes.now }
     requires out { 1 ≤ legs_out name lanes.now }
@@ -157,6 +160,7 @@ pub(crate) fn lane_of<T>(lanes: &[Lane<T>], name: u32) -> usize
 }
 
 // Moves a lane on, and hands out what it carried.
+#[inline(always)]
 pub(crate) fn change<T>(
     lanes: &mut Vec<Lane<T>>,
     index: usize,
@@ -177,6 +181,7 @@ pub(crate) fn change<T>(
 }
 
 // Ends a lane, and hands out what it carried.
+#[inline(always)]
 pub(crate) fn take_out<T>(lanes: &mut Vec<Lane<T>>, index: usize) -> Option<T>
     requires { index < length lanes.old.items }
     ensures lanes { RemovedAt lanes.old.items lanes.new.items index result }
@@ -194,6 +199,7 @@ pub(crate) fn take_out<T>(lanes: &mut Vec<Lane<T>>, index: usize) -> Option<T>
 }
 
 // Lets nothing go: an item can't be dropped.
+#[inline(always)]
 pub(crate) fn let_go<T>(item: Option<T>)
     requires { item ≡ None }
 {
@@ -204,6 +210,7 @@ pub(crate) fn let_go<T>(item: Option<T>)
 }
 
 // Appends a lane, and takes no memory.
+#[inline(always)]
 pub(crate) fn put<T>(lanes: &mut Vec<Lane<T>>, lane: Lane<T>)
     requires { vec_len lanes.old < vec_capacity lanes.old }
     ensures items { lanes.new.items ≡ lanes.old.items ++ lane ∷ [] }

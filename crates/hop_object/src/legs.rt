@@ -12,6 +12,7 @@ use base_phases::LaneState;
 use token_book::{Book, Tokens};
 
 // Gives a leg back to the book, and finds its lane: what is out is what the lanes say.
+#[inline(always)]
 pub(crate) fn redeem<T>(tokens: &Tokens, book: &mut Book, lanes: &[Lane<T>], leg: Leg) -> usize
     requires tokens { book.old.table ≡ tokens.now }
     requires leg { (leg.table ≡ tokens.now) × (leg.owner ≡ book.old.owner) }
@@ -32,6 +33,7 @@ pub(crate) fn redeem<T>(tokens: &Tokens, book: &mut Book, lanes: &[Lane<T>], leg
 }
 
 // The leg of a lane.
+#[inline(always)]
 pub(crate) fn issue(tokens: &Tokens, book: &mut Book, position: u64, state: LaneState) -> Leg
     requires tokens { book.old.table ≡ tokens.now }
     requires position { position < 1000000 }

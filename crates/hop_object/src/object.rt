@@ -14,6 +14,7 @@ impl<T> Hop<T> {
     ghost use Rattle.hop_object.specs.Objects.{is_admitted, Applied, IsFit};
 
     // Makes a call.
+    #[inline(always)]
     fn answer(&mut self, tokens: &Tokens, position: u64, call: HopCall<T>) -> HopReply<T>
         requires tokens { self.old.book.table ≡ tokens.now }
         requires fit { IsFit self.old call }
@@ -89,6 +90,7 @@ impl<T> Object for Hop<T> {
         Hop::number(self)
     }
 
+    #[inline(always)]
     fn admits(&self, call: &HopCall<T>) -> bool {
         // Here and after a call, the clauses of `log` say that the lanes are those of the log.
         let _ = Hop::log(self);
@@ -104,6 +106,7 @@ impl<T> Object for Hop<T> {
         Sign::Plain
     }
 
+    #[inline(always)]
     fn apply(&mut self, tokens: &Tokens, position: u64, call: HopCall<T>) -> HopReply<T> {
         let reply = self.answer(tokens, position, call);
         let _ = Hop::log(self);

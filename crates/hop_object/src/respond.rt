@@ -21,6 +21,7 @@ impl<T> Hop<T> {
     /// BEGIN_RESP by a leg whose lane is Requested or Waiting. Busy comes exactly where another lane is
     /// Responding, and changes nothing. Else the entry's time is the greatest of `at`, the time of the
     /// lane's last call, and those of all calls that ended a response.
+    #[inline(always)]
     pub fn begin_resp(
         &mut self,
         tokens: &Tokens,
@@ -45,6 +46,7 @@ impl<T> Hop<T> {
     }
 
     // A BEGIN_RESP that is taken.
+    #[inline(always)]
     fn respond(&mut self, tokens: &Tokens, position: u64, leg: Leg, at: Ps, item: T) -> Responded<T>
         requires tokens { self.old.book.table ≡ tokens.now }
         requires leg { IsLegOf self.old leg Requested ⊎ IsLegOf self.old leg Waiting }

@@ -54,6 +54,7 @@ impl Object for Pool {
         self.initiator()
     }
 
+    #[inline(always)]
     fn admits(&self, call: &PoolCall) -> bool {
         // Here and after a call, the clauses of `log` say that the slots are those of the log.
         let _ = Pool::log(self);
@@ -77,6 +78,7 @@ impl Object for Pool {
         }
     }
 
+    #[inline(always)]
     fn apply(&mut self, tokens: &Tokens, position: u64, call: PoolCall) -> PoolReply {
         let reply = match call {
             PoolCall::Take { txn, at } => PoolReply::Took(self.take(tokens, position, txn, at)),

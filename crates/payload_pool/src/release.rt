@@ -14,6 +14,7 @@ use token_book::{Token, Tokens};
 
 impl Pool {
     // Takes the reference of this token back, with what it brings back.
+    #[inline(always)]
     fn give_back(
         &mut self,
         tokens: &Tokens,
@@ -48,6 +49,7 @@ impl Pool {
     }
 
     /// Gives a reference up. It answers whether that was the last of its slot.
+    #[inline(always)]
     pub fn release(&mut self, tokens: &Tokens, position: u64, hold: Hold, at: Ps) -> bool
         requires tokens { self.old.book.table ≡ tokens.now }
         requires hold { IsOut self.old hold }
@@ -61,6 +63,7 @@ impl Pool {
 
     /// Gives the initiator's own reference up, and puts the payload and its empty wallet back. It answers
     /// whether that was the last reference of the slot.
+    #[inline(always)]
     pub fn stow(&mut self, tokens: &Tokens, position: u64, baton: Baton, at: Ps) -> bool
         requires tokens { self.old.book.table ≡ tokens.now }
         requires baton { IsOut self.old baton.own }

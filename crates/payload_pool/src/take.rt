@@ -54,6 +54,7 @@ fn issue_own(tokens: &Tokens, book: &mut Book, name: u32) -> Own
 impl Pool {
     /// Takes the payload of the least free slot, which is then as new. None exactly where all slots are
     /// live. The position is past all entries, so that no two batons have one name.
+    #[inline(always)]
     pub fn take(&mut self, tokens: &Tokens, position: u64, txn: TxnId, at: Ps) -> Option<Baton>
         requires tokens { self.old.book.table ≡ tokens.now }
         requires position { has_free self.old ≡ true → position < 1000000 }
@@ -78,6 +79,7 @@ impl Pool {
     }
 
     /// Acquires one reference more, with a baton that has acquired fewer than 15.
+    #[inline(always)]
     pub fn acquire(&mut self, tokens: &Tokens, position: u64, baton: Baton, at: Ps) -> (Baton, Hold)
         requires tokens { self.old.book.table ≡ tokens.now }
         requires baton { IsOut self.old baton.own }

@@ -17,6 +17,7 @@ use tlm_types::Content;
 use token_book::{Book, Ticket, Tokens};
 
 // The ticket goes back into the book.
+#[inline(always)]
 fn retire(tickets: &Tokens, book: &mut Book, ticket: Ticket)
     requires book { book.old.table ≡ tickets.now }
     requires ticket { IsTicket tickets.now book.old.owner ticket }
@@ -54,6 +55,7 @@ impl<D: Said> Drawn<Content> for Says<D> {
 }
 
 // The call picks D's content, which is that of the object's call.
+#[inline(always)]
 fn draw_for<O: Object, G, W: Law<Content, G>, D: Said>(
     history: &History<Content, G, W>,
     seat: &mut ObjectSeat<Content, G, W>,
@@ -89,6 +91,7 @@ fn draw_for<O: Object, G, W: Law<Content, G>, D: Said>(
 }
 
 // The call picks D's number, which is that of the reply.
+#[inline(always)]
 fn copy_for<O: Object, G, W: Law<Content, G>, D: Looked>(
     history: &History<Content, G, W>,
     seat: &mut ObjectSeat<Content, G, W>,
@@ -105,6 +108,7 @@ fn copy_for<O: Object, G, W: Law<Content, G>, D: Looked>(
 }
 
 // Where the call is admitted, its ticket goes into the book and its entry is drawn. Else nothing is.
+#[inline(always)]
 fn enter<O: Object, G, W: Law<Content, G>>(
     history: &History<Content, G, W>,
     tickets: &Tokens,
@@ -158,6 +162,7 @@ fn enter<O: Object, G, W: Law<Content, G>>(
 }
 
 // The seat leaves the gate, if there is one.
+#[inline(always)]
 fn leave_if<G, W: Law<Content, G>>(
     history: &History<Content, G, W>,
     seat: &mut ObjectSeat<Content, G, W>,
