@@ -13,6 +13,7 @@
 #![tactic(auto)]
 
 mod place;
+mod places;
 mod ticket;
 mod tokens;
 mod view;

@@ -1,14 +1,12 @@
 // Wallets: the tickets of many objects.
-ghost use Rattle.std.specs.Prelude.{◌≡◌, ℕ, ◌+◌, ◌-◌, ◌<◌, ◌≤◌, ◌==◌, ◌↔◌, length, remove, slice_get, vec_len, vec_capacity, if◌then◌else◌, IfOk, IfSome, IfNone, IsTrue, Some, None};
-ghost use Rattle.std.specs.Ordering.{nat_cmp};
-ghost use Rattle.std.specs.FinMap as map;
+ghost use Rattle.std.specs.Prelude.{◌≡◌, ℕ, ◌+◌, ◌-◌, ◌<◌, ◌≤◌, ◌==◌, ◌↔◌, if◌then◌else◌, IfOk, IsTrue};
 ghost use Rattle.atomic_table.specs.Seated.{TableId};
 ghost use Rattle.token_book.specs.Account.{amount_of, out_of};
 ghost use Rattle.token_book.specs.Ticket.{entry_right, bytes_rights, IsTicket};
-ghost use Rattle.token_book.specs.Pocket.{Pocket, tickets_in, bytes_in, with_token};
-ghost use Rattle.token_book.specs.Purse.{empty_purse, left_of, bytes_of, HasPlace, HasRoom, HasRoomForAll, IsOf, with_more, with_pocket, pocket_of, pulled, put_in};
+ghost use Rattle.token_book.specs.Pocket.{tickets_in, bytes_in};
+ghost use Rattle.token_book.specs.Purse.{empty_purse, left_of, bytes_of, HasPlace, HasRoom, HasRoomForAll, IsOf, pulled, put_in};
 
-use crate::place::ObjectRights;
+use crate::places::Places;
 use crate::ticket::Ticket;
 use crate::tokens::{Book, Token, Tokens};
 use std::alloc::Global;
@@ -17,47 +15,20 @@ use tlm_types::Memory;
 
 /// The tickets of many objects. It has a place for each object of which it holds some, and its places
 /// are made with it. Contracts see how many places it has, and what it holds of each object.
+// They are in a box, so that handing a payload on with its wallet moves no more than a pointer.
 #[derive(Drop)]
 pub struct Wallet {
-    most: u32,
-    places: Vec<ObjectRights>,
+    all: Box<Places, Global>,
 }
 
 impl Model for Wallet {
-    ghost use Rattle.token_book.specs.Purse.{Purse, purse_code, purse, IsPurse};
+    ghost use Rattle.token_book.specs.Purse.{Purse, purse_code};
 
     ghost Value = { Purse };
 
     ghost coded = { purse_code };
 
-    ghost view = { λ w. purse w.most w.places.items };
-
-    ghost invariant = { λ w. IsPurse w.most w.places };
-}
-
-// The place of an object.
-fn index_of(places: &[ObjectRights], object: u32) -> Option<usize>
-    ensures found { IfSome result (λ i. (p : Pocket) × (slice_get places.now i ≡ Some (object, p)) × (map.find nat_cmp object places.now ≡ Some p)) }
-    ensures none { IfNone result (map.find nat_cmp object places.now ≡ None) }
-{
-    for i in 0..places.len() {
-        if places[i].object() == object {
-            return Some(i);
-        }
-    }
-    None
-}
-
-// Takes the place at an index out if it is empty.
-fn drop_empty(places: &mut Vec<ObjectRights>, i: usize)
-    requires { i < vec_len places.old }
-    ensures items { (e : ℕ × Pocket) → slice_get places.old.items i ≡ Some e → places.new.items ≡ (if e.1.left + e.1.bytes == 0 then remove places.old.items i else places.old.items) }
-    ensures len { vec_len places.new ≤ vec_len places.old }
-    ensures capacity { vec_capacity places.new ≡ vec_capacity places.old }
-{
-    if places[i].is_empty() {
-        places.remove(i);
-    }
+    ghost view = { λ w. w.all.value };
 }
 
 impl Wallet {
@@ -67,22 +38,10 @@ impl Wallet {
         ensures empty { IfOk result (λ w. (o : ℕ) → (left_of w o ≡ 0) × (bytes_of w o ≡ 0)) }
         ensures of { IfOk result (λ w. (table : TableId) → IsOf table w) }
     {
+        let places = Places::new(alloc, places)?;
         Ok(Wallet {
-            most: places,
-            places: Vec::with_capacity(alloc, places as usize)?,
+            all: Box::new(alloc, places)?,
         })
-    }
-
-    // The place of an object.
-    fn place(&self, object: u32) -> Option<&ObjectRights>
-        ensures found { IfSome result (λ place. map.get self.now.held object ≡ Some place.now.1) }
-        ensures none { IfNone result (map.get self.now.held object ≡ None) }
-        ensures place { HasPlace self.now object ↔ (0 < left_of self.now object + bytes_of self.now object) }
-    {
-        match index_of(&self.places, object) {
-            Some(i) => Some(&self.places[i]),
-            None => None,
-        }
     }
 
     /// How many tickets of the object it holds.
@@ -90,10 +49,7 @@ impl Wallet {
         ensures left { result ≡ left_of self.now object }
         ensures place { HasPlace self.now object ↔ (0 < left_of self.now object + bytes_of self.now object) }
     {
-        match self.place(object) {
-            Some(place) => place.left(),
-            None => 0,
-        }
+        self.all.left(object)
     }
 
     /// How many bytes of the object it holds the right to.
@@ -101,31 +57,14 @@ impl Wallet {
         ensures bytes { result ≡ bytes_of self.now object }
         ensures place { HasPlace self.now object ↔ (0 < left_of self.now object + bytes_of self.now object) }
     {
-        match self.place(object) {
-            Some(place) => place.bytes(),
-            None => 0,
-        }
+        self.all.bytes(object)
     }
 
     /// Whether it holds nothing.
     pub fn is_empty(&self) -> bool
         ensures { IsTrue result ↔ (self.now ≡ empty_purse self.now.places) }
     {
-        self.places.is_empty()
-    }
-
-    // Keeps a place unless it is empty.
-    fn keep(&mut self, place: ObjectRights)
-        requires new { map.get self.old.held place.0 ≡ None }
-        requires room { map.len self.old.held < self.old.places }
-        ensures { self.new ≡ with_pocket self.old place.0 place.1 }
-    {
-        if place.is_empty() {
-            return;
-        }
-        let Ok(()) = self.places.push(place) else {
-            unreachable!()
-        };
+        self.all.is_empty()
     }
 
     /// Takes out a ticket of the object for so many bytes. It has no bytes where it is for 0.
@@ -144,12 +83,7 @@ impl Wallet {
         ensures ticket { IsTicket tokens.now object result }
         ensures amount { amount_of result.bytes ≡ bytes }
     {
-        let Some(i) = index_of(&self.places, object) else {
-            unreachable!()
-        };
-        let ticket = self.places[i].pull(tokens, bytes);
-        drop_empty(&mut self.places, i);
-        ticket
+        self.all.pull(tokens, object, bytes)
     }
 
     /// Puts in a token of the name 0, which is tickets of its owner, or of the name 1, which is bytes.
@@ -163,36 +97,7 @@ impl Wallet {
         ensures left { (o : ℕ) → left_of self.new o ≡ (if o == token.owner then left_of self.old o + tickets_in token else left_of self.old o) }
         ensures bytes { (o : ℕ) → bytes_of self.new o ≡ (if o == token.owner then bytes_of self.old o + bytes_in token else bytes_of self.old o) }
     {
-        match index_of(&self.places, token.owner()) {
-            Some(i) => self.places[i].add(tokens, token),
-            None => self.keep(ObjectRights::of(token)),
-        }
-    }
-
-    // Takes out all that it holds of one object. Where it holds nothing, it stays so.
-    fn pop(&mut self) -> Option<ObjectRights>
-        ensures some { IfSome result (λ place. (map.get self.old.held place.0 ≡ Some place.1) × (0 < place.1.left + place.1.bytes)) }
-        ensures left { IfSome result (λ place. self.new ≡ record self.old { held = map.remove self.old.held place.0 }) }
-        ensures fewer { IfSome result (λ _. map.len self.new.held < map.len self.old.held) }
-        ensures none { IfNone result ((self.old ≡ empty_purse self.old.places) × (self.new ≡ self.old)) }
-    {
-        if self.places.is_empty() {
-            return None;
-        }
-        Some(self.places.remove(self.places.len() - 1))
-    }
-
-    // Puts in what another wallet had of one object.
-    fn put_place(&mut self, tokens: &Tokens, place: ObjectRights)
-        requires of { IsOf tokens.now self.old }
-        requires place { place.1.table ≡ tokens.now }
-        requires room { HasRoom self.old place.0 }
-        ensures { self.new ≡ with_more tokens.now self.old place.0 place.1 }
-    {
-        match index_of(&self.places, place.object()) {
-            Some(i) => self.places[i].take_in(tokens, place),
-            None => self.keep(place),
-        }
+        self.all.put(tokens, token);
     }
 
     /// Moves all that another wallet holds into this one, which has room for it. The other one is empty
@@ -207,22 +112,7 @@ impl Wallet {
         ensures empty { from.new ≡ empty_purse from.old.places }
         ensures full { (o : ℕ) → HasPlace self.new o → 0 < left_of self.new o + bytes_of self.new o }
     {
-        while let Some(place) = from.pop() {
-            self.put_place(tokens, place);
-        }
-        let _ = &self.places;
-    }
-
-    // Takes out all that it holds of this object.
-    fn take_out(&mut self, object: u32) -> Option<ObjectRights>
-        ensures some { IfSome result (λ place. (place.0 ≡ object) × (map.get self.old.held object ≡ Some place.1) × (0 < place.1.left + place.1.bytes)) }
-        ensures left { IfSome result (λ _. self.new ≡ record self.old { held = map.remove self.old.held object }) }
-        ensures none { IfNone result ((map.get self.old.held object ≡ None) × (self.new ≡ self.old)) }
-    {
-        let Some(i) = index_of(&self.places, object) else {
-            return None;
-        };
-        Some(self.places.remove(i))
+        self.all.put_all(tokens, &mut from.all);
     }
 
     /// Retires all tickets and bytes that it holds of the owner of a book into that book. What it holds of
@@ -237,8 +127,6 @@ impl Wallet {
         ensures tickets { out_of 0 book.new.out + left_of self.old book.old.owner ≡ out_of 0 book.old.out }
         ensures bytes { out_of 1 book.new.out + bytes_of self.old book.old.owner ≡ out_of 1 book.old.out }
     {
-        if let Some(rights) = self.take_out(book.owner()) {
-            rights.retire(tokens, book);
-        }
+        self.all.hand_back(tokens, book);
     }
 }

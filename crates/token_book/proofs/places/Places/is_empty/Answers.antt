@@ -1,7 +1,7 @@
 use Rattle.std.proofs.Common.{◌≡◌, ℕ, ◌==◌, Bool, IsTrue, arith}
 use Rattle.std.proofs.lemmas.Grind.{common_steps}
 use Rattle.token_book.proofs.PlaceLists.{empty_from, none_from}
-use Rattle.token_book.proofs.wallet.Wallet.is_empty.Goals as goal
+use Rattle.token_book.proofs.places.Places.is_empty.Goals as goal
 
 tells : (b : Bool) (n : ℕ) → b ≡ (n == 0) → (IsTrue b → n ≡ 0) × (n ≡ 0 → IsTrue b)
 tells b n is = grind (arith, common_steps)

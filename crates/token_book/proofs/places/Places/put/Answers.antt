@@ -8,7 +8,7 @@ use Rattle.token_book.specs.Purse.{Purse, purse, left_of, bytes_of, IsOf, AreApa
 use Rattle.token_book.proofs.PlaceLists.{AreApart-set, AreFull-set, free_place}
 use Rattle.token_book.proofs.FoundPlaces.{IsFound, found, full_found, held_found, with_pocket-settled}
 use Rattle.token_book.proofs.Pulls.{left_of-put_in, bytes_of-put_in, IsOf-put_in}
-use Rattle.token_book.proofs.wallet.Wallet.put.Goals as goal
+use Rattle.token_book.proofs.places.Places.put.Goals as goal
 
 -- the place that was found
 here : (c : goal.After-index_mut) → IsFound c.args.self.now c.args.token.owner c.in-Some.i c.self.inside.places.items c.index_mut.result.now

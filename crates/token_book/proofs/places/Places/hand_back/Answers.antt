@@ -1,7 +1,7 @@
 use Rattle.std.proofs.Common.{sym, ap, ◌∙◌, subst}
 use Rattle.token_book.specs.Purse.{Purse, left_of, IsOf}
 use Rattle.token_book.proofs.Purses.{IsOf-without, left_of-without, none_of-without}
-use Rattle.token_book.proofs.wallet.Wallet.hand_back.Goals as goal
+use Rattle.token_book.proofs.places.Places.hand_back.Goals as goal
 
 pub returns-in-Some-clause-of : goal.returns-in-Some-clause-of
 returns-in-Some-clause-of c = subst (IsOf c.args.tokens.now) (sym c.in-Some.ensures.left) (IsOf-without c.args.tokens.now c.args.self.now c.owner.result c.requires.of)

@@ -2,7 +2,7 @@ use Rattle.std.proofs.Common.{◌≡◌, Some, sym, ap, ◌∙◌}
 use Rattle.std.specs.Prelude.{slice_get}
 use Rattle.std.proofs.lemmas.Option.{slice_get-get_or}
 use Rattle.token_book.proofs.PlaceLists.{find-drop}
-use Rattle.token_book.proofs.wallet.index_of.Goals as goal
+use Rattle.token_book.proofs.places.index_of.Goals as goal
 
 pub returns-then-object-clause-found : goal.returns-then-object-clause-found
 returns-then-object-clause-found c =

@@ -9,7 +9,7 @@ use Rattle.std.specs.FinMap.{FinMap, get-from_entries}
 use Rattle.token_book.specs.Pocket.{Pocket}
 use Rattle.token_book.specs.Purse.{Purse, purse, AreApart, AreFull}
 use Rattle.token_book.proofs.PlaceLists.{AreApart-remove, AreFull-remove, find-at, find_full, from_entries-remove, len-places}
-use Rattle.token_book.proofs.wallet.Wallet.pop.Goals as goal
+use Rattle.token_book.proofs.places.Places.pop.Goals as goal
 
 -- the place that is taken out stands at its index
 at : (c : goal.After-remove) → slice_get c.self.inside.places.items (c.len.result - 1) ≡ Some c.remove.result

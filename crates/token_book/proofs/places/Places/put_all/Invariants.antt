@@ -1,7 +1,7 @@
 use Rattle.std.proofs.Common.{◌≡◌, ℕ, ◌+◌}
 use Rattle.std.specs.FinMap as map
 use Rattle.token_book.specs.Purse.{HasRoomForAll, IsOf, bytes_of, left_of}
-use Rattle.token_book.proofs.wallet.Wallet.put_all.Given as goal
+use Rattle.token_book.proofs.places.Places.put_all.Given as goal
 
 abbrev pub invariant-loop-place : goal.invariant-loop-place
 invariant-loop-place l = record {

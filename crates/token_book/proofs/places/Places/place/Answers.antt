@@ -2,7 +2,7 @@ use Rattle.std.proofs.Common.{◌+◌, ◌<◌, None, subst}
 use Rattle.token_book.specs.Purse.{Purse, HasPlace, left_of, bytes_of}
 use Rattle.token_book.proofs.PlaceLists.{placed}
 use Rattle.token_book.proofs.FoundPlaces.{found, held_found}
-use Rattle.token_book.proofs.wallet.Wallet.place.Goals as goal
+use Rattle.token_book.proofs.places.Places.place.Goals as goal
 
 pub returns-in-Some-clause-found : goal.returns-in-Some-clause-found
 returns-in-Some-clause-found c =

@@ -2,7 +2,7 @@ use Rattle.std.proofs.Common.{◌+◌, ◌<◌, sym, ap, ◌∙◌, subst, arith
 use Rattle.token_book.specs.Purse.{HasPlace, HasRoomForAll, IsOf, Purse, bytes_of, left_of}
 use Rattle.token_book.proofs.PlaceLists.{placed}
 use Rattle.token_book.proofs.Merging.{bytes_moved, bytes_none, has_room, left_moved, left_none, more, of_less, of_more, room_moved}
-use Rattle.token_book.proofs.wallet.Wallet.put_all.Goals as goal
+use Rattle.token_book.proofs.places.Places.put_all.Goals as goal
 
 pub put_place-requires-clause-room : goal.put_place-requires-clause-room
 put_place-requires-clause-room c =

@@ -8,7 +8,7 @@ use Rattle.token_book.specs.Pocket.{Pocket}
 use Rattle.token_book.specs.Purse.{Purse, purse, with_pocket, AreApart, AreFull}
 use Rattle.token_book.proofs.Purses.{with_pocket-empty}
 use Rattle.token_book.proofs.PlaceLists.{AreApart-push, AreFull-push, len-places, with_pocket-push}
-use Rattle.token_book.proofs.wallet.Wallet.keep.Goals as goal
+use Rattle.token_book.proofs.places.Places.keep.Goals as goal
 
 pub returns-then-is_empty : goal.returns-then-is_empty
 returns-then-is_empty c =

@@ -1,7 +1,7 @@
 use Rattle.std.proofs.Common.{◌≡◌, drop}
 use Rattle.std.specs.Ordering.{nat_cmp}
 use Rattle.std.specs.FinMap as map
-use Rattle.token_book.proofs.wallet.index_of.Given as goal
+use Rattle.token_book.proofs.places.index_of.Given as goal
 
 abbrev pub invariant-loop-i : goal.invariant-loop-i
 invariant-loop-i l = map.find nat_cmp l.object l.places ≡ map.find nat_cmp l.object (drop l.i l.places)

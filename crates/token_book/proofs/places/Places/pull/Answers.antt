@@ -6,7 +6,7 @@ use Rattle.token_book.specs.Purse.{Purse, purse, left_in, bytes_left_in, left_of
 use Rattle.token_book.proofs.FoundPlaces.{IsFound, found, held_found, get-set, settled, AreApart-settled, AreFull-settled, with_pocket-settled}
 use Rattle.token_book.proofs.Pulls.{left_of-pulled, bytes_of-pulled, IsOf-pulled}
 use Rattle.token_book.proofs.Rooms.{held-pulled}
-use Rattle.token_book.proofs.wallet.Wallet.pull.Goals as goal
+use Rattle.token_book.proofs.places.Places.pull.Goals as goal
 
 -- the place that was found
 here : (c : goal.After-index_mut) → IsFound c.args.self.now c.args.object c.in-Some.i c.self.inside.places.items c.index_mut.result.now

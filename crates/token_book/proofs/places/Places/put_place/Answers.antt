@@ -8,7 +8,7 @@ use Rattle.token_book.specs.Purse.{purse, AreApart, AreFull, with_pocket}
 use Rattle.token_book.proofs.PlaceLists.{AreApart-set, AreFull-set, free_place}
 use Rattle.token_book.proofs.FoundPlaces.{IsFound, found, full_found, held_found, with_pocket-settled}
 use Rattle.token_book.proofs.Merging.{only_more}
-use Rattle.token_book.proofs.wallet.Wallet.put_place.Goals as goal
+use Rattle.token_book.proofs.places.Places.put_place.Goals as goal
 
 -- the place that was found
 here : (c : goal.After-index_mut) → IsFound c.args.self.now c.args.place.0 c.in-Some.i c.self.inside.places.items c.index_mut.result.now

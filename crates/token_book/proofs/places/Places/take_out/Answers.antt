@@ -7,7 +7,7 @@ use Rattle.token_book.specs.Pocket.{Pocket}
 use Rattle.token_book.specs.Purse.{Purse, purse, AreApart, AreFull}
 use Rattle.token_book.proofs.FoundPlaces.{IsFound, found, held_found}
 use Rattle.token_book.proofs.PlaceLists.{AreApart-remove, AreFull-remove, find-at, find_full, from_entries-remove}
-use Rattle.token_book.proofs.wallet.Wallet.take_out.Goals as goal
+use Rattle.token_book.proofs.places.Places.take_out.Goals as goal
 
 pub returns-in_default-clause-none : goal.returns-in_default-clause-none
 returns-in_default-clause-none c = (held_found c.args.self.now c.self.inside.most c.args.object c.self.inside.places.items c.deref.result.now None c.self.view_is c.deref.ensures.value c.in_default.ensures.none, refl)
