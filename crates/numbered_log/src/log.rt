@@ -58,6 +58,7 @@ impl NumberedLog {
     }
 
     /// Appends an entry with its number. The room for it is there.
+    #[inline(always)]
     pub fn push(&mut self, head: Head, what: What, number: u32)
         requires room { length self.old.events < self.old.room }
         requires what { is_access what ≡ false }

@@ -154,6 +154,7 @@ impl<N: Naming<Plan, TlmLaw>> Net<N> {
     /// 15.2), and leaves the access at the memory, where the response comes by return, to the caller. It is
     /// tried at `at` picoseconds. `Busy` comes exactly where a request is open on the hop or no lane is free:
     /// no entry is made, and payload and tickets come back. It can't fail otherwise.
+    #[inline(always)]
     pub fn begin_req<R: Wait>(
         &self,
         rt: &R,
@@ -190,6 +191,7 @@ impl<N: Naming<Plan, TlmLaw>> Net<N> {
     /// Makes END_REQ on a hop, by the leg of a lane whose request is open and a ticket of the hop, which is
     /// spent (IEEE 1666-2011, clause 15.2). It is tried at `at` picoseconds, and answers the leg of the same
     /// lane, which waits for its response, and the time of the entry. It can't fail.
+    #[inline(always)]
     pub fn end_req<R: Wait>(
         &self,
         rt: &R,
@@ -231,6 +233,7 @@ impl<N: Naming<Plan, TlmLaw>> Net<N> {
     /// (IEEE 1666-2011, clause 15.2). It is tried at `at` picoseconds. `Sent` spends the ticket and hands
     /// the payload to the component upstream. `Busy` comes exactly where a response is open on the hop: no
     /// entry is made, and leg, payload and tickets come back. It can't fail otherwise.
+    #[inline(always)]
     pub fn backward<R: Wait>(
         &self,
         rt: &R,
@@ -269,6 +272,7 @@ impl<N: Naming<Plan, TlmLaw>> Net<N> {
     /// Makes END_RESP on a hop, by the leg of a lane whose response is open and a ticket of the hop, which
     /// is spent (IEEE 1666-2011, clause 15.2). It is tried at `at` picoseconds, and answers the time of the
     /// entry. It can't fail.
+    #[inline(always)]
     pub fn end_resp<R: Wait>(
         &self,
         rt: &R,
@@ -308,6 +312,7 @@ impl<N: Naming<Plan, TlmLaw>> Net<N> {
 
     /// Fetches the request that waits on a hop with the least time, equal times in order of arrival; none
     /// exactly where none waits. It makes no entry and spends no ticket.
+    #[inline(always)]
     pub fn fetch_request<R: Wait>(
         &self,
         rt: &R,
@@ -339,6 +344,7 @@ impl<N: Naming<Plan, TlmLaw>> Net<N> {
     /// Fetches the response that waits on a hop with the least time, equal times in order of arrival; none
     /// exactly where none waits. The leg of END_RESP comes where the component upstream accepts responses.
     /// It makes no entry and spends no ticket.
+    #[inline(always)]
     pub fn fetch_response<R: Wait>(
         &self,
         rt: &R,
@@ -369,6 +375,7 @@ impl<N: Naming<Plan, TlmLaw>> Net<N> {
 
     /// Looks whether a transaction has ended on a hop: true exactly where no lane is held by it. It makes no
     /// entry and spends no ticket.
+    #[inline(always)]
     pub fn has_ended<R: Wait>(
         &self,
         rt: &R,
@@ -392,6 +399,7 @@ impl<N: Naming<Plan, TlmLaw>> Net<N> {
     /// Makes the access of a request at its memory, with a ticket of the payload's own wallet, for its bytes
     /// (IEEE 1666-2011, clause 14). Its entry has the time `at`, in picoseconds, of the BEGIN_REQ on the hop
     /// to the memory. The payload comes back with its status and, of a read, its bytes. It can't fail.
+    #[inline(always)]
     pub fn serve<R: Wait>(
         &self,
         rt: &R,

@@ -44,6 +44,7 @@ impl<N: Naming<Plan, TlmLaw>> Net<N> {
     /// Takes a payload for a four-phase access from the pool of its initiator at `at` picoseconds, with a
     /// ticket of the pool (IEEE 1666-2011, clause 14.5). `Full` comes exactly where all slots are live: no
     /// entry is made, and the ticket comes back. It can't fail otherwise.
+    #[inline(always)]
     pub fn take<R: Wait>(
         &self,
         rt: &R,
@@ -130,6 +131,7 @@ impl<N: Naming<Plan, TlmLaw>> Net<N> {
 
     /// Gives a reference to an initiator's payload up at `at` picoseconds, with a ticket of the pool (IEEE
     /// 1666-2011, clause 14.5), and answers whether it was the last one of its slot. It can't fail.
+    #[inline(always)]
     pub fn release<R: Wait>(
         &self,
         rt: &R,
@@ -168,6 +170,7 @@ impl<N: Naming<Plan, TlmLaw>> Net<N> {
     /// Gives the initiator's own reference up at `at` picoseconds, with a ticket of the pool, and puts the
     /// payload back (IEEE 1666-2011, clause 14.5). The baton's wallet is empty. It answers whether this was
     /// the last reference of its slot. It can't fail.
+    #[inline(always)]
     pub fn stow<R: Wait>(
         &self,
         rt: &R,
@@ -223,6 +226,7 @@ impl<N: Naming<Plan, TlmLaw>> Net<N> {
     /// window, in bytes (IEEE 1666-2011, clauses 14.5 and 14.7). `above` is the hop that it was fetched
     /// from, where END_REQ is owed there. The tickets of both come from the payload's own wallet. The
     /// request may then go down on the next hop. It can't fail.
+    #[inline(always)]
     pub fn descend<R: Wait>(
         &self,
         rt: &R,
