@@ -27,7 +27,6 @@ ghost use Rattle.plat_net.specs.Places.{hop_place, memory_behind, memory_place};
 
 use crate::law::{PlatNote, SharedMemory, TlmLaw};
 use crate::net::Net;
-use crate::signs::Signs;
 use cargo_model::Cargo;
 use cargo_net::{Answered, FetchedRequest, FetchedResponse, Forwarded, Tried};
 use hop_object::Leg;
@@ -36,55 +35,6 @@ use shared_object::Naming;
 use std::sync::Wait;
 use tlm_types::{Ps, TxnId};
 use token_book::Ticket;
-
-// Notes what BEGIN_REQ has come to.
-fn note_forwarded(signs: &Signs, hop: u32, forwarded: &Forwarded) {
-    match forwarded {
-        Forwarded::Left { .. } => {
-            signs.leave_request(hop);
-            signs.change_hop(hop);
-        }
-        Forwarded::Now { .. } => signs.change_hop(hop),
-        Forwarded::Busy { .. } => {}
-    }
-}
-
-// The same without the access at the memory.
-fn note_tried(signs: &Signs, hop: u32, tried: &Tried) {
-    match tried {
-        Tried::Left { .. } => {
-            signs.leave_request(hop);
-            signs.change_hop(hop);
-        }
-        Tried::Now { .. } => signs.change_hop(hop),
-        Tried::Busy { .. } => {}
-    }
-}
-
-// Notes what BEGIN_RESP has come to.
-fn note_answered(signs: &Signs, hop: u32, answered: &Answered) {
-    match answered {
-        Answered::Sent { .. } => {
-            signs.leave_response(hop);
-            signs.change_hop(hop);
-        }
-        Answered::Busy { .. } => {}
-    }
-}
-
-// Notes that a request was fetched, if one was.
-fn note_request(signs: &Signs, hop: u32, fetched: &Option<FetchedRequest>) {
-    if fetched.is_some() {
-        signs.take_request(hop);
-    }
-}
-
-// Notes that a response was fetched, if one was.
-fn note_response(signs: &Signs, hop: u32, fetched: &Option<FetchedResponse>) {
-    if fetched.is_some() {
-        signs.take_response(hop);
-    }
-}
 
 impl<N: Naming<Plan, TlmLaw>> Net<N> {
     // What a hop leads to: the memory, if it is one, and the component's latency in picoseconds.
@@ -146,7 +96,7 @@ impl<N: Naming<Plan, TlmLaw>> Net<N> {
             cargo,
             at,
         );
-        note_forwarded(self.signs(), hop, &forwarded);
+        self.signs().note_forwarded(hop, &forwarded);
         forwarded
     }
 
@@ -184,7 +134,7 @@ impl<N: Naming<Plan, TlmLaw>> Net<N> {
             cargo,
             at,
         );
-        note_tried(self.signs(), hop, &tried);
+        self.signs().note_tried(hop, &tried);
         tried
     }
 
@@ -225,7 +175,7 @@ impl<N: Naming<Plan, TlmLaw>> Net<N> {
             ticket,
             at,
         );
-        self.signs().change_hop(hop);
+        self.signs().note_end_req(hop);
         ended
     }
 
@@ -255,6 +205,7 @@ impl<N: Naming<Plan, TlmLaw>> Net<N> {
             IsAnsweredAs N.frame N.tokens (hop_place N.frame.world hop) leg cargo at can.pass can.hop note.knows result }
     {
         let _ = self.plan().platform();
+        let was = leg.state();
         let answered = cargo_net::backward(
             self.hop(hop),
             rt,
@@ -265,7 +216,7 @@ impl<N: Naming<Plan, TlmLaw>> Net<N> {
             cargo,
             at,
         );
-        note_answered(self.signs(), hop, &answered);
+        self.signs().note_answered(hop, was, &answered);
         answered
     }
 
@@ -306,7 +257,7 @@ impl<N: Naming<Plan, TlmLaw>> Net<N> {
             ticket,
             at,
         );
-        self.signs().change_hop(hop);
+        self.signs().note_end_resp(hop);
         ended
     }
 
@@ -337,7 +288,7 @@ impl<N: Naming<Plan, TlmLaw>> Net<N> {
             self.tickets(),
             note,
         );
-        note_request(self.signs(), hop, &fetched.0);
+        self.signs().note_request(hop, &fetched.0);
         fetched
     }
 
@@ -369,7 +320,7 @@ impl<N: Naming<Plan, TlmLaw>> Net<N> {
             self.tickets(),
             note,
         );
-        note_response(self.signs(), hop, &fetched.0);
+        self.signs().note_response(hop, &fetched.0);
         fetched
     }
 

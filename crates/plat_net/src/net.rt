@@ -90,18 +90,8 @@ impl<N: Naming<Plan, TlmLaw>> Net<N> {
         }
     }
 
-    /// How many calls at a hop have made an entry. No clause speaks of this count, nor of the next three: they tell who waits
-    /// when to look again.
-    pub fn hop_changes(&self, hop: u32) -> u64 {
-        self.signs.hop_changes(hop)
-    }
-
-    /// How many references the pool of an initiator has got back.
-    pub fn pool_changes(&self, initiator: u32) -> u64 {
-        self.signs.pool_changes(initiator)
-    }
-
-    /// Whether a request may wait on a hop for the component downstream.
+    /// Whether a request may wait on a hop for the component downstream. No clause speaks of this sign, nor of the next four: they
+    /// tell who waits when a call may come to something.
     pub fn may_have_request(&self, hop: u32) -> bool {
         self.signs.has_request(hop)
     }
@@ -109,6 +99,21 @@ impl<N: Naming<Plan, TlmLaw>> Net<N> {
     /// Whether a response may wait on a hop for the component upstream.
     pub fn may_have_response(&self, hop: u32) -> bool {
         self.signs.has_response(hop)
+    }
+
+    /// Whether BEGIN_REQ may be taken on a hop: no request is open there, and a lane is free.
+    pub fn may_begin(&self, hop: u32) -> bool {
+        self.signs.may_begin(hop)
+    }
+
+    /// Whether BEGIN_RESP may be taken on a hop: no response is open there. So one that was sent may have ended.
+    pub fn may_respond(&self, hop: u32) -> bool {
+        self.signs.may_respond(hop)
+    }
+
+    /// Whether a payload may be taken from the pool of an initiator: a slot is free.
+    pub fn may_take(&self, initiator: u32) -> bool {
+        self.signs.may_take(initiator)
     }
 
     pub(crate) fn signs(&self) -> &Signs {

@@ -66,7 +66,7 @@ impl<N: Naming<Plan, TlmLaw>> Net<N> {
     {
         let _ = self.plan();
         let pool = self.pool(initiator);
-        cargo_net::take(
+        let taken = cargo_net::take(
             pool,
             rt,
             self.history(),
@@ -75,7 +75,9 @@ impl<N: Naming<Plan, TlmLaw>> Net<N> {
             ticket,
             txn,
             at,
-        )
+        );
+        self.signs().note_taken(initiator, &taken);
+        taken
     }
 
     /// Acquires the first reference of an access of an initiator, at the time in picoseconds of its Take,
@@ -163,7 +165,7 @@ impl<N: Naming<Plan, TlmLaw>> Net<N> {
             hold,
             at,
         );
-        self.signs().change_pool(initiator);
+        self.signs().note_released(initiator, released.0);
         released
     }
 
@@ -201,7 +203,7 @@ impl<N: Naming<Plan, TlmLaw>> Net<N> {
             baton,
             at,
         );
-        self.signs().change_pool(initiator);
+        self.signs().note_released(initiator, stowed.0);
         stowed
     }
 
