@@ -1,106 +1,37 @@
-// What spares a router looks in vain: where a going through in haste looks, and which tries it leaves out. No clause rests
-// on what is told here of a hop.
+// What spares a router calls in vain: where a going through in haste looks, and which tries it leaves out. No clause rests
+// on what the net tells of a hop.
 ghost use Rattle.std.specs.Prelude.{◌<◌, length, true};
 ghost use Rattle.router_node.specs.Finds.{AreLookedAt};
 
+use crate::node::RouterNode;
 use crate::stage::{Stage, Step};
 use plat_net::{Net, TlmLaw};
-use route_plan::{Down as Behind, HopEnds, Plan};
+use route_plan::Plan;
 use shared_object::Naming;
-use std::collections::VecDeque;
-use tlm_types::ReqMode;
 
-/// The hops at which a sweep makes no further try: a bit for each, by its number modulo 64. Where two hops have one bit, a
-/// try may be left out that could be made.
-#[derive(Drop)]
-pub(crate) struct Shut {
-    bits: u64,
+/// What a router looks for at a hop: a request from above, or a response from below.
+#[derive(Clone, Copy)]
+pub(crate) enum Wanted {
+    Request,
+    Response,
 }
 
-// The bit of a hop.
-fn bit_of(hop: u32) -> u64 {
-    1u64 << (hop % 64)
-}
-
-// The hop at which a step makes a try with a transaction, where it does.
-fn try_hop(what: Step, stage: &Stage) -> Option<u32> {
-    match stage {
-        Stage::Up(response, _) if matches!(what, Step::Send) => Some(response.hop),
-        Stage::Down(down) if matches!(what, Step::Pass) => Some(down.held.below),
-        _ => None,
+// Whether it may wait there.
+fn may_wait<N: Naming<Plan, TlmLaw>>(net: &Net<N>, wanted: Wanted, hop: u32) -> bool {
+    match wanted {
+        Wanted::Request => net.may_have_request(hop),
+        Wanted::Response => net.may_have_response(hop),
     }
 }
 
-// How the component behind a hop answers BEGIN_REQ.
-fn reply_behind<N: Naming<Plan, TlmLaw>>(net: &Net<N>, hop: u32) -> Option<ReqMode> {
-    let platform = net.plan().platform();
-    let Some(HopEnds { up: _, down }) = net.plan().hop_ends(hop) else {
-        return None;
-    };
-    match down {
-        Behind::Memory(memory) => match platform.memories.as_slice().get(memory as usize) {
-            Some(row) => Some(row.reply),
-            None => None,
-        },
-        Behind::Router(router) => match platform.routers.as_slice().get(router as usize) {
-            Some(row) => Some(row.accept),
-            None => None,
-        },
-    }
-}
-
-// Whether a request stays open on a hop after BEGIN_REQ.
-fn stays_open<N: Naming<Plan, TlmLaw>>(net: &Net<N>, hop: u32) -> bool {
-    matches!(
-        reply_behind(net, hop),
-        Some(ReqMode::Accept) | Some(ReqMode::Short)
-    )
-}
-
-// The hop at which a try with a transaction has left a request or a response open, where it has.
-fn open_hop<N: Naming<Plan, TlmLaw>>(net: &Net<N>, stage: &Stage) -> Option<u32> {
-    match stage {
-        Stage::Below(held) if stays_open(net, held.below) => Some(held.below),
-        Stage::Sent(away) if !away.ended => Some(away.above),
-        _ => None,
-    }
-}
-
-impl Shut {
-    /// No hop.
-    pub(crate) fn none() -> Shut {
-        Shut { bits: 0 }
-    }
-
-    /// Whether a step leaves a transaction out.
-    pub(crate) fn leaves_out(&self, what: Step, stage: &Stage) -> bool {
-        match try_hop(what, stage) {
-            Some(hop) => self.bits & bit_of(hop) != 0,
-            None => false,
+// Whether it may wait at one of these hops.
+fn may_wait_at<N: Naming<Plan, TlmLaw>>(net: &Net<N>, wanted: Wanted, hops: &[u32]) -> bool {
+    for hop in hops {
+        if may_wait(net, wanted, *hop) {
+            return true;
         }
     }
-
-    /// Shuts the hop of a step that was made with the transaction at a place, where the next one would be refused there.
-    pub(crate) fn shut_after<N: Naming<Plan, TlmLaw>>(
-        &mut self,
-        net: &Net<N>,
-        what: Step,
-        moved: bool,
-        held: &VecDeque<Stage>,
-        at: usize,
-    ) {
-        let Some(stage) = held.get(at) else {
-            return;
-        };
-        let hop = if moved {
-            open_hop(net, stage)
-        } else {
-            try_hop(what, stage)
-        };
-        if let Some(hop) = hop {
-            self.bits = self.bits | bit_of(hop);
-        }
-    }
+    false
 }
 
 // The one that stands at a place.
@@ -121,10 +52,11 @@ fn no_hop(hops: &[u32]) -> &[u32]
     none
 }
 
-/// The hops of windows at which to look for a response: all of these, or in haste the first at which one may wait.
-pub(crate) fn hops_back<'a, N: Naming<Plan, TlmLaw>>(
+/// The hops at which to look: all of these, or in haste the first at which what is wanted may wait.
+pub(crate) fn hops_at<'a, N: Naming<Plan, TlmLaw>>(
     net: &Net<N>,
     hasty: bool,
+    wanted: Wanted,
     hops: &'a [u32],
 ) -> &'a [u32]
     ensures { AreLookedAt hasty hops.now result.now }
@@ -133,28 +65,47 @@ pub(crate) fn hops_back<'a, N: Naming<Plan, TlmLaw>>(
         return hops;
     }
     for at in 0..hops.len() {
-        if net.may_have_response(hops[at]) {
+        if may_wait(net, wanted, hops[at]) {
             return one_at(hops, at);
         }
     }
     no_hop(hops)
 }
 
-/// The hops to a router at which to look for a request: all of these, or in haste the first at which one may wait.
-pub(crate) fn hops_in<'a, N: Naming<Plan, TlmLaw>>(
+// The step that is one for a transaction, where it may move it.
+fn due_step<N: Naming<Plan, TlmLaw>>(net: &Net<N>, stage: &Stage) -> Option<Step> {
+    let (step, may) = match stage {
+        Stage::Sent(away) => (Step::End, away.ended || net.may_respond(away.above)),
+        Stage::Up(response, _) => (Step::Send, net.may_respond(response.hop)),
+        Stage::Down(down) => (Step::Pass, net.may_begin(down.held.below)),
+        Stage::Below(_) => return None,
+    };
+    if may { Some(step) } else { None }
+}
+
+/// Whether a going through in haste leaves a transaction out of a step: it isn't one for it, or wouldn't move it.
+pub(crate) fn leaves_out<N: Naming<Plan, TlmLaw>>(
     net: &Net<N>,
-    hasty: bool,
-    hops: &'a [u32],
-) -> &'a [u32]
-    ensures { AreLookedAt hasty hops.now result.now }
-{
-    if !hasty {
-        return hops;
-    }
-    for at in 0..hops.len() {
-        if net.may_have_request(hops[at]) {
-            return one_at(hops, at);
+    what: Step,
+    stage: &Stage,
+) -> bool {
+    due_step(net, stage) != Some(what)
+}
+
+impl RouterNode {
+    /// Whether a pump may move a transaction, by what the net tells of hops. No clause speaks of it.
+    pub fn may_move<N: Naming<Plan, TlmLaw>>(&self, net: &Net<N>) -> bool {
+        if may_wait_at(net, Wanted::Response, &self.below) && self.stray.is_none() {
+            return true;
         }
+        if self.held.len() < self.room as usize && may_wait_at(net, Wanted::Request, &self.above) {
+            return true;
+        }
+        for at in 0..self.held.len() {
+            if due_step(net, &self.held[at]).is_some() {
+                return true;
+            }
+        }
+        false
     }
-    no_hop(hops)
 }

@@ -15,7 +15,7 @@ ghost use Rattle.router_node.specs.declared.stage.Step.TheVariants as Steps;
 
 use crate::choice::{Turned, turn};
 use crate::finds::{Found, find_back, find_request};
-use crate::haste::{Shut, hops_back, hops_in};
+use crate::haste::{Wanted, hops_at, leaves_out};
 use crate::joins::{is_joined, join};
 use crate::stage::{Away, Stage, Step, finish_away, is_about, look_for_end, move_on};
 use plat_net::{Net, PlatNote, TlmLaw};
@@ -205,14 +205,13 @@ fn move_at<N: Naming<Plan, TlmLaw>, R: Wait>(
     }
 }
 
-// Comes by the transaction at a place: makes the step with it, or in haste leaves it out where the hop of its try is shut.
+// Comes by the transaction at a place: makes the step with it, or in haste leaves it out where that is likely to be in vain.
 // The place of the next one, and whether this one was moved.
 fn come_by<N: Naming<Plan, TlmLaw>, R: Wait>(
     net: &Net<N>,
     rt: &R,
     hasty: bool,
     what: Step,
-    shut: &mut Shut,
     note: PlatNote,
     held: &mut VecDeque<Stage>,
     at: usize,
@@ -228,16 +227,14 @@ fn come_by<N: Naming<Plan, TlmLaw>, R: Wait>(
     ensures capacity { deque_capacity held.new ≡ deque_capacity held.old }
     ensures moved { MovesAt N.frame hasty what at held.old.items held.new.items note.knows result.2.knows result.0 result.1 }
 {
-    if hasty && shut.leaves_out(what, &held[at]) {
+    if hasty && leaves_out(net, what, &held[at]) {
         return (at + 1, false, note);
     }
-    let (next, moved, note) = move_at(net, rt, what, note, held, at);
-    shut.shut_after(net, what, moved, held, at);
-    (next, moved, note)
+    move_at(net, rt, what, note, held, at)
 }
 
 // Makes a step with each transaction that is held, in order. Those that it isn't one for are looked at alone. In haste
-// those are left out for which a try would be refused as another was, or since one was made. Whether one was moved.
+// those are left out with which it would be in vain, by what the net tells. Whether one was moved.
 fn sweep<N: Naming<Plan, TlmLaw>, R: Wait>(
     net: &Net<N>,
     rt: &R,
@@ -259,9 +256,8 @@ fn sweep<N: Naming<Plan, TlmLaw>, R: Wait>(
     let mut note = note;
     let mut moved = false;
     let mut at = 0;
-    let mut shut = Shut::none();
     for _k in 0..held.len() {
-        let (next, did, back) = come_by(net, rt, hasty, what, &mut shut, note, held, at);
+        let (next, did, back) = come_by(net, rt, hasty, what, note, held, at);
         at = next;
         note = back;
         moved = either(moved, did);
@@ -356,7 +352,7 @@ impl RouterNode {
         if self.stray.is_some() {
             return (false, note);
         }
-        let hops = hops_back(net, hasty, self.below.as_slice());
+        let hops = hops_at(net, hasty, Wanted::Response, self.below.as_slice());
         let (found, note) = find_back(net, rt, hops, note);
         let Some(found) = found else {
             return (false, note);
@@ -386,7 +382,7 @@ impl RouterNode {
         if self.held.len() >= self.room as usize {
             return (false, note);
         }
-        let hops = hops_in(net, hasty, self.above.as_slice());
+        let hops = hops_at(net, hasty, Wanted::Request, self.above.as_slice());
         let (request, note) = find_request(net, rt, self.router, hops, note);
         let Some(request) = request else {
             return (false, note);
@@ -460,8 +456,7 @@ impl RouterNode {
     /// to go up is tried, and each request that is to go down, in order of arrival. One response that waits below is
     /// fetched, in order of hops. Where there is room, one request that waits above is fetched, in order of hops.
     ///
-    /// First it does so in haste: after a try that was refused at a hop, or that leaves a request or a response open there,
-    /// it leaves out later ones for that hop, and it looks at no hop of which the net tells that nothing waits there. Only
+    /// First it does so in haste: it leaves out tries and looks of which the net tells that they would be in vain. Only
     /// where nothing was moved so, it goes through once more, with every try and every look. The answer is Did where a
     /// transaction was moved. It takes no memory and can't fail.
     pub fn pump<N: Naming<Plan, TlmLaw>, R: Wait>(

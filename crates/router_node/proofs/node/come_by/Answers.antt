@@ -9,5 +9,5 @@ returns-then-leaves_out-clause-moved g c =
 
 pub returns-clause-moved : goal.returns-clause-moved
 returns-clause-moved g c =
-    let r = c.move_at-next.result in
-    in_haste g.N.Naming.frame c.args.hasty c.args.what c.args.at c.args.held.now.items c.move_at-next.new.held.items c.args.note.knows c.move_at-next.result.2.knows r.0 r.1 c.move_at-next.ensures.moved
+    let r = c.move_at.result in
+    in_haste g.N.Naming.frame c.args.hasty c.args.what c.args.at c.args.held.now.items c.move_at.new.held.items c.args.note.knows c.move_at.result.2.knows r.0 r.1 c.move_at.ensures.moved

@@ -33,8 +33,8 @@ returns-then-is_some-clause-taken g c = kept_back g.N.Naming.frame g.N.Naming.to
 pub find_back-found-requires-clause-hops : goal.find_back-found-requires-clause-hops
 find_back-found-requires-clause-hops g c =
     let r = c.args.self.now in
-    let a = subst (λ (l : List ℕ). AreLookedAt c.args.hasty l c.hops_back-hops.result.now) c.as_slice.ensures.value c.hops_back-hops.ensures in
-    each_looked c.args.hasty (λ (h : ℕ). IsHopBelow g.N.Naming.frame.world h) r.below.items c.hops_back-hops.result.now a c.requires.router.below
+    let a = subst (λ (l : List ℕ). AreLookedAt c.args.hasty l c.hops_at-hops.result.now) c.as_slice.ensures.value c.hops_at-hops.ensures in
+    each_looked c.args.hasty (λ (h : ℕ). IsHopBelow g.N.Naming.frame.world h) r.below.items c.hops_at-hops.result.now a c.requires.router.below
 
 pub returns-in_default-clause-taken : goal.returns-in_default-clause-taken
 returns-in_default-clause-taken g c =
@@ -43,9 +43,9 @@ returns-in_default-clause-taken g c =
     let r = c.args.self.now in
     let was = c.args.note.knows in
     let is = c.find_back-found.result.1.knows in
-    let a = subst (λ (l : List ℕ). AreLookedAt c.args.hasty l c.hops_back-hops.result.now) c.as_slice.ensures.value c.hops_back-hops.ensures in
-    let f = subst (λ (o : Option Found). HasFoundBack frame tokens c.hops_back-hops.result.now was is o) c.in_default.is c.find_back-found.ensures.found in
-    not_back frame tokens c.args.hasty r c.hops_back-hops.result.now was is (is_none r.stray (sym c.if-is_some.false ∙ c.is_some.ensures)) a f
+    let a = subst (λ (l : List ℕ). AreLookedAt c.args.hasty l c.hops_at-hops.result.now) c.as_slice.ensures.value c.hops_at-hops.ensures in
+    let f = subst (λ (o : Option Found). HasFoundBack frame tokens c.hops_at-hops.result.now was is o) c.in_default.is c.find_back-found.ensures.found in
+    not_back frame tokens c.args.hasty r c.hops_at-hops.result.now was is (is_none r.stray (sym c.if-is_some.false ∙ c.is_some.ensures)) a f
 
 pub returns-clause-taken : goal.returns-clause-taken
 returns-clause-taken g c =
@@ -54,12 +54,12 @@ returns-clause-taken g c =
     let r = c.args.self.now in
     let was = c.args.note.knows in
     let is = c.find_back-found.result.1.knows in
-    let f = subst (λ (o : Option Found). HasFoundBack frame tokens c.hops_back-hops.result.now was is o) c.in-Some.is c.find_back-found.ensures.found in
+    let f = subst (λ (o : Option Found). HasFoundBack frame tokens c.hops_at-hops.result.now was is o) c.in-Some.is c.find_back-found.ensures.found in
     record {
       free = is_none r.stray (sym c.if-is_some.false ∙ c.is_some.ensures);
       found = c.in-Some.found;
-      hops = c.hops_back-hops.result.now;
-      looked_at = subst (λ (l : List ℕ). AreLookedAt c.args.hasty l c.hops_back-hops.result.now) c.as_slice.ensures.value c.hops_back-hops.ensures;
+      hops = c.hops_at-hops.result.now;
+      looked_at = subst (λ (l : List ℕ). AreLookedAt c.args.hasty l c.hops_at-hops.result.now) c.as_slice.ensures.value c.hops_at-hops.ensures;
       first = f.0;
       waited = f.1;
       joined = c.join_one.ensures.joined;

@@ -21,29 +21,29 @@ returns-then-len-self-clause-taken g c =
 pub find_request-request-requires-clause-hops : goal.find_request-request-requires-clause-hops
 find_request-request-requires-clause-hops g c =
     let r = c.args.self.now in
-    let a = subst (λ (l : List ℕ). AreLookedAt c.args.hasty l c.hops_in-hops.result.now) c.as_slice.ensures.value c.hops_in-hops.ensures in
-    each_looked c.args.hasty (λ (h : ℕ). IsHopAbove g.N.Naming.frame.world r.router h) r.above.items c.hops_in-hops.result.now a c.requires.router.above
+    let a = subst (λ (l : List ℕ). AreLookedAt c.args.hasty l c.hops_at-hops.result.now) c.as_slice.ensures.value c.hops_at-hops.ensures in
+    each_looked c.args.hasty (λ (h : ℕ). IsHopAbove g.N.Naming.frame.world r.router h) r.above.items c.hops_at-hops.result.now a c.requires.router.above
 
 pub returns-in_default-clause-taken : goal.returns-in_default-clause-taken
 returns-in_default-clause-taken g c =
     let frame = g.N.Naming.frame in
     let tokens = g.N.Naming.tokens in
     let r = c.args.self.now in
-    let hops = c.hops_in-hops.result.now in
-    let a = subst (λ (l : List ℕ). AreLookedAt c.args.hasty l hops) c.as_slice.ensures.value c.hops_in-hops.ensures in
+    let hops = c.hops_at-hops.result.now in
+    let a = subst (λ (l : List ℕ). AreLookedAt c.args.hasty l hops) c.as_slice.ensures.value c.hops_at-hops.ensures in
     let f = subst (λ (o : Option Request). HasFoundRequest frame tokens r.router hops c.args.note.knows c.find_request-request.result.1.knows o) c.in_default.is c.find_request-request.ensures.found in
     not_in frame tokens c.args.hasty r hops c.args.note c.find_request-request.result.1 (omega (arith, c.len.ensures, c.if-len-self.false, r.held.ok.0)) a f
 
 -- what was found, at which hop
-found : (g : _) (c : goal.After-push_back_reserved g) → HasFoundRequest g.N.Naming.frame g.N.Naming.tokens c.args.self.now.router c.hops_in-hops.result.now c.args.note.knows c.find_request-request.result.1.knows (Some c.in-Some.request)
+found : (g : _) (c : goal.After-push_back_reserved g) → HasFoundRequest g.N.Naming.frame g.N.Naming.tokens c.args.self.now.router c.hops_at-hops.result.now c.args.note.knows c.find_request-request.result.1.knows (Some c.in-Some.request)
 found g c =
-    subst (λ (o : Option Request). HasFoundRequest g.N.Naming.frame g.N.Naming.tokens c.args.self.now.router c.hops_in-hops.result.now c.args.note.knows c.find_request-request.result.1.knows o) c.in-Some.is c.find_request-request.ensures.found
+    subst (λ (o : Option Request). HasFoundRequest g.N.Naming.frame g.N.Naming.tokens c.args.self.now.router c.hops_at-hops.result.now c.args.note.knows c.find_request-request.result.1.knows o) c.in-Some.is c.find_request-request.ensures.found
 
 pub turn-turned-requires-clause-latency : goal.turn-turned-requires-clause-latency
 turn-turned-requires-clause-latency g c =
     let frame = g.N.Naming.frame in
     let r = c.args.self.now in
-    let f = subst (λ (o : Option Request). HasFoundRequest frame g.N.Naming.tokens r.router c.hops_in-hops.result.now c.args.note.knows c.find_request-request.result.1.knows o) c.in-Some.is c.find_request-request.ensures.found in
+    let f = subst (λ (o : Option Request). HasFoundRequest frame g.N.Naming.tokens r.router c.hops_at-hops.result.now c.args.note.knows c.find_request-request.result.1.knows o) c.in-Some.is c.find_request-request.ensures.found in
     c.requires.router.latency ∙ latency_to frame.world c.in-Some.request.hop r.router f.2.leads
 
 pub returns-clause-router : goal.returns-clause-router
@@ -73,8 +73,8 @@ returns-clause-taken g c =
       room = omega (arith, c.len.ensures, c.if-len-self.false, r.held.ok.0);
       request = c.in-Some.request;
       mid = c.find_request-request.result.1;
-      hops = c.hops_in-hops.result.now;
-      looked_at = subst (λ (l : List ℕ). AreLookedAt c.args.hasty l c.hops_in-hops.result.now) c.as_slice.ensures.value c.hops_in-hops.ensures;
+      hops = c.hops_at-hops.result.now;
+      looked_at = subst (λ (l : List ℕ). AreLookedAt c.args.hasty l c.hops_at-hops.result.now) c.as_slice.ensures.value c.hops_at-hops.ensures;
       first = f.0;
       waited = f.2;
       turned = c.turn-turned.result.0;
