@@ -99,6 +99,25 @@ fn end_owed<N: Naming<Plan, TlmLaw>, R: Wait>(
 }
 
 impl TargetNode {
+    // Whether a request may wait at one of its hops.
+    fn may_have_request<N: Naming<Plan, TlmLaw>>(&self, net: &Net<N>) -> bool {
+        for hop in &self.hops {
+            if net.may_have_request(*hop) {
+                return true;
+            }
+        }
+        false
+    }
+
+    /// Whether a pump may find something to do, by what the net tells of hops. No clause speaks of it.
+    pub fn may_move<N: Naming<Plan, TlmLaw>>(&self, net: &Net<N>) -> bool {
+        let tries = match &self.held {
+            Some(response) => net.may_respond(response.hop),
+            None => self.queue.len() > 0,
+        };
+        tries || self.queue.len() < self.queue.room() && self.may_have_request(net)
+    }
+
     /// Tries the response that is held, if one is, with BEGIN_RESP (IEEE 1666-2011, clause 15.2). Whether it was
     /// sent: that is one entry, else there is none.
     pub fn send<N: Naming<Plan, TlmLaw>, R: Wait>(
