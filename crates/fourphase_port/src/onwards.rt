@@ -36,6 +36,21 @@ fn plain_access(part: Part) -> Option<Transfer>
 }
 
 impl PortState {
+    // Whether a pump may find something to do, by what the net tells of the first hop and of the pool.
+    pub(crate) fn may_move<N: Naming<Plan, TlmLaw>>(&self, net: &Net<N>) -> bool {
+        let initiator = self.engine.initiator();
+        if net.may_have_response(initiator) {
+            return true;
+        }
+        if self.held.is_some() {
+            return net.may_begin(initiator);
+        }
+        match plain_access(self.engine.next().part()) {
+            Some(_) => net.may_take(initiator),
+            None => self.away.is_empty(),
+        }
+    }
+
     /// What comes once no response waits: a request that was refused is tried again; else the next plain
     /// access is taken; else, once nothing is outstanding, the current time is settled, and what is next is
     /// done.

@@ -104,6 +104,11 @@ impl<N: Naming<Plan, TlmLaw>> Port<N> {
         }
     }
 
+    /// Whether a pump may find something to do, by what the net tells. No clause speaks of it.
+    pub fn may_move(&self, net: &Net<N>) -> bool {
+        self.state.may_move(net)
+    }
+
     /// The next move, which makes one entry at most, or those of one invalidation. `fetched` says that this pump has already looked for a
     /// response. It takes no memory.
     pub fn advance<R: Wait>(&mut self, rt: &R, net: &Net<N>, fetched: bool) -> Moved
