@@ -4,7 +4,7 @@ ghost use Rattle.std.specs.Prelude.{◌<◌, length, true};
 ghost use Rattle.router_node.specs.Finds.{AreLookedAt};
 
 use crate::node::RouterNode;
-use crate::stage::{Stage, Step};
+use crate::stage::{Stage, Step, is_about};
 use plat_net::{Net, TlmLaw};
 use route_plan::Plan;
 use shared_object::Naming;
@@ -22,16 +22,6 @@ fn may_wait<N: Naming<Plan, TlmLaw>>(net: &Net<N>, wanted: Wanted, hop: u32) -> 
         Wanted::Request => net.may_have_request(hop),
         Wanted::Response => net.may_have_response(hop),
     }
-}
-
-// Whether it may wait at one of these hops.
-fn may_wait_at<N: Naming<Plan, TlmLaw>>(net: &Net<N>, wanted: Wanted, hops: &[u32]) -> bool {
-    for hop in hops {
-        if may_wait(net, wanted, *hop) {
-            return true;
-        }
-    }
-    false
 }
 
 // The one that stands at a place.
@@ -72,37 +62,34 @@ pub(crate) fn hops_at<'a, N: Naming<Plan, TlmLaw>>(
     no_hop(hops)
 }
 
-// The step that is one for a transaction, where it may move it.
-fn due_step<N: Naming<Plan, TlmLaw>>(net: &Net<N>, stage: &Stage) -> Option<Step> {
-    let (step, may) = match stage {
-        Stage::Sent(away) => (Step::End, away.ended || net.may_respond(away.above)),
-        Stage::Up(response, _) => (Step::Send, net.may_respond(response.hop)),
-        Stage::Down(down) => (Step::Pass, net.may_begin(down.held.below)),
-        Stage::Below(_) => return None,
-    };
-    if may { Some(step) } else { None }
+// Whether the step that is one for a transaction may move it.
+fn may_go<N: Naming<Plan, TlmLaw>>(net: &Net<N>, stage: &Stage) -> bool {
+    match stage {
+        Stage::Sent(away) => away.ended || net.may_respond(away.above),
+        Stage::Up(response, _) => net.may_respond(response.hop),
+        Stage::Down(down) => net.may_begin(down.held.below),
+        Stage::Below(_) => false,
+    }
 }
 
 /// Whether a going through in haste leaves a transaction out of a step: it isn't one for it, or wouldn't move it.
-pub(crate) fn leaves_out<N: Naming<Plan, TlmLaw>>(
-    net: &Net<N>,
-    what: Step,
-    stage: &Stage,
-) -> bool {
-    due_step(net, stage) != Some(what)
+pub(crate) fn leaves_out<N: Naming<Plan, TlmLaw>>(net: &Net<N>, what: Step, stage: &Stage) -> bool {
+    !is_about(what, stage) || !may_go(net, stage)
 }
 
 impl RouterNode {
     /// Whether a pump may move a transaction, by what the net tells of hops. No clause speaks of it.
     pub fn may_move<N: Naming<Plan, TlmLaw>>(&self, net: &Net<N>) -> bool {
-        if may_wait_at(net, Wanted::Response, &self.below) && self.stray.is_none() {
+        let back = hops_at(net, true, Wanted::Response, self.below.as_slice());
+        if self.stray.is_none() && !back.is_empty() {
             return true;
         }
-        if self.held.len() < self.room as usize && may_wait_at(net, Wanted::Request, &self.above) {
+        let requests = hops_at(net, true, Wanted::Request, self.above.as_slice());
+        if self.held.len() < self.room as usize && !requests.is_empty() {
             return true;
         }
         for at in 0..self.held.len() {
-            if due_step(net, &self.held[at]).is_some() {
+            if may_go(net, &self.held[at]) {
                 return true;
             }
         }
