@@ -179,32 +179,6 @@ fn try_at<N: Naming<Plan, TlmLaw>, R: Wait>(
     (at + 1, moved, note)
 }
 
-// Makes a step with the transaction at a place. The place of the next one, and whether this one was moved.
-fn move_at<N: Naming<Plan, TlmLaw>, R: Wait>(
-    net: &Net<N>,
-    rt: &R,
-    what: Step,
-    note: PlatNote,
-    held: &mut VecDeque<Stage>,
-    at: usize,
-) -> (usize, bool, PlatNote)
-    requires there { at < length held.old.items }
-    requires note { IsNote N.table note }
-    requires below { StandBelow note.knows.known note.knows.seen }
-    requires held { AllByRecursion (IsStage N.frame N.tokens note.knows.known) held.old.items }
-    ensures note { IsNote N.table result.2 }
-    ensures knew { Within note.knows.known result.2.knows.known }
-    ensures below { StandBelow result.2.knows.known result.2.knows.seen }
-    ensures held { AllByRecursion (IsStage N.frame N.tokens result.2.knows.known) held.new.items }
-    ensures capacity { deque_capacity held.new ≡ deque_capacity held.old }
-    ensures moved { MovesAt N.frame false what at held.old.items held.new.items note.knows result.2.knows result.0 result.1 }
-{
-    match what {
-        Step::End => end_at(net, rt, note, held, at),
-        _ => try_at(net, rt, what, note, held, at),
-    }
-}
-
 // Comes by the transaction at a place: makes the step with it, or in haste leaves it out where that is likely to be in vain.
 // The place of the next one, and whether this one was moved.
 fn come_by<N: Naming<Plan, TlmLaw>, R: Wait>(
@@ -230,7 +204,10 @@ fn come_by<N: Naming<Plan, TlmLaw>, R: Wait>(
     if hasty && leaves_out(net, what, &held[at]) {
         return (at + 1, false, note);
     }
-    move_at(net, rt, what, note, held, at)
+    match what {
+        Step::End => end_at(net, rt, note, held, at),
+        _ => try_at(net, rt, what, note, held, at),
+    }
 }
 
 // Makes a step with each transaction that is held, in order. Those that it isn't one for are looked at alone. In haste
