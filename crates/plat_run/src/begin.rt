@@ -8,7 +8,6 @@ ghost use Rattle.plat_run.specs.Actors.{number_of};
 use crate::actor::Actor;
 use crate::nodes::{MemoryJob, RouterJob};
 use crate::port_job::PortJob;
-use crate::waits::{Component, Waits};
 use direct_run::DecoupledInitiator;
 use fourphase_port::Port;
 use plat_build::{Kept, Start};
@@ -66,8 +65,7 @@ fn begin_port<N: Naming<Plan, TlmLaw>>(
         wallet,
     } = start;
     let port = Port::new(alloc, net, engine, payload, note, wallet)?;
-    let waits = Waits::of(alloc, net.plan(), Component::Initiator(number))?;
-    let job = PortJob::new(number, port, waits);
+    let job = PortJob::new(number, port);
     Ok(Actor::FourPhase(Box::new(alloc, job)?))
 }
 
@@ -125,8 +123,7 @@ fn begin_router<N: Naming<Plan, TlmLaw>>(
     let _ = net.plan();
     let note = kept.router_note(router);
     let node = RouterNode::new(alloc, net, router)?;
-    let waits = Waits::of(alloc, net.plan(), Component::Router(router))?;
-    let job = RouterJob::new(number, node, note, waits);
+    let job = RouterJob::new(number, node, note);
     Ok(Actor::Router(Box::new(alloc, job)?))
 }
 
@@ -146,8 +143,7 @@ fn begin_memory<N: Naming<Plan, TlmLaw>>(
     let _ = net.plan();
     let note = kept.memory_note(memory);
     let node = TargetNode::new(alloc, net, memory)?;
-    let waits = Waits::of(alloc, net.plan(), Component::Memory(memory))?;
-    let job = MemoryJob::new(number, node, note, waits);
+    let job = MemoryJob::new(number, node, note);
     Ok(Actor::Memory(Box::new(alloc, job)?))
 }
 

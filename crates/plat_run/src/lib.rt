@@ -31,4 +31,3 @@ pub use nodes::{MemoryJob, RouterJob};
 pub use port_job::PortJob;
 pub use running::{PlatSealed, run, run_plan};
 pub use turn::Turn;
-pub use waits::{Component, Waits};

@@ -37,7 +37,7 @@ impl<N: Naming<Plan, TlmLaw>> Model for MemoryJob<N> {
 
 impl<N: Naming<Plan, TlmLaw>> MemoryJob<N> {
     /// The job with this number, of a memory with its note.
-    pub fn new(number: u32, node: TargetNode, note: PlatNote, waits: Waits) -> MemoryJob<N>
+    pub fn new(number: u32, node: TargetNode, note: PlatNote) -> MemoryJob<N>
         requires { IsMemoryNode N.table N.tokens N.frame node note }
         ensures { result ≡ number }
     {
@@ -45,7 +45,7 @@ impl<N: Naming<Plan, TlmLaw>> MemoryJob<N> {
             number,
             node,
             note: Some(note),
-            waits,
+            waits: Waits::none(),
             of: PhantomData,
         }
     }
@@ -63,11 +63,8 @@ impl<N: Naming<Plan, TlmLaw>> MemoryJob<N> {
         ensures turn { is_held_back result ≡ false }
     {
         let note = self.note.take().unwrap();
-        let changes = self.waits.changes(net);
         let (pumped, note) = self.node.pump(net, rt, note);
         self.note = Some(note);
-        self.waits
-            .note(changes, matches!(pumped, MemoryPumped::Nothing));
         match pumped {
             MemoryPumped::Did => Turn::WentOn,
             MemoryPumped::Nothing => Turn::Idle,
@@ -78,7 +75,7 @@ impl<N: Naming<Plan, TlmLaw>> MemoryJob<N> {
     pub fn rests(&mut self, net: &Net<N>) -> bool
         ensures { self.new ≡ self.old }
     {
-        self.waits.rests(net)
+        self.waits.rests(self.node.may_move(net))
     }
 }
 
@@ -106,7 +103,7 @@ impl<N: Naming<Plan, TlmLaw>> Model for RouterJob<N> {
 
 impl<N: Naming<Plan, TlmLaw>> RouterJob<N> {
     /// The job with this number, of a router with its note.
-    pub fn new(number: u32, node: RouterNode, note: PlatNote, waits: Waits) -> RouterJob<N>
+    pub fn new(number: u32, node: RouterNode, note: PlatNote) -> RouterJob<N>
         requires { IsRouterNode N.table N.tokens N.frame node note }
         ensures { result ≡ number }
     {
@@ -114,7 +111,7 @@ impl<N: Naming<Plan, TlmLaw>> RouterJob<N> {
             number,
             node,
             note: Some(note),
-            waits,
+            waits: Waits::none(),
             of: PhantomData,
         }
     }
@@ -132,11 +129,8 @@ impl<N: Naming<Plan, TlmLaw>> RouterJob<N> {
         ensures turn { is_held_back result ≡ false }
     {
         let note = self.note.take().unwrap();
-        let changes = self.waits.changes(net);
         let (pumped, note) = self.node.pump(net, rt, note);
         self.note = Some(note);
-        self.waits
-            .note(changes, matches!(pumped, RouterPumped::Nothing));
         match pumped {
             RouterPumped::Did => Turn::WentOn,
             RouterPumped::Nothing => Turn::Idle,
@@ -147,6 +141,6 @@ impl<N: Naming<Plan, TlmLaw>> RouterJob<N> {
     pub fn rests(&mut self, net: &Net<N>) -> bool
         ensures { self.new ≡ self.old }
     {
-        self.waits.rests(net)
+        self.waits.rests(self.node.may_move(net))
     }
 }

@@ -62,7 +62,7 @@ fn finishes(pumped: Pumped) -> bool
 
 impl<N: Naming<Plan, TlmLaw>> PortJob<N> {
     /// A port that begins, of the initiator with this number.
-    pub fn new(number: u32, port: Port<N>, waits: Waits) -> PortJob<N>
+    pub fn new(number: u32, port: Port<N>) -> PortJob<N>
         requires number { port.port.engine.initiator ≡ number }
         requires below { number < length N.frame.world.platform.initiators }
         ensures port { result.port ≡ port }
@@ -73,7 +73,7 @@ impl<N: Naming<Plan, TlmLaw>> PortJob<N> {
             port,
             announced: None,
             finished: false,
-            waits,
+            waits: Waits::none(),
         }
     }
 
@@ -111,10 +111,8 @@ impl<N: Naming<Plan, TlmLaw>> PortJob<N> {
         ensures pumped { IsPortTurn N.frame self.old self.new result }
     {
         self.announce(pace);
-        let changes = self.waits.changes(net);
         let pumped = self.port.pump(rt, net);
         self.finished = finishes(pumped);
-        self.waits.note(changes, matches!(pumped, Pumped::Nothing));
         turn_by(pumped)
     }
 
@@ -122,7 +120,7 @@ impl<N: Naming<Plan, TlmLaw>> PortJob<N> {
     pub fn rests(&mut self, net: &Net<N>) -> bool
         ensures { self.new ≡ self.old }
     {
-        self.waits.rests(net)
+        self.waits.rests(self.port.may_move(net))
     }
 
     /// What it leaves where it has finished: how its initiator ended, its wallet, and its note.
