@@ -53,6 +53,7 @@ fn wants_grant(is_direct: bool, kind: TransferKind, payload: &Payload) -> bool
 
 // Makes the access or the debug read that is next by transport. No grant that is held covers it, or it isn't
 // plain.
+#[inline(always)]
 fn transport<N: Naming<Plan, TlmLaw>, B: Reach<N>, R: Wait>(
     reach: &mut B,
     rt: &R,
@@ -114,16 +115,16 @@ fn make_plain<N: Naming<Plan, TlmLaw>, B: Reach<N>, R: Wait>(
     reach: &mut B,
     rt: &R,
     run: &InitiatorRun,
-    next: &NextAccess,
+    next: NextAccess,
     grants: &mut GrantTable,
     mut payload: Payload,
     mut note: PlatNote,
     wallet: &mut Wallet,
 ) -> MadeNext
-    requires ready { IsToMake N.table N.tokens N.frame run.now next.now.transfer next.now.route payload note wallet.old grants.old }
-    requires plain { is_plain_kind next.now.transfer.kind ≡ true }
+    requires ready { IsToMake N.table N.tokens N.frame run.now next.transfer next.route payload note wallet.old grants.old }
+    requires plain { is_plain_kind next.transfer.kind ≡ true }
     requires direct { goes_direct N.frame.world run.now.engine.initiator ≡ true }
-    ensures { HasMadeNext N.table N.tokens N.frame run.now next.now.transfer next.now.route result.wants result.payload result.note wallet.new grants.new }
+    ensures { HasMadeNext N.table N.tokens N.frame run.now next.transfer next.route result.wants result.payload result.note wallet.new grants.new }
 {
     let Transfer {
         seq: _,
@@ -133,13 +134,13 @@ fn make_plain<N: Naming<Plan, TlmLaw>, B: Reach<N>, R: Wait>(
     } = next.transfer;
     for _ in rt.forever() {
         let Some(which) = grants.find(address, length, command_of(kind)) else {
-            return transport(reach, rt, run, next, true, grants, payload, note, wallet);
+            return transport(reach, rt, run, &next, true, grants, payload, note, wallet);
         };
         match use_held(
             reach.net(),
             rt,
             run,
-            next,
+            &next,
             which,
             grants,
             payload,
@@ -171,6 +172,8 @@ fn make_plain<N: Naming<Plan, TlmLaw>, B: Reach<N>, R: Wait>(
 
 /// Makes the access or the debug read that is next: a plain access of a direct initiator by a grant where one is
 /// held that covers it and isn't stale, and anything else by transport. It answers whether a grant is to be asked for.
+// Where this is inlined, the fields of `next` stay in registers: nothing is handed its address.
+#[inline(always)]
 pub(crate) fn make<N: Naming<Plan, TlmLaw>, B: Reach<N>, R: Wait>(
     reach: &mut B,
     rt: &R,
@@ -187,6 +190,10 @@ pub(crate) fn make<N: Naming<Plan, TlmLaw>, B: Reach<N>, R: Wait>(
     ensures { HasMadeNext N.table N.tokens N.frame run.now next.now.transfer next.now.route result.wants result.payload result.note wallet.new grants.new }
 {
     if is_direct && is_plain(next.transfer.kind) {
+        let next = NextAccess {
+            transfer: next.transfer,
+            route: next.route,
+        };
         make_plain(reach, rt, run, next, grants, payload, note, wallet)
     } else {
         transport(
@@ -196,6 +203,7 @@ pub(crate) fn make<N: Naming<Plan, TlmLaw>, B: Reach<N>, R: Wait>(
 }
 
 /// Asks for a grant right after an access that wants one.
+#[inline(always)]
 pub(crate) fn ask_after<N: Naming<Plan, TlmLaw>, R: Wait>(
     net: &Net<N>,
     rt: &R,

@@ -195,6 +195,7 @@ impl<N: Naming<Plan, TlmLaw>> DecoupledInitiator<N> {
     }
 
     // Makes the access or debug read that is next, which has a route, and asks for a grant where it has the hint.
+    #[inline(always)]
     fn access<B: Reach<N>, R: Wait>(&mut self, rt: &R, reach: &mut B, next: &NextAccess)
         requires { HasReached N.frame.world self.old next.now.transfer next.now.route }
         ensures number { self.new.engine.initiator ≡ self.old.engine.initiator }

@@ -20,6 +20,7 @@ use token_book::Wallet;
 
 /// Makes the access or the debug read of a script that is issued at `at`, in picoseconds, and whose
 /// address has this route.
+#[inline(always)]
 pub(crate) fn send<N: Naming<Plan, TlmLaw>, B: Reach<N>, R: Wait>(
     reach: &mut B,
     rt: &R,

@@ -7,6 +7,6 @@ use Rattle.direct_run.proofs.access.make_plain.Goals as goal
 
 pub use_held-requires-clause-which : goal.use_held-requires-clause-which
 use_held-requires-clause-which g c =
-    let x = c.args.next.now.transfer in
+    let x = c.args.next.transfer in
     subst (λ (k : Command). IsSomeAnd (slice_get c.loop.grants.held c.in-Some-find.which) (λ h. IsTrue (covers x.address x.length k h))) c.command_of.ensures
     (found_passes (covers x.address x.length c.command_of.result) c.loop.grants.held c.in-Some-find.which (sym c.find.ensures ∙ c.in-Some-find.is))
