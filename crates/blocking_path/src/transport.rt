@@ -80,6 +80,7 @@ pub fn b_transport<N: Naming<Plan, TlmLaw>, R: Wait>(
 /// the payload is taken to the end of the route, whatever address it has, and is one entry there, at the
 /// time of its arrival. The time that comes back is `at` and the latency of the route. Whoever has the net
 /// alone takes no lock.
+#[inline(always)]
 pub fn b_transport_along<N: Naming<Plan, TlmLaw>, B: Reach<N>, R: Wait>(
     reach: &mut B,
     rt: &R,
