@@ -110,20 +110,30 @@ fn write_few_decimal(bytes: &mut [u8], start: usize, number: u64) -> usize
     write_word(bytes, place, &decimal_pair(number % 100))
 }
 
-// The last four digits follow those in front of them. Up to eight take no call.
-fn write_decimal(bytes: &mut [u8], start: usize, number: u64) -> usize
-    requires { start + length (decimal number) ≤ length bytes.old }
+// A number of up to eight digits: the last four follow those in front of them.
+#[inline(always)]
+fn write_eight_decimal(bytes: &mut [u8], start: usize, number: u64) -> usize
+    requires { (number < 100000000) × (start + length (decimal number) ≤ length bytes.old) }
     ensures { Adds bytes.old bytes.new start result (decimal number) }
 {
     if number < 10_000 {
         return write_few_decimal(bytes, start, number);
     }
-    let high = number / 10_000;
-    let place = if high < 10_000 {
-        write_few_decimal(bytes, start, high)
-    } else {
-        write_decimal(bytes, start, high)
-    };
+    let place = write_few_decimal(bytes, start, number / 10_000);
+    let low = number % 10_000;
+    let last = write_word(bytes, place, &decimal_pair(low / 100));
+    write_word(bytes, last, &decimal_pair(low % 100))
+}
+
+// The last four digits follow those in front of them. Up to eight take no further call.
+fn write_decimal(bytes: &mut [u8], start: usize, number: u64) -> usize
+    requires { start + length (decimal number) ≤ length bytes.old }
+    ensures { Adds bytes.old bytes.new start result (decimal number) }
+{
+    if number < 100_000_000 {
+        return write_eight_decimal(bytes, start, number);
+    }
+    let place = write_decimal(bytes, start, number / 10_000);
     let low = number % 10_000;
     let last = write_word(bytes, place, &decimal_pair(low / 100));
     write_word(bytes, last, &decimal_pair(low % 100))
@@ -152,6 +162,21 @@ fn write_spaced(bytes: &mut [u8], start: usize, number: u64) -> usize
 {
     let end = write_number(bytes, start, number);
     write_word(bytes, end, b" ")
+}
+
+// A number that mostly has several digits, and a space. Up to eight digits take no call.
+#[inline(always)]
+fn write_count(bytes: &mut [u8], start: usize, number: u64) -> usize
+    requires { start + 21 ≤ length bytes.old }
+    ensures adds { Adds bytes.old bytes.new start result (decimal number ++ codes " ") }
+    ensures within { result ≤ start + 21 }
+{
+    if number < 100_000_000 {
+        let end = write_eight_decimal(bytes, start, number);
+        write_word(bytes, end, b" ")
+    } else {
+        write_spaced(bytes, start, number)
+    }
 }
 
 // The two digits of each byte.
@@ -314,8 +339,8 @@ pub fn write_times(bytes: &mut [u8], start: usize, position: u64, time: Ps) -> u
     ensures adds { Adds bytes.old bytes.new start result (times_text position time) }
     ensures within { result ≤ start + 42 }
 {
-    let place = write_spaced(bytes, start, position);
-    write_spaced(bytes, place, time)
+    let place = write_count(bytes, start, position);
+    write_count(bytes, place, time)
 }
 
 /// Writes the number of a transaction, between a dot and a space.
@@ -326,7 +351,7 @@ pub fn write_seq(bytes: &mut [u8], start: usize, seq: u64) -> usize
     ensures within { result ≤ start + 22 }
 {
     let place = write_word(bytes, start, b".");
-    write_spaced(bytes, place, seq)
+    write_count(bytes, place, seq)
 }
 
 // The way of an access, and a space.
