@@ -160,6 +160,7 @@ impl InitiatorRun {
 
     /// Makes it the payload of the access or debug read that is next, with the address that the
     /// initiator gives.
+    #[inline(always)]
     pub fn fill_next(&self, payload: &mut Payload)
         requires { payload.old.room ≡ 4096 }
         ensures { payload.new ≡ payload_of self.now.engine 4096 }
@@ -377,6 +378,7 @@ impl InitiatorRun {
     }
 
     /// Goes on after an access or a debug read, whose payload has come back, with the sync that is due.
+    #[inline(always)]
     pub fn complete(&mut self, transfer: Transfer, latency: Ps, payload: &Payload)
         requires next { next_of self.old.engine ≡ Asks transfer }
         requires whole { is_fenced_kind transfer.kind ≡ true → length payload.now.bytes ≡ transfer.length }
@@ -389,6 +391,7 @@ impl InitiatorRun {
         self.finish_operation(false);
     }
 
+    #[inline(always)]
     fn tell(&mut self, transfer: Transfer, payload: &Payload)
         requires next { next_of self.old.engine ≡ Asks transfer }
         requires whole { is_fenced_kind transfer.kind ≡ true → length payload.now.bytes ≡ transfer.length }
@@ -401,6 +404,7 @@ impl InitiatorRun {
     }
 
     // Makes the sync that is due after what has just been done, which was a sync itself or not.
+    #[inline(always)]
     fn finish_operation(&mut self, is_sync: bool)
         ensures { self.new ≡ with_sync is_sync self.old }
     {
