@@ -50,6 +50,7 @@ impl Engine {
     }
 
     /// What is next. It stays until it was passed, or its reply was told.
+    #[inline(always)]
     pub fn next(&self) -> Op
         ensures { result ≡ op_of self.now }
     {
@@ -65,6 +66,7 @@ impl Engine {
 
     /// Makes it the payload of the access or debug read that is next, with the status INCOMPLETE. It is
     /// made new where nothing else is next.
+    #[inline(always)]
     pub fn fill(&self, payload: &mut Payload)
         requires { 4096 ≤ payload.old.room }
         ensures { payload.new ≡ payload_of self.now payload.old.room }
@@ -100,6 +102,7 @@ impl Engine {
 
     /// Goes on after anything else: after an access or a debug read once its payload was filled, and
     /// after a wait, a sync, a fence or an invalidation. Where the script has ended nothing changes.
+    #[inline(always)]
     pub fn passed(&mut self)
         requires { is_fenced (op_of self.old) ≡ false }
         ensures { self.new ≡ passed_by self.old }

@@ -20,6 +20,7 @@ fn is_plain(enables: &Bytes, width: &Option<u64>) -> bool
     enables.as_slice().is_empty() && width.is_none()
 }
 
+#[inline(always)]
 fn access(seq: u64, address: u64, length: u32, command: Command, plain: bool) -> Op
     ensures { result ≡ Op.Access seq address length command plain false }
 {
@@ -34,6 +35,7 @@ fn access(seq: u64, address: u64, length: u32, command: Command, plain: bool) ->
 }
 
 /// One of the two accesses of a `copy` or an `add`.
+#[inline(always)]
 pub fn fenced_access(seq: u64, address: u64, length: u32, command: Command) -> Op
     ensures { result ≡ Op.Access seq address length command true true }
 {
@@ -48,6 +50,7 @@ pub fn fenced_access(seq: u64, address: u64, length: u32, command: Command) -> O
 }
 
 /// What an operation asks for first.
+#[inline(always)]
 pub fn op_for(seq: u64, operation: &Operation) -> Op
     requires { IsProper operation.now }
     ensures { result ≡ op_for seq operation.now }
@@ -115,6 +118,7 @@ fn enable(enables: &Bytes, payload: &mut Payload)
 }
 
 /// Makes it the payload of an operation's first access, or of its debug read.
+#[inline(always)]
 pub fn fill_for(operation: &Operation, payload: &mut Payload)
     requires proper { IsProper operation.now }
     requires roomy { 4096 ≤ payload.old.room }
@@ -155,6 +159,7 @@ pub fn fill_for(operation: &Operation, payload: &mut Payload)
 }
 
 /// How many sequence numbers an operation takes.
+#[inline(always)]
 pub fn numbers_of(operation: &Operation) -> u64
     requires { IsProper operation.now }
     ensures { result ≡ numbers_of operation.now }
