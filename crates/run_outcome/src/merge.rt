@@ -94,6 +94,7 @@ impl<'a> LogReader<'a> {
     }
 
     /// The log that has the entry of this position, and its index there.
+    #[inline(always)]
     pub fn at(&mut self, position: u64) -> (&'a Log, u64)
         requires { position < length self.old.entries }
         ensures entries { self.new ≡ self.old }

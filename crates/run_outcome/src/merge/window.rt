@@ -45,6 +45,7 @@ impl Window {
     }
 
     // The place of the entry of this position.
+    #[inline(always)]
     pub(super) fn place_of(&mut self, logs: &[Log], position: u64) -> Place
         requires numbered { IsNumbered (merged (entries_of_logs logs.now)) }
         requires within { position < length (merged (entries_of_logs logs.now)) }
@@ -61,6 +62,7 @@ impl Window {
     }
 
     // The place that was noted for this position, where the entry there has it.
+    #[inline(always)]
     fn noted_at(&self, logs: &[Log], position: u64) -> Option<Place>
         requires { IsNumbered (merged (entries_of_logs logs.now)) }
         ensures { IfSome result (StandsAt (entries_of_logs logs.now) position) }
@@ -77,6 +79,7 @@ impl Window {
 
     // Notes the places of the entries from this position on that are next in their logs.
     #[cold]
+    #[inline(never)]
     fn note_from(&mut self, logs: &[Log], position: u64)
         ensures { self.new.first ≡ position }
     {
