@@ -79,6 +79,7 @@ impl Payload {
 
     /// Makes it a write of these bytes, 1 to `room` of them, without byte enables. A width of at least
     /// their number means no streaming.
+    #[inline(always)]
     pub fn set_write(&mut self, address: u64, bytes: &[u8], width: u64)
         requires some { 0 < length bytes.now }
         requires roomy { length bytes.now ≤ self.old.room }
