@@ -321,7 +321,7 @@ fn write_hex(bytes: &mut [u8], start: usize, number: u64) -> usize
     write_word(bytes, last, &pair_of((low % 256) as u8))
 }
 
-// An address or an offset of an access.
+// An address or an offset of an access. Most offsets have up to four digits, and that takes no call.
 #[inline(always)]
 fn write_address(bytes: &mut [u8], start: usize, address: u64) -> usize
     requires { start + 18 ≤ length bytes.old }
@@ -329,7 +329,11 @@ fn write_address(bytes: &mut [u8], start: usize, address: u64) -> usize
     ensures within { result ≤ start + 18 }
 {
     let place = write_word(bytes, start, b"0x");
-    write_hex(bytes, place, address)
+    if address < 65536 {
+        write_few_hex(bytes, place, address)
+    } else {
+        write_hex(bytes, place, address)
+    }
 }
 
 /// Writes a position and a time, each with a space after it.
