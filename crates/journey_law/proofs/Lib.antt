@@ -1,0 +1,6 @@
+mod Sums
+mod Prices
+mod Pulls
+mod Parts
+mod Ways
+mod Downs

@@ -1,0 +1,98 @@
+-- What is known of a payload where it is, in the words of its access.
+use Rattle.std.proofs.Common.{◌≡◌, ℕ, ◌+◌, ◌*◌, ◌<◌, List, Option, Some, refl, sym, ap, ◌∙◌, subst, arith}
+use Rattle.std.specs.Prelude.{is_some, slice_get}
+use Rattle.atomic_table.specs.Seated.{TableId}
+use Rattle.one_history.specs.declared.entry.Entry.{Entry}
+use Rattle.one_history.specs.declared.view.Frame.{Frame}
+use Rattle.tlm_types.specs.declared.entry.Content.{Content}
+use Rattle.tlm_types.specs.declared.words.Phase.TheVariants.{BeginReq, EndReq}
+use Rattle.tlm_types.specs.declared.words.ReqMode.TheVariants.{Accept}
+use Rattle.tlm_types.specs.declared.words.TlmSync.{TlmSync}
+use Rattle.tlm_types.specs.declared.words.TlmSync.TheVariants.{Accepted}
+use Rattle.tlm_types.specs.declared.words.TxnId.{TxnId}
+use Rattle.tlm_model.specs.declared.platform.Style.TheVariants.{FourPhase}
+use Rattle.tlm_model.specs.Plan.{Plan, Initiator, initiators_of}
+use Rattle.tlm_model.specs.Route.{route_of}
+use Rattle.payload_pool.specs.declared.baton.Baton.{Baton}
+use Rattle.flow_model.specs.World.{Passage, World, hop_at, hop_count, row_of}
+use Rattle.flow_model.specs.Events.{Among, Event, Finds, IsCall, IsTake}
+use Rattle.flow_model.specs.Platform.{passage_of, world_of}
+use Rattle.flow_plan.specs.Valid.{HasNoCycle}
+use Rattle.flow_plan.proofs.Ways.{world_law}
+use Rattle.cargo_model.specs.declared.cargo.Cargo.{Cargo}
+use Rattle.cargo_model.specs.Called.{IsAnswerIn}
+use Rattle.cargo_model.specs.Known.{Known}
+use Rattle.cargo_model.specs.Origins.{AreThere}
+use Rattle.cargo_model.specs.Tickets.{AreApart, Stocks}
+use Rattle.cargo_model.specs.Travel.{GoesDown, GoesUp, IsAsked, IsFetched, Moment, logged_by, numbers_for, route_for}
+use Rattle.cargo_model.proofs.Origins.{apart_law}
+use Rattle.cargo_model.proofs.There.{there_law}
+use Rattle.target_node.specs.declared.items.Request.{Request}
+use Rattle.journey_law.specs.Places.{IsDown, IsStarting, IsUp, WaitsAt}
+use Rattle.journey_law.proofs.Parts.{stood}
+use Rattle.journey_law.proofs.Sums.{same_some}
+
+module _ (frame : Frame Plan) (tokens : TableId) (h : List Event) (x : TxnId) (pass : Passage) (free : HasNoCycle frame.world.platform) (passes : passage_of frame.world x ≡ Some pass) where
+  abbrev w : World
+  w = world_of frame.world
+
+  pub down_here : (m : Moment) (j : ℕ) (c : Cargo) (d : IsDown frame tokens h x pass m j c) → GoesDown frame.world tokens (Known frame.world.platform d.known) x pass m j c
+  down_here m j c d =
+      let g : GoesDown frame.world tokens (Known frame.world.platform d.known) x d.way m j c = subst (λ (y : TxnId). GoesDown frame.world tokens (Known frame.world.platform d.known) y d.way m j c) d.txn d.down in
+      subst (λ (q : Passage). GoesDown frame.world tokens (Known frame.world.platform d.known) x q m j c) (same_some d.way pass (passage_of frame.world x) g.asked.passes passes) g
+
+  pub up_here : (m : Moment) (j : ℕ) (c : Cargo) (d : IsUp frame tokens h x pass m j c) → GoesUp frame.world tokens (Known frame.world.platform d.known) x pass m j c
+  up_here m j c d =
+      let g : GoesUp frame.world tokens (Known frame.world.platform d.known) x d.way m j c = subst (λ (y : TxnId). GoesUp frame.world tokens (Known frame.world.platform d.known) y d.way m j c) d.txn d.up in
+      subst (λ (q : Passage). GoesUp frame.world tokens (Known frame.world.platform d.known) x q m j c) (same_some d.way pass (passage_of frame.world x) g.asked.passes passes) g
+
+  -- a payload that may start, and its wallet
+  pub record Starts (known : List (Entry Content)) (b : Baton) (y : TxnId) (q : Passage) : Type 0 where
+    pub asked : IsAsked frame.world tokens (Known frame.world.platform known) y q
+    pub taken : Finds (Known frame.world.platform known) (IsTake y)
+    pub tickets : Stocks tokens (hop_count q) (numbers_for frame.world tokens (Known frame.world.platform known) y q asked) (λ j left. left ≡ 4) (2 * hop_count q + 1) 1 (logged_by asked.access) b.wallet
+
+  pub start_here : (b : Baton) (s : IsStarting frame tokens h x pass b) → Starts s.known b x pass
+  start_here b s =
+      let c = s.start in
+      let first : Starts s.known b b.txn c.pass = record {
+        asked = c.asked;
+        taken = (let f = c.taken in record { event = f.event; known = f.known; is = record { object = f.is.object; txn = f.is.txn; slot = b.slot; what = f.is.what } });
+        tickets = c.tickets;
+      } in
+      let g : Starts s.known b x c.pass = subst (λ (y : TxnId). Starts s.known b y c.pass) s.txn first in
+      subst (λ (q : Passage). Starts s.known b x q) (same_some c.pass pass (passage_of frame.world x) g.asked.passes passes) g
+
+  -- a request that waits at its memory
+  pub record Waits (known : List (Entry Content)) (r : Request) (y : TxnId) (q : Passage) (j : ℕ) : Type 0 where
+    pub fetched : IsFetched frame.world tokens (Known frame.world.platform known) y q j r.cargo
+    pub answer : TlmSync
+    pub begun : Finds (Known frame.world.platform known) (IsCall y (hop_at q j) BeginReq answer)
+    pub fits : IsAnswerIn (row_of w q j) answer
+    pub ended : row_of w q j ≡ Accept → Finds (Known frame.world.platform known) (IsCall y (hop_at q j) EndReq Accepted)
+
+  pub wait_here : (j : ℕ) (r : Request) (s : WaitsAt frame tokens h x pass j r) → Waits s.known r x pass j
+  wait_here j r s =
+      let q = s.waiting in
+      let first : Waits s.known r r.cargo.baton.txn q.pass q.hop = record {
+        fetched = q.request.fetched;
+        answer = q.request.answer;
+        begun = (let f = q.request.begun in record { event = f.event; known = f.known; is = f.is });
+        fits = q.request.fits;
+        ended = q.ended;
+      } in
+      let g : Waits s.known r x q.pass q.hop = subst (λ (y : TxnId). Waits s.known r y q.pass q.hop) s.txn first in
+      let way : q.pass ≡ pass = same_some q.pass pass (passage_of frame.world x) g.fetched.down.asked.passes passes in
+      subst (λ (n : ℕ). Waits s.known r x pass n) s.hop (subst (λ (d : Passage). Waits s.known r x d q.hop) way g)
+
+  module _ (i : Initiator) (is : slice_get (initiators_of frame.world) x.initiator ≡ Some i) (style : i.row.style ≡ FourPhase) (K : Event → Type 0) (asked : IsAsked frame.world tokens K x pass) where
+    pub same_style : asked.initiator.row.style ≡ FourPhase
+    same_style = ap (λ (j : Initiator). j.row.style) (same_some asked.initiator i (slice_get (initiators_of frame.world) x.initiator) asked.is is) ∙ style
+
+    -- the objects of its entries differ
+    pub apart : AreApart (hop_count pass) (numbers_for frame.world tokens K x pass asked)
+    apart = apart_law frame.world x pass (route_for frame.world tokens K x pass asked) ((world_law frame.world free).passages x pass passes) there
+      where
+        there : AreThere frame.world x pass (route_for frame.world tokens K x pass asked)
+        there = subst (λ (g : Passage). AreThere frame.world x g (route_for frame.world tokens K x pass asked)) (sym asked.way)
+            (there_law frame.world x asked.initiator asked.request.address (is_some (route_of frame.world.platform asked.initiator asked.request.address)) asked.is same_style)

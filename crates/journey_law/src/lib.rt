@@ -1,0 +1,17 @@
+//! The journey of a four-phase access that is under way, and what it tells of a run.
+//!
+//! - `specs/Places`: where the payload is, and what is known of it there.
+//! - `specs/Parts`: what the routers along its way have of it.
+//! - `specs/Journeys`: both together, and how many tickets are on the way.
+//! - `specs/Tells`: what a journey tells, in the words of the law of runs under way (`begun_end`).
+//!
+//! Nothing here runs, and no run uses it yet: each function carries a law.
+#![tactic(auto)]
+
+ghost use Rattle.journey_law.specs.Tells.{JourneysDownTell};
+
+/// A payload on its way down, with what routers hold of its access above, tells of the access: the calls and the entries in the pool that
+/// are known, and the tickets of all others.
+pub fn journeys_down_tell()
+    ensures { JourneysDownTell }
+{}
