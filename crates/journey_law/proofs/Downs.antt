@@ -30,7 +30,7 @@ use Rattle.begun_end.proofs.CargoLemmas.{hops_are_covered}
 use Rattle.journey_law.specs.Journeys.{Journey, carried_by}
 use Rattle.journey_law.specs.Parts.{Part, tickets_of}
 use Rattle.journey_law.specs.Places.{Back, Ended, GoneDown, GoneUp, IsAt, IsDown, IsStarting, Place, Taken, ToGoDown, ToGoUp, Waiting, hop_of, is_up, wallet_of, WaitsAt}
-use Rattle.journey_law.specs.Tells.{JourneysDownTell, TellsOfAccess}
+use Rattle.journey_law.specs.Tells.{TellsOfAccess}
 use Rattle.journey_law.proofs.Parts.{above_covers, stood}
 use Rattle.journey_law.proofs.Prices.{led_paid, price_is}
 use Rattle.journey_law.proofs.Pulls.{few_ends, owed_elsewhere, owed_here}
@@ -204,6 +204,3 @@ module _ (frame : Frame Plan) (tokens : TableId) (h : List Event) (i : Initiator
       by (GoneUp j c) e d a = cc
       by (Back j c) e d a = cc
       by (Ended c) e d a = cc
-
-pub journeys_down_tell : JourneysDownTell
-journeys_down_tell frame tokens h i x pass place parts free is style journey down = down_tells frame tokens h i x pass place parts free is style journey down

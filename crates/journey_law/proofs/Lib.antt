@@ -1,6 +1,10 @@
 mod Sums
+mod Walks
 mod Prices
 mod Pulls
 mod Parts
+mod Rests
 mod Ways
 mod Downs
+mod Ups
+mod Whole

@@ -5,6 +5,7 @@ use Rattle.atomic_table.specs.Seated.{TableId}
 use Rattle.one_history.specs.declared.entry.Entry.{Entry}
 use Rattle.one_history.specs.declared.view.Frame.{Frame}
 use Rattle.tlm_types.specs.declared.entry.Content.{Content}
+use Rattle.tlm_types.specs.declared.words.ObjectNo.TheVariants.{Hop}
 use Rattle.tlm_types.specs.declared.words.Phase.TheVariants.{BeginReq, EndReq}
 use Rattle.tlm_types.specs.declared.words.ReqMode.TheVariants.{Accept}
 use Rattle.tlm_types.specs.declared.words.TlmSync.{TlmSync}
@@ -13,22 +14,24 @@ use Rattle.tlm_types.specs.declared.words.TxnId.{TxnId}
 use Rattle.tlm_model.specs.declared.platform.Style.TheVariants.{FourPhase}
 use Rattle.tlm_model.specs.Plan.{Plan, Initiator, initiators_of}
 use Rattle.tlm_model.specs.Route.{route_of}
+use Rattle.token_book.specs.Purse.{Purse}
 use Rattle.payload_pool.specs.declared.baton.Baton.{Baton}
 use Rattle.flow_model.specs.World.{Passage, World, hop_at, hop_count, row_of}
 use Rattle.flow_model.specs.Events.{Among, Event, Finds, IsCall, IsTake}
+use Rattle.flow_model.specs.Numbers.{IsEnder}
 use Rattle.flow_model.specs.Platform.{passage_of, world_of}
 use Rattle.flow_plan.specs.Valid.{HasNoCycle}
 use Rattle.flow_plan.proofs.Ways.{world_law}
 use Rattle.cargo_model.specs.declared.cargo.Cargo.{Cargo}
 use Rattle.cargo_model.specs.Called.{IsAnswerIn}
-use Rattle.cargo_model.specs.Known.{Known}
+use Rattle.cargo_model.specs.Known.{Known, object_number}
 use Rattle.cargo_model.specs.Origins.{AreThere}
-use Rattle.cargo_model.specs.Tickets.{AreApart, Stocks}
-use Rattle.cargo_model.specs.Travel.{GoesDown, GoesUp, IsAsked, IsFetched, Moment, logged_by, numbers_for, route_for}
+use Rattle.cargo_model.specs.Tickets.{AreApart, PullsOwed, Stocks}
+use Rattle.cargo_model.specs.Travel.{Back as IsBackAt, GoesDown, GoesUp, IsAsked, IsFetched, Moment, Ready, logged_by, numbers_for, route_for, with_wallet}
 use Rattle.cargo_model.proofs.Origins.{apart_law}
 use Rattle.cargo_model.proofs.There.{there_law}
 use Rattle.target_node.specs.declared.items.Request.{Request}
-use Rattle.journey_law.specs.Places.{IsDown, IsStarting, IsUp, WaitsAt}
+use Rattle.journey_law.specs.Places.{HasEnded, IsDown, IsStarting, IsUp, MayGoUp, WaitsAt}
 use Rattle.journey_law.proofs.Parts.{stood}
 use Rattle.journey_law.proofs.Sums.{same_some}
 
@@ -84,6 +87,34 @@ module _ (frame : Frame Plan) (tokens : TableId) (h : List Event) (x : TxnId) (p
       let g : Waits s.known r x q.pass q.hop = subst (λ (y : TxnId). Waits s.known r y q.pass q.hop) s.txn first in
       let way : q.pass ≡ pass = same_some q.pass pass (passage_of frame.world x) g.fetched.down.asked.passes passes in
       subst (λ (n : ℕ). Waits s.known r x pass n) s.hop (subst (λ (d : Passage). Waits s.known r x d q.hop) way g)
+
+  -- a response that may go up, and the calls before it
+  pub record Responds (known : List (Entry Content)) (c : Cargo) (y : TxnId) (q : Passage) (j : ℕ) : Type 0 where
+    pub up : GoesUp frame.world tokens (Known frame.world.platform known) y q Ready j c
+    pub answer : TlmSync
+    pub begun : Finds (Known frame.world.platform known) (IsCall y (hop_at q j) BeginReq answer)
+    pub fits : IsAnswerIn (row_of w q j) answer
+    pub ended : row_of w q j ≡ Accept → Finds (Known frame.world.platform known) (IsCall y (hop_at q j) EndReq Accepted)
+
+  pub respond_here : (j : ℕ) (c : Cargo) (s : MayGoUp frame tokens h x pass j c) → Responds s.known c x pass j
+  respond_here j c s =
+      let d = s.can in
+      let first : Responds s.known c c.baton.txn d.pass d.hop = record { up = d.up; answer = d.answer; begun = d.begun; fits = d.fits; ended = d.ended } in
+      let g : Responds s.known c x d.pass d.hop = subst (λ (y : TxnId). Responds s.known c y d.pass d.hop) s.txn first in
+      let way : d.pass ≡ pass = same_some d.pass pass (passage_of frame.world x) g.up.asked.passes passes in
+      subst (λ (n : ℕ). Responds s.known c x pass n) s.hop (subst (λ (q : Passage). Responds s.known c x q d.hop) way g)
+
+  -- a response that has ended on the first hop
+  pub record Ends (known : List (Entry Content)) (c : Cargo) (before : Purse) (owed : ℕ) (y : TxnId) (q : Passage) : Type 0 where
+    pub up : GoesUp frame.world tokens (Known frame.world.platform known) y q (IsBackAt owed) 0 (with_wallet c before)
+    pub pulls : PullsOwed tokens owed (object_number frame.world.platform (Hop (hop_at q 0))) before c.baton.wallet
+    pub ender : Finds (Known frame.world.platform known) (IsEnder y (hop_at q 0))
+
+  pub end_here : (c : Cargo) (s : HasEnded frame tokens h x pass c) → Ends s.up.known c s.before s.owed x pass
+  end_here c s =
+      let first : Ends s.up.known c s.before s.owed c.baton.txn s.up.way = record { up = s.up.up; pulls = s.pulls; ender = s.ender } in
+      let g : Ends s.up.known c s.before s.owed x s.up.way = subst (λ (y : TxnId). Ends s.up.known c s.before s.owed y s.up.way) s.up.txn first in
+      subst (λ (q : Passage). Ends s.up.known c s.before s.owed x q) (same_some s.up.way pass (passage_of frame.world x) g.up.asked.passes passes) g
 
   module _ (i : Initiator) (is : slice_get (initiators_of frame.world) x.initiator ≡ Some i) (style : i.row.style ≡ FourPhase) (K : Event → Type 0) (asked : IsAsked frame.world tokens K x pass) where
     pub same_style : asked.initiator.row.style ≡ FourPhase

@@ -4,6 +4,7 @@ use Rattle.atomic_table.specs.Seated.{TableId}
 use Rattle.one_history.specs.declared.entry.Entry.{Entry}
 use Rattle.one_history.specs.declared.view.Frame.{Frame}
 use Rattle.tlm_types.specs.declared.entry.Content.{Content}
+use Rattle.tlm_types.specs.declared.words.ObjectNo.TheVariants.{Hop}
 use Rattle.tlm_types.specs.declared.words.Phase.TheVariants.{BeginResp}
 use Rattle.tlm_types.specs.declared.words.TxnId.{TxnId}
 use Rattle.tlm_model.specs.Plan.{Plan}
@@ -16,9 +17,9 @@ use Rattle.flow_model.specs.Events.{Among, Event, Finds, IsCall}
 use Rattle.flow_model.specs.Numbers.{IsEnder}
 use Rattle.flow_model.specs.Platform.{world_of}
 use Rattle.cargo_model.specs.declared.cargo.Cargo.{Cargo}
-use Rattle.cargo_model.specs.Known.{Known}
+use Rattle.cargo_model.specs.Known.{Known, object_number}
 use Rattle.cargo_model.specs.Tickets.{PullsOwed}
-use Rattle.cargo_model.specs.Travel.{Back as IsBackAt, GoesDown, GoesUp, Moment, Ready as IsReadyAt, There, numbers_for, with_wallet}
+use Rattle.cargo_model.specs.Travel.{Back as IsBackAt, GoesDown, GoesUp, Moment, Ready as IsReadyAt, There, with_wallet}
 use Rattle.plat_net.specs.HopCalls.{CanRespond}
 use Rattle.plat_net.specs.PoolCalls.{CanStart}
 use Rattle.target_node.specs.Items.{IsWaiting}
@@ -129,8 +130,8 @@ module _ (frame : Frame Plan) (tokens : TableId) (h : List Event) (x : TxnId) (p
     pub before : Purse
     pub up : IsUp (IsBackAt owed) 0 (with_wallet c before)
     pub few : owed < 2
-    pub pulls : PullsOwed tokens owed ((numbers_for frame.world tokens (Known frame.world.platform up.known) c.baton.txn up.way up.up.asked).hop 0) before c.baton.wallet
-    pub ender : Finds (Among h) (IsEnder x (hop_at pass 0))
+    pub pulls : PullsOwed tokens owed (object_number frame.world.platform (Hop (hop_at up.way 0))) before c.baton.wallet
+    pub ender : Finds (Known frame.world.platform up.known) (IsEnder c.baton.txn (hop_at up.way 0))
 
   -- What is known of the payload where it is. Of one that stands in a lane or came from there, the hop's log has the call that brought it.
   abbrev pub IsAt : Place → Type 0

@@ -1,5 +1,5 @@
 -- What a journey tells of its access, in the words of the law of runs under way.
-use Rattle.std.specs.Prelude.{ℕ, ◌≡◌, ◌≢◌, ◌+◌, ◌*◌, ◌<◌, ◌≤◌, ◌⊎◌, false, List, Some, slice_get}
+use Rattle.std.specs.Prelude.{ℕ, ◌≡◌, ◌≢◌, ◌+◌, ◌*◌, ◌<◌, ◌≤◌, ◌⊎◌, List, Some, slice_get}
 use Rattle.atomic_table.specs.Seated.{TableId}
 use Rattle.one_history.specs.declared.view.Frame.{Frame}
 use Rattle.tlm_types.specs.declared.words.ObjectNo.{ObjectNo}
@@ -19,7 +19,7 @@ use Rattle.begun_end.specs.Cargos.{CoversHop, IsReplyAt}
 use Rattle.port_model.specs.Stages.{price}
 use Rattle.journey_law.specs.Journeys.{Journey, carried_by}
 use Rattle.journey_law.specs.Parts.{Part}
-use Rattle.journey_law.specs.Places.{Place, is_up}
+use Rattle.journey_law.specs.Places.{Place}
 
 -- On each hop its calls are known, or their tickets are on the way.
 abbrev pub CoversHops : Plan → List Event → TxnId → Passage → (ObjectNo → ℕ) → Type 0
@@ -47,8 +47,9 @@ pub record TellsOfAccess (p : Plan) (h : List Event) (i : Initiator) (x : TxnId)
   pub pool : CoversPool h x pass carried
   pub memory : CoversMemory p h i x carried
 
--- A journey on the way down tells of its access.
-abbrev pub JourneysDownTell : Type 0
-JourneysDownTell = (frame : Frame Plan) (tokens : TableId) (h : List Event) (i : Initiator) (x : TxnId) (pass : Passage) (place : Place) (parts : ℕ → Part)
+-- So a journey tells of its access, where each entry of the history is backed by those before it.
+abbrev pub JourneysTell : Type 0
+JourneysTell = (frame : Frame Plan) (tokens : TableId) (h : List Event) (i : Initiator) (x : TxnId) (pass : Passage) (place : Place) (parts : ℕ → Part)
     → HasNoCycle frame.world.platform → slice_get (initiators_of frame.world) x.initiator ≡ Some i → i.row.style ≡ FourPhase
-    → Journey frame tokens h x pass place parts → is_up place ≡ false → TellsOfAccess frame.world h i x pass (carried_by frame.world (hop_count pass) place parts)
+    → AtEach (λ before e. IsBacked (world_of frame.world) (Among before) e) h
+    → Journey frame tokens h x pass place parts → TellsOfAccess frame.world h i x pass (carried_by frame.world (hop_count pass) place parts)

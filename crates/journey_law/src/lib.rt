@@ -8,10 +8,10 @@
 //! Nothing here runs, and no run uses it yet: each function carries a law.
 #![tactic(auto)]
 
-ghost use Rattle.journey_law.specs.Tells.{JourneysDownTell};
+ghost use Rattle.journey_law.specs.Tells.{JourneysTell};
 
-/// A payload on its way down, with what routers hold of its access above, tells of the access: the calls and the entries in the pool that
-/// are known, and the tickets of all others.
-pub fn journeys_down_tell()
-    ensures { JourneysDownTell }
+/// Wherever the payload of an access is, and whatever routers have of it besides, its journey tells of it: the calls and the entries in the
+/// pool that are known, the entry at its memory, and that the tickets of all others are on the way.
+pub fn journeys_tell()
+    ensures { JourneysTell }
 {}
