@@ -1,5 +1,5 @@
 -- A journey on the way down tells of its access.
-use Rattle.std.proofs.Common.{◌≡◌, ◌≢◌, ℕ, zero, suc, ◌+◌, ◌*◌, ◌-◌, ◌<◌, ◌≤◌, true, false, List, [], Option, Some, None, refl, sym, ap, ◌∙◌, subst, inl, inr, arith, ◌⊎◌}
+use Rattle.std.proofs.Common.{◌≡◌, ℕ, ◌+◌, ◌*◌, ◌-◌, ◌<◌, ◌≤◌, false, List, [], Option, Some, None, refl, sym, ap, ◌∙◌, subst, inl, inr, arith, ◌⊎◌}
 use Rattle.std.specs.Prelude.{slice_get}
 use Rattle.atomic_table.specs.Seated.{TableId}
 use Rattle.one_history.specs.declared.entry.Entry.{Entry}
@@ -13,7 +13,7 @@ use Rattle.tlm_model.specs.Route.{Route}
 use Rattle.token_book.specs.Purse.{Purse, left_of}
 use Rattle.payload_pool.specs.declared.baton.Baton.{Baton}
 use Rattle.flow_model.specs.World.{Passage, World, hop_at, hop_count, row_of}
-use Rattle.flow_model.specs.Events.{Among, Event, Finds}
+use Rattle.flow_model.specs.Events.{Among, Event}
 use Rattle.flow_model.specs.Platform.{world_of}
 use Rattle.flow_plan.specs.Valid.{HasNoCycle}
 use Rattle.route_plan.specs.Paths.{once}

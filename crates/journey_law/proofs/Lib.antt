@@ -7,4 +7,9 @@ mod Rests
 mod Ways
 mod Downs
 mod Ups
+mod Homes
 mod Whole
+mod Choices
+mod Counting
+mod Ports
+mod Stand

@@ -1,5 +1,5 @@
 -- What routers have of an access covers the hops that they have it for.
-use Rattle.std.proofs.Common.{◌≡◌, ℕ, ◌+◌, ◌<◌, ◌≤◌, List, Option, Some, None, refl, sym, ap, ◌∙◌, subst, arith}
+use Rattle.std.proofs.Common.{◌≡◌, ℕ, ◌+◌, ◌<◌, List, Option, Some, None, sym, ap, ◌∙◌, subst, arith}
 use Rattle.atomic_table.specs.Seated.{TableId}
 use Rattle.one_history.specs.declared.entry.Entry.{Entry}
 use Rattle.one_history.specs.declared.view.Frame.{Frame}
@@ -7,7 +7,6 @@ use Rattle.tlm_types.specs.declared.entry.Content.{Content}
 use Rattle.tlm_types.specs.declared.words.ObjectNo.TheVariants.{Hop}
 use Rattle.tlm_types.specs.declared.words.Phase.TheVariants.{BeginReq}
 use Rattle.tlm_types.specs.declared.words.ReqMode.{ReqMode}
-use Rattle.tlm_types.specs.declared.words.ReqMode.TheVariants.{Accept}
 use Rattle.tlm_types.specs.declared.words.TxnId.{TxnId}
 use Rattle.tlm_model.specs.Plan.{Plan}
 use Rattle.base_phases.specs.declared.phases.LaneState.{LaneState}
@@ -21,7 +20,7 @@ use Rattle.cargo_model.specs.Counts.{calls_down}
 use Rattle.cargo_model.specs.Known.{Known}
 use Rattle.router_node.specs.Items.{HasDebt, IsHeld}
 use Rattle.router_node.specs.declared.items.Held.{Held}
-use Rattle.begun_end.specs.Cargos.{CoversHop, IsGranted, IsRequested}
+use Rattle.begun_end.specs.Cargos.{CoversHop, IsRequested}
 use Rattle.begun_end.proofs.CargoLemmas.{hops_are_covered}
 use Rattle.journey_law.specs.Parts.{IsAbove, IsPassed, Left, Nothing, Part, Passed, Stand, one_if, tickets_of}
 use Rattle.journey_law.proofs.Sums.{covers_more, if_same, same_some}

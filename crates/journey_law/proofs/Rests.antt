@@ -1,10 +1,8 @@
 -- What is below a response on its way up: each hop's calls, and the Releases of their references.
-use Rattle.std.proofs.Common.{◌≡◌, ℕ, zero, suc, ◌+◌, ◌<◌, ◌≤◌, List, [], ◌∷◌, length, Option, Some, None, refl, sym, ap, ◌∙◌, subst, inl, inr, arith, ◌⊎◌}
+use Rattle.std.proofs.Common.{◌≡◌, ℕ, zero, suc, ◌+◌, ◌<◌, ◌≤◌, List, [], ◌∷◌, length, Some, refl, sym, ap, ◌∙◌, subst, inl, inr, arith, ◌⊎◌}
 use Rattle.atomic_table.specs.Seated.{TableId}
 use Rattle.view_lists.specs.Lists.{AreDistinct}
-use Rattle.one_history.specs.declared.entry.Entry.{Entry}
 use Rattle.one_history.specs.declared.view.Frame.{Frame}
-use Rattle.tlm_types.specs.declared.entry.Content.{Content}
 use Rattle.tlm_types.specs.declared.words.ObjectNo.TheVariants.{Hop, Pool}
 use Rattle.tlm_types.specs.declared.words.TxnId.{TxnId}
 use Rattle.tlm_model.specs.Each.{AtEach}
@@ -12,7 +10,6 @@ use Rattle.tlm_model.specs.Plan.{Plan}
 use Rattle.flow_model.specs.World.{Passage, World, hop_at, hop_count}
 use Rattle.flow_model.specs.Backed.{IsBacked}
 use Rattle.flow_model.specs.Events.{Among, Event, Finds, IsReleased}
-use Rattle.flow_model.specs.Numbers.{IsEnder}
 use Rattle.flow_model.specs.Platform.{passage_of, world_of}
 use Rattle.flow_plan.specs.Valid.{HasNoCycle}
 use Rattle.flow_plan.proofs.Ways.{world_law}
@@ -20,7 +17,7 @@ use Rattle.joined_traffic.specs.Accesses.{sum_below}
 use Rattle.joined_traffic.proofs.MemoryLemmas.{has_among}
 use Rattle.begun_traffic.proofs.PartLemmas.{released_calls_are_whole}
 use Rattle.cargo_model.specs.Called.{IsCalled}
-use Rattle.router_node.specs.Items.{IsEnd, IsRest}
+use Rattle.router_node.specs.Items.{IsEnd}
 use Rattle.router_node.specs.declared.items.End.{End}
 use Rattle.router_node.specs.declared.items.End.TheVariants.{Owed, At}
 use Rattle.router_node.specs.declared.items.Rest.{Rest}
@@ -36,7 +33,7 @@ module _ (frame : Frame Plan) (tokens : TableId) (h : List Event) (x : TxnId) (p
   w = world_of frame.world
 
   -- what a router is still to make, of the way of x
-  end_here : (k : ℕ) → k < hop_count pass → (rest : Rest) (a : IsLeft frame tokens h x pass k rest) → IsEnd frame tokens a.known x pass k rest.end
+  pub end_here : (k : ℕ) → k < hop_count pass → (rest : Rest) (a : IsLeft frame tokens h x pass k rest) → IsEnd frame tokens a.known x pass k rest.end
   end_here k less rest a =
       let way : a.way ≡ pass = same_some a.way pass (passage_of frame.world x) (subst (λ (y : TxnId). passage_of frame.world y ≡ Some a.way) a.txn a.is.passes) passes in
       let below : a.above + 1 < hop_count pass = subst (λ (q : Passage). a.above + 1 < hop_count q) way a.is.next in
@@ -64,23 +61,23 @@ module _ (frame : Frame Plan) (tokens : TableId) (h : List Event) (x : TxnId) (p
       let q : tickets_of (Left rest) (Hop (hop_at pass k)) ≡ ends_owed rest.end = if_same rest.below (hop_at pass k) (ends_owed rest.end) a.here in
       covers_more w h x pass k (left + ends_owed rest.end) (left + tickets_of (Left rest) (Hop (hop_at pass k))) (left_covers k left less rest a called) (omega arith)
 
-  module _ (parts : ℕ → Part) (j : ℕ) (below : (k : ℕ) → j < k → k < hop_count pass → IsBelow frame tokens h x pass k (parts k)) where
+  module _ (parts : ℕ → Part) (from : ℕ) (below : (k : ℕ) → from ≤ k → k < hop_count pass → IsBelow frame tokens h x pass k (parts k)) where
     abbrev releases : ℕ → ℕ
     releases k = tickets_of (parts k) (Pool x.initiator)
 
-    -- Of the hops above m and below j, so many Releases are known that with the tickets of the others they are all.
+    -- Of the hops from this one on and above m, so many Releases are known that with the tickets of the others they are all.
     pub record Releases (m : ℕ) : Type 0 where
       pub numbers : List ℕ
       pub distinct : AreDistinct numbers
       pub few : (k : ℕ) → Among numbers k → k < m
       pub known : (k : ℕ) → Among numbers k → Finds (Among h) (IsReleased x k)
-      pub many : m ≤ length numbers + sum_below releases m + (j + 1)
+      pub many : m ≤ length numbers + sum_below releases m + from
 
     pub releases_to : (m : ℕ) → m ≤ hop_count pass → Releases m
     releases_to zero l = record { numbers = []; distinct = tt; few = λ k m. absurd m; known = λ k m. absurd m; many = omega arith }
-    releases_to (suc m) l = by (is_below m j) (releases_to m (omega arith))
+    releases_to (suc m) l = by (is_below m from) (releases_to m (omega arith))
       where
-        is_below : (m j : ℕ) → (j < m) ⊎ (m ≤ j)
+        is_below : (m j : ℕ) → (j ≤ m) ⊎ (m < j)
         is_below m j = grind arith
 
         one : (part : Part) → parts m ≡ part → IsBelow frame tokens h x pass m part → Releases m → Releases (suc m)
@@ -100,6 +97,6 @@ module _ (frame : Frame Plan) (tokens : TableId) (h : List Event) (x : TxnId) (p
           many = (let b = r.many in let t : releases m ≡ 1 = ap (λ (d : Part). tickets_of d (Pool x.initiator)) q ∙ if_same rest.txn.initiator x.initiator 1 (ap (λ (y : TxnId). y.initiator) a.txn) in omega arith);
         }
 
-        by : (j < m) ⊎ (m ≤ j) → Releases m → Releases (suc m)
+        by : (from ≤ m) ⊎ (m < from) → Releases m → Releases (suc m)
         by (inl past) r = one (parts m) refl (below m past l) r
         by (inr up) r = record { numbers = r.numbers; distinct = r.distinct; few = λ k n. (let f = r.few k n in omega arith); known = r.known; many = omega arith }

@@ -1,7 +1,6 @@
 -- Sums, and what is covered by more tickets.
-use Rattle.std.proofs.Common.{◌≡◌, ℕ, zero, suc, ◌+◌, ◌<◌, ◌≤◌, Bool, true, false, List, Some, Option, refl, arith, ◌⊎◌, inl, inr, eq-eqb, nat_eq, ap}
+use Rattle.std.proofs.Common.{◌≡◌, ℕ, zero, suc, ◌+◌, ◌<◌, ◌≤◌, Bool, List, Some, Option, arith, ◌⊎◌, inl, inr, eq-eqb, ap}
 use Rattle.std.specs.Prelude.{◌==◌, if◌then◌else◌}
-use Rattle.std.proofs.lemmas.Grind.{common_steps}
 use Rattle.tlm_types.specs.declared.words.TxnId.{TxnId}
 use Rattle.flow_model.specs.World.{Passage, World}
 use Rattle.flow_model.specs.Events.{Event}

@@ -1,5 +1,5 @@
 -- A journey on the way up tells of its access.
-use Rattle.std.proofs.Common.{◌≡◌, ◌≢◌, ℕ, zero, suc, ◌+◌, ◌*◌, ◌-◌, ◌<◌, ◌≤◌, true, false, List, length, Option, Some, None, refl, sym, ap, ◌∙◌, subst, inl, inr, arith, ◌⊎◌}
+use Rattle.std.proofs.Common.{◌≡◌, ℕ, ◌+◌, ◌-◌, ◌<◌, ◌≤◌, true, List, length, Option, Some, None, refl, sym, ap, ◌∙◌, subst, inl, inr, arith}
 use Rattle.std.specs.Prelude.{slice_get}
 use Rattle.atomic_table.specs.Seated.{TableId}
 use Rattle.one_history.specs.declared.entry.Entry.{Entry}
@@ -26,7 +26,7 @@ use Rattle.cargo_model.specs.declared.cargo.Cargo.{Cargo}
 use Rattle.cargo_model.specs.Called.{IsCalled}
 use Rattle.cargo_model.specs.Counts.{calls_down}
 use Rattle.cargo_model.specs.Known.{Known, object_number}
-use Rattle.cargo_model.specs.Travel.{Back as IsBackAt, GoesUp, IsAsked, Moment, Ready, There, route_for, with_wallet}
+use Rattle.cargo_model.specs.Travel.{Back as IsBackAt, GoesUp, Moment, Ready, There, route_for, with_wallet}
 use Rattle.cargo_model.proofs.More.{called_more, returned_more}
 use Rattle.port_model.specs.Stages.{price}
 use Rattle.begun_end.specs.Cargos.{CoversHop, IsReplyAt}
@@ -81,7 +81,7 @@ module _ (frame : Frame Plan) (tokens : TableId) (h : List Event) (i : Initiator
       ]
     ];
     pool = (
-        let r = releases_to frame tokens h x pass free journey.passes g.short backed parts (hop_of place) (journey.below rises) n (omega arith) in
+        let r = releases_to frame tokens h x pass free journey.passes g.short backed parts (hop_of place + 1) (λ k past less. journey.below rises k (omega arith) less) n (omega arith) in
         record {
           moves = 1 + (n + length r.numbers);
           moved = record { taken = g.taken; acquired = n; released = r.numbers; distinct = r.distinct; acquires = g.acquires; releases = r.known; many = refl };

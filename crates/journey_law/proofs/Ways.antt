@@ -1,5 +1,5 @@
 -- What is known of a payload where it is, in the words of its access.
-use Rattle.std.proofs.Common.{◌≡◌, ℕ, ◌+◌, ◌*◌, ◌<◌, List, Option, Some, refl, sym, ap, ◌∙◌, subst, arith}
+use Rattle.std.proofs.Common.{◌≡◌, ℕ, ◌+◌, ◌*◌, List, Some, sym, ap, ◌∙◌, subst}
 use Rattle.std.specs.Prelude.{is_some, slice_get}
 use Rattle.atomic_table.specs.Seated.{TableId}
 use Rattle.one_history.specs.declared.entry.Entry.{Entry}
@@ -17,7 +17,7 @@ use Rattle.tlm_model.specs.Route.{route_of}
 use Rattle.token_book.specs.Purse.{Purse}
 use Rattle.payload_pool.specs.declared.baton.Baton.{Baton}
 use Rattle.flow_model.specs.World.{Passage, World, hop_at, hop_count, row_of}
-use Rattle.flow_model.specs.Events.{Among, Event, Finds, IsCall, IsTake}
+use Rattle.flow_model.specs.Events.{Event, Finds, IsCall, IsTake}
 use Rattle.flow_model.specs.Numbers.{IsEnder}
 use Rattle.flow_model.specs.Platform.{passage_of, world_of}
 use Rattle.flow_plan.specs.Valid.{HasNoCycle}
@@ -32,7 +32,6 @@ use Rattle.cargo_model.proofs.Origins.{apart_law}
 use Rattle.cargo_model.proofs.There.{there_law}
 use Rattle.target_node.specs.declared.items.Request.{Request}
 use Rattle.journey_law.specs.Places.{HasEnded, IsDown, IsStarting, IsUp, MayGoUp, WaitsAt}
-use Rattle.journey_law.proofs.Parts.{stood}
 use Rattle.journey_law.proofs.Sums.{same_some}
 
 module _ (frame : Frame Plan) (tokens : TableId) (h : List Event) (x : TxnId) (pass : Passage) (free : HasNoCycle frame.world.platform) (passes : passage_of frame.world x ≡ Some pass) where

@@ -1,4 +1,6 @@
 pub mod Parts
 pub mod Places
 pub mod Journeys
+pub mod Homes
 pub mod Tells
+pub mod Whole

@@ -8,10 +8,24 @@
 //! Nothing here runs, and no run uses it yet: each function carries a law.
 #![tactic(auto)]
 
-ghost use Rattle.journey_law.specs.Tells.{JourneysTell};
+ghost use Rattle.journey_law.specs.Tells.{HomesTell, JourneysTell};
+ghost use Rattle.journey_law.specs.Whole.{PartsAreSound, PartsStand};
 
 /// Wherever the payload of an access is, and whatever routers have of it besides, its journey tells of it: the calls and the entries in the
 /// pool that are known, the entry at its memory, and that the tickets of all others are on the way.
 pub fn journeys_tell()
     ensures { JourneysTell }
+{}
+
+/// An access that its port has taken back tells of itself: routers below may still have END_RESPs and Releases to make, and the port its
+/// last Release.
+pub fn homes_tell()
+    ensures { HomesTell }
+{}
+
+/// A net that is taken apart at any moment, with a journey of each access that is under way, has begun as the law of runs under way has it;
+/// so its closed history is sound.
+pub fn parts_stand()
+    ensures begun { PartsStand }
+    ensures sound { PartsAreSound }
 {}
