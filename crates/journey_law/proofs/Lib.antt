@@ -11,5 +11,6 @@ mod Homes
 mod Whole
 mod Choices
 mod Counting
+mod Away
 mod Ports
 mod Stand

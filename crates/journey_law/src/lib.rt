@@ -3,11 +3,16 @@
 //! - `specs/Places`: where the payload is, and what is known of it there.
 //! - `specs/Parts`: what the routers along its way have of it.
 //! - `specs/Journeys`: both together, and how many tickets are on the way.
-//! - `specs/Tells`: what a journey tells, in the words of the law of runs under way (`begun_end`).
+//! - `specs/Homes`: an access that its port has taken back, for which routers below still have something to make.
+//! - `specs/Away`: which accesses a port has under way.
+//! - `specs/Tells`: what a journey and a return tell, in the words of the law of runs under way (`begun_end`).
+//! - `specs/Whole`: where each access that is under way has a journey, the run has begun as that law has it, and its history is sound.
 //!
+//! A journey is made of what ports, routers, hops and memories promise of what they hold, each by a note of its own.
 //! Nothing here runs, and no run uses it yet: each function carries a law.
 #![tactic(auto)]
 
+ghost use Rattle.journey_law.specs.Away.{AwayIsAll};
 ghost use Rattle.journey_law.specs.Tells.{HomesTell, JourneysTell};
 ghost use Rattle.journey_law.specs.Whole.{PartsAreSound, PartsStand};
 
@@ -21,6 +26,11 @@ pub fn journeys_tell()
 /// last Release.
 pub fn homes_tell()
     ensures { HomesTell }
+{}
+
+/// The accesses that a port has under way are those whose numbers it has, where none of them stands there twice.
+pub fn away_is_all()
+    ensures { AwayIsAll }
 {}
 
 /// A net that is taken apart at any moment, with a journey of each access that is under way, has begun as the law of runs under way has it;
