@@ -3,7 +3,7 @@ use Rattle.std.proofs.Common.{◌≡◌, ◌≢◌, ℕ, zero, suc, ◌+◌, ◌
 use Rattle.std.specs.Prelude.{slice_get, ◌==◌, if◌then◌else◌}
 use Rattle.std.proofs.lemmas.Bool.{eqb-true}
 use Rattle.std.proofs.lemmas.Option.{slice_get_within}
-use Rattle.view_lists.specs.Lists.{AreDistinct, Has}
+use Rattle.view_lists.specs.Lists.{AreDistinct}
 use Rattle.tlm_types.specs.declared.words.ObjectNo.{ObjectNo}
 use Rattle.tlm_model.specs.Plan.{Plan, Initiator}
 use Rattle.tlm_model.specs.Requests.{Request}
@@ -11,7 +11,7 @@ use Rattle.flow_model.specs.Events.{Among, Event}
 use Rattle.flow_model.specs.Platform.{addresses_of}
 use Rattle.joined_traffic.specs.Accesses.{sum_below}
 use Rattle.joined_traffic.proofs.MemoryLemmas.{among_has, has_among}
-use Rattle.port_model.specs.Stages.{Ahead, Stage, Under, count_of, under_by}
+use Rattle.port_model.specs.Stages.{Ahead, Under, count_of, under_by}
 use Rattle.port_model.specs.Way.{IsUnderWay, Port}
 use Rattle.port_model.proofs.Origins.{address_by, origin}
 use Rattle.begun_end.proofs.AskingLemmas.{made_asked}

@@ -10,6 +10,7 @@ mod Ups
 mod Homes
 mod Whole
 mod Choices
+mod Found
 mod Counting
 mod Away
 mod Ports

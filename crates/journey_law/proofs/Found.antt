@@ -1,0 +1,94 @@
+-- What routers and memories hold is a place or a part of a journey.
+use Rattle.std.proofs.Common.{◌≡◌, ℕ, ◌+◌, ◌<◌, List, Option, Some, None, refl, sym, ap, ◌∙◌, subst}
+use Rattle.std.specs.Prelude.{IfSome}
+use Rattle.atomic_table.specs.Seated.{TableId}
+use Rattle.one_history.specs.declared.entry.Entry.{Entry}
+use Rattle.one_history.specs.declared.view.Frame.{Frame}
+use Rattle.tlm_types.specs.declared.entry.Content.{Content}
+use Rattle.tlm_types.specs.declared.words.TxnId.{TxnId}
+use Rattle.tlm_model.specs.Plan.{Plan}
+use Rattle.token_book.specs.Account.{Slip}
+use Rattle.flow_model.specs.World.{Passage, hop_at, hop_count}
+use Rattle.flow_model.specs.Events.{Event}
+use Rattle.flow_model.specs.Platform.{passage_of}
+use Rattle.flow_plan.specs.Valid.{HasNoCycle}
+use Rattle.flow_plan.proofs.Ways.{world_law}
+use Rattle.cargo_model.specs.declared.cargo.Cargo.{Cargo}
+use Rattle.cargo_model.specs.Known.{Known}
+use Rattle.cargo_model.specs.Travel.{GoesDown, Ready}
+use Rattle.plat_net.specs.HopCalls.{CanRespond}
+use Rattle.router_node.specs.Items.{IsDown as MayGoDown, IsHolding}
+use Rattle.router_node.specs.Stages.{IsRestUnder, IsStage}
+use Rattle.router_node.specs.declared.items.Down.{Down as ToPass}
+use Rattle.router_node.specs.declared.items.Held.{Held}
+use Rattle.router_node.specs.declared.items.Rest.{Rest}
+use Rattle.router_node.specs.declared.stage.Stage.{Stage}
+use Rattle.router_node.specs.declared.stage.Stage.TheVariants.{Down, Below, Up, Sent}
+use Rattle.journey_law.specs.Found.{IsFoundStage, IsPartAbove, IsPartBelow, IsPlaceAt, RequestsAreFound, ResponsesAreFound, StagesAreFound}
+use Rattle.journey_law.specs.Parts.{Stand}
+use Rattle.journey_law.specs.Places.{ToGoDown, ToGoUp}
+use Rattle.journey_law.proofs.Sums.{same_some}
+
+module _ (frame : Frame Plan) (tokens : TableId) (h : List Event) (known : List (Entry Content)) (free : HasNoCycle frame.world.platform) (stand : Stand frame.world h known) where
+  -- a hop of the way of x is at one place of it
+  one_place : (x : TxnId) (pass way : Passage) (j k number : ℕ) → passage_of frame.world x ≡ Some pass → passage_of frame.world x ≡ Some way → j < hop_count pass → k < hop_count way → hop_at pass j ≡ number → hop_at way k ≡ number → k ≡ j
+  one_place x pass way j k number passes ways less below here there =
+      let same : way ≡ pass = same_some way pass (passage_of frame.world x) ways passes in
+      ((world_law frame.world free).passages x pass passes).distinct k j (subst (λ (q : Passage). k < hop_count q) same below) less
+      (ap (λ (q : Passage). hop_at q k) (sym same) ∙ (there ∙ sym here))
+
+  respond_found : (number : ℕ) (leg : Slip) (c : Cargo) (at : ℕ) → CanRespond frame tokens number leg c at known → IsPlaceAt frame tokens h number c.baton.txn (λ j. ToGoUp j c)
+  respond_found number leg c at can pass j passes less here = record {
+    known = known;
+    stand = stand;
+    number = number;
+    leg = leg;
+    at = at;
+    can = can;
+    txn = refl;
+    hop = one_place c.baton.txn pass can.pass j can.hop number passes can.up.asked.passes less can.up.held.below here can.here;
+  }
+
+  down_found : (d : ToPass) → MayGoDown frame tokens known d → IsPlaceAt frame tokens h d.held.below d.held.txn (λ j. ToGoDown j d.cargo)
+  down_found d may pass j passes less here =
+      let same : may.hop + 1 ≡ j = one_place d.held.txn pass may.pass j (may.hop + 1) d.held.below passes may.held.passes less may.held.next here may.held.below in
+      record {
+        known = known;
+        stand = stand;
+        way = may.pass;
+        down = subst (λ (y : TxnId). GoesDown frame.world tokens (Known frame.world.platform known) y may.pass Ready j d.cargo) (sym may.down.held.txn)
+            (subst (λ (k : ℕ). GoesDown frame.world tokens (Known frame.world.platform known) d.held.txn may.pass Ready k d.cargo) same may.down);
+        txn = may.down.held.txn;
+      }
+
+  part_above : (held : Held) → IsHolding frame tokens known held → IsPartAbove frame tokens h held
+  part_above held holding pass k here = record { known = known; stand = stand; holding = holding; txn = refl; here = here }
+
+  part_below : (above : ℕ) (x : TxnId) (rest : Rest) → IsRestUnder frame tokens known above x rest → IsPartBelow frame tokens h x rest
+  part_below above x rest r pass k here = record { known = known; stand = stand; way = r.pass; above = r.hop; is = r.rest; txn = r.of; here = here }
+
+  parts_below : (above : ℕ) (x : TxnId) (rest : Option Rest) → IfSome rest (IsRestUnder frame tokens known above x) → IfSome rest (IsPartBelow frame tokens h x)
+  parts_below above x None r = tt
+  parts_below above x (Some rest) r = part_below above x rest r
+
+  stage_found : (stage : Stage) → IsStage frame tokens known stage → IsFoundStage frame tokens h stage
+  stage_found (Down d) s = (down_found d s.1, part_above d.held (record { pass = s.1.pass; hop = s.1.hop; state = s.1.state; held = s.1.held }))
+  stage_found (Below held) s = part_above held s.holding
+  stage_found (Up r rest) s = (respond_found r.hop r.leg r.cargo r.due s.can, parts_below r.hop r.cargo.baton.txn rest s.below)
+  stage_found (Sent a) s = parts_below a.above a.txn a.rest s.below
+
+pub stages_are_found : StagesAreFound
+stages_are_found frame tokens h known stage free stand s = stage_found frame tokens h known free stand stage s
+
+pub responses_are_found : ResponsesAreFound
+responses_are_found frame tokens h known r free stand can = respond_found frame tokens h known free stand r.hop r.leg r.cargo r.due can
+
+pub requests_are_found : RequestsAreFound
+requests_are_found frame tokens h known memory r free stand waits pass j passes less here = record {
+  known = known;
+  stand = stand;
+  memory = memory;
+  waiting = waits;
+  txn = refl;
+  hop = (let d = waits.request.fetched.down in one_place frame tokens h known free stand r.cargo.baton.txn pass waits.pass j waits.hop r.hop passes d.asked.passes less d.held.below here waits.request.here);
+}

@@ -1,0 +1,11 @@
+use Rattle.journey_law.proofs.Found.{requests_are_found, responses_are_found, stages_are_found}
+use Rattle.journey_law.proofs.parts_are_found.Goals as goal
+
+pub returns-clause-stages : goal.returns-clause-stages
+returns-clause-stages c = stages_are_found
+
+pub returns-clause-requests : goal.returns-clause-requests
+returns-clause-requests c = requests_are_found
+
+pub returns-clause-responses : goal.returns-clause-responses
+returns-clause-responses c = responses_are_found

@@ -1,0 +1,55 @@
+-- What routers and memories hold, found at a hop: it is a place or a part of a journey.
+use Rattle.std.specs.Prelude.{ℕ, ◌≡◌, ◌<◌, List, Some, IfSome}
+use Rattle.atomic_table.specs.Seated.{TableId}
+use Rattle.one_history.specs.declared.entry.Entry.{Entry}
+use Rattle.one_history.specs.declared.view.Frame.{Frame}
+use Rattle.tlm_types.specs.declared.entry.Content.{Content}
+use Rattle.tlm_types.specs.declared.words.TxnId.{TxnId}
+use Rattle.tlm_model.specs.Plan.{Plan}
+use Rattle.flow_model.specs.World.{Passage, hop_at, hop_count}
+use Rattle.flow_model.specs.Events.{Event}
+use Rattle.flow_model.specs.Platform.{passage_of}
+use Rattle.flow_plan.specs.Valid.{HasNoCycle}
+use Rattle.plat_net.specs.HopCalls.{CanRespond}
+use Rattle.target_node.specs.Items.{IsWaiting}
+use Rattle.target_node.specs.declared.items.Request.{Request}
+use Rattle.target_node.specs.declared.items.Response.{Response}
+use Rattle.router_node.specs.Stages.{IsStage}
+use Rattle.router_node.specs.declared.items.Held.{Held}
+use Rattle.router_node.specs.declared.items.Rest.{Rest}
+use Rattle.router_node.specs.declared.stage.Stage.{Stage}
+use Rattle.router_node.specs.declared.stage.Stage.TheVariants.{Down, Below, Up, Sent}
+use Rattle.journey_law.specs.Parts.{IsAbove, IsBelow, Left, Passed, Stand}
+use Rattle.journey_law.specs.Places.{IsAt, Place, ToGoDown, ToGoUp, Waiting}
+
+module _ (frame : Frame Plan) (tokens : TableId) (h : List Event) where
+  -- The payload of x stands at this place of its way, where the hop of this number is there.
+  abbrev pub IsPlaceAt : ℕ → TxnId → (ℕ → Place) → Type 0
+  IsPlaceAt number x place = (pass : Passage) (j : ℕ) → passage_of frame.world x ≡ Some pass → j < hop_count pass → hop_at pass j ≡ number → IsAt frame tokens h x pass (place j)
+
+  abbrev pub IsPartAbove : Held → Type 0
+  IsPartAbove held = (pass : Passage) (k : ℕ) → held.above ≡ hop_at pass k → IsAbove frame tokens h held.txn pass k (Passed held)
+
+  abbrev pub IsPartBelow : TxnId → Rest → Type 0
+  IsPartBelow x rest = (pass : Passage) (k : ℕ) → rest.below ≡ hop_at pass k → IsBelow frame tokens h x pass k (Left rest)
+
+  -- what a router holds of a transaction
+  abbrev pub IsFoundStage : Stage → Type 0
+  IsFoundStage (Down d) = IsPlaceAt d.held.below d.held.txn (λ j. ToGoDown j d.cargo) × IsPartAbove d.held
+  IsFoundStage (Below held) = IsPartAbove held
+  IsFoundStage (Up r rest) = IsPlaceAt r.hop r.cargo.baton.txn (λ j. ToGoUp j r.cargo) × IfSome rest (IsPartBelow r.cargo.baton.txn)
+  IsFoundStage (Sent a) = IfSome a.rest (IsPartBelow a.txn)
+
+-- All that a router holds is a place or a part of a journey.
+abbrev pub StagesAreFound : Type 0
+StagesAreFound = (frame : Frame Plan) (tokens : TableId) (h : List Event) (known : List (Entry Content)) (stage : Stage) → HasNoCycle frame.world.platform → Stand frame.world h known
+    → IsStage frame tokens known stage → IsFoundStage frame tokens h stage
+
+-- So are the requests and the responses of a memory.
+abbrev pub RequestsAreFound : Type 0
+RequestsAreFound = (frame : Frame Plan) (tokens : TableId) (h : List Event) (known : List (Entry Content)) (memory : ℕ) (r : Request) → HasNoCycle frame.world.platform → Stand frame.world h known
+    → IsWaiting frame tokens memory known r → IsPlaceAt frame tokens h r.hop r.cargo.baton.txn (λ j. Waiting j r)
+
+abbrev pub ResponsesAreFound : Type 0
+ResponsesAreFound = (frame : Frame Plan) (tokens : TableId) (h : List Event) (known : List (Entry Content)) (r : Response) → HasNoCycle frame.world.platform → Stand frame.world h known
+    → CanRespond frame tokens r.hop r.leg r.cargo r.due known → IsPlaceAt frame tokens h r.hop r.cargo.baton.txn (λ j. ToGoUp j r.cargo)
