@@ -1,21 +1,31 @@
 -- What routers and memories hold is a place or a part of a journey.
-use Rattle.std.proofs.Common.{◌≡◌, ℕ, ◌+◌, ◌<◌, List, Option, Some, None, refl, sym, ap, ◌∙◌, subst}
+use Rattle.std.proofs.Common.{◌≡◌, ℕ, ◌+◌, ◌<◌, List, Option, Some, None, refl, sym, ap, ◌∙◌, subst, inl, inr, Bool, ◌⊎◌}
 use Rattle.std.specs.Prelude.{IfSome}
 use Rattle.atomic_table.specs.Seated.{TableId}
 use Rattle.one_history.specs.declared.entry.Entry.{Entry}
 use Rattle.one_history.specs.declared.view.Frame.{Frame}
 use Rattle.tlm_types.specs.declared.entry.Content.{Content}
+use Rattle.tlm_types.specs.declared.words.ObjectNo.{ObjectNo}
+use Rattle.tlm_types.specs.declared.words.ObjectNo.TheVariants.{Hop}
+use Rattle.tlm_types.specs.declared.words.Phase.TheVariants.{BeginReq, BeginResp}
 use Rattle.tlm_types.specs.declared.words.TxnId.{TxnId}
 use Rattle.tlm_model.specs.Plan.{Plan}
 use Rattle.token_book.specs.Account.{Slip}
-use Rattle.flow_model.specs.World.{Passage, hop_at, hop_count}
-use Rattle.flow_model.specs.Events.{Event}
-use Rattle.flow_model.specs.Platform.{passage_of}
+use Rattle.flow_model.specs.World.{Passage, hop_at, hop_count, is_refused, row_of}
+use Rattle.flow_model.specs.Events.{Among, Event, Finds, IsCall}
+use Rattle.flow_model.specs.Platform.{passage_of, world_of}
 use Rattle.flow_plan.specs.Valid.{HasNoCycle}
 use Rattle.flow_plan.proofs.Ways.{world_law}
 use Rattle.cargo_model.specs.declared.cargo.Cargo.{Cargo}
-use Rattle.cargo_model.specs.Known.{Known}
-use Rattle.cargo_model.specs.Travel.{GoesDown, Ready}
+use Rattle.cargo_model.specs.Called.{IsAnswerIn}
+use Rattle.cargo_model.specs.Known.{Known, object_number, objects_of}
+use Rattle.cargo_model.proofs.Called.{answers_fit}
+use Rattle.cargo_model.proofs.Origins.{only_object}
+use Rattle.cargo_net.specs.Carried.{IsAtSide}
+use Rattle.begun_end.specs.Cargos.{IsRequested}
+use Rattle.hop_model.specs.Answers.{request_answer, response_answer}
+use Rattle.hop_object.specs.declared.lane.Side.TheVariants.{Down as Downward, Up as Upward}
+use Rattle.cargo_model.specs.Travel.{GoesDown, GoesUp, IsVouched, Ready, There}
 use Rattle.plat_net.specs.HopCalls.{CanRespond}
 use Rattle.router_node.specs.Items.{IsDown as MayGoDown, IsHolding}
 use Rattle.router_node.specs.Stages.{IsRestUnder, IsStage}
@@ -24,9 +34,9 @@ use Rattle.router_node.specs.declared.items.Held.{Held}
 use Rattle.router_node.specs.declared.items.Rest.{Rest}
 use Rattle.router_node.specs.declared.stage.Stage.{Stage}
 use Rattle.router_node.specs.declared.stage.Stage.TheVariants.{Down, Below, Up, Sent}
-use Rattle.journey_law.specs.Found.{IsFoundStage, IsPartAbove, IsPartBelow, IsPlaceAt, RequestsAreFound, ResponsesAreFound, StagesAreFound}
+use Rattle.journey_law.specs.Found.{IsFoundStage, IsPartAbove, IsPartBelow, IsPlaceAt, RequestsAreFound, RequestsInLanes, ResponsesAreFound, ResponsesInLanes, StagesAreFound}
 use Rattle.journey_law.specs.Parts.{Stand}
-use Rattle.journey_law.specs.Places.{ToGoDown, ToGoUp}
+use Rattle.journey_law.specs.Places.{GoneDown, GoneUp, IsDown, IsUp, ToGoDown, ToGoUp}
 use Rattle.journey_law.proofs.Sums.{same_some}
 
 module _ (frame : Frame Plan) (tokens : TableId) (h : List Event) (known : List (Entry Content)) (free : HasNoCycle frame.world.platform) (stand : Stand frame.world h known) where
@@ -92,3 +102,66 @@ requests_are_found frame tokens h known memory r free stand waits pass j passes 
   txn = refl;
   hop = (let d = waits.request.fetched.down in one_place frame tokens h known free stand r.cargo.baton.txn pass waits.pass j waits.hop r.hop passes d.asked.passes less d.held.below here waits.request.here);
 }
+
+module _ (frame : Frame Plan) (tokens : TableId) (h : List Event) (known : List (Entry Content)) (free : HasNoCycle frame.world.platform) (stand : Stand frame.world h known) (o : ℕ) (x : TxnId) (c : Cargo)
+    (there : Among (objects_of frame.world.platform) (Hop o)) where
+  same_hop : (a b : ℕ) → ◌≡◌ {A = ObjectNo} (Hop a) (Hop b) → a ≡ b
+  same_hop a b q = cc
+
+  -- the hop that known entries vouch for is this one
+  vouched_hop : (way : Passage) (k : ℕ) → object_number frame.world.platform (Hop o) ≡ object_number frame.world.platform (Hop (hop_at way k)) → hop_at way k ≡ o
+  vouched_hop way k q = same_hop (hop_at way k) o (only_object frame.world.platform (Hop (hop_at way k)) (Hop o) there (sym q))
+
+  request_in_lane : (open_response : Bool) (v : IsVouched frame.world tokens (object_number frame.world.platform (Hop o)) x c known) → IsAtSide Downward v.way
+      → Finds (Among h) (IsCall x o BeginReq (request_answer ((world_of frame.world).hop o).req open_response)) → IsPlaceAt frame tokens h o x (λ j. GoneDown j c)
+  request_in_lane open_response v side call pass j passes less here = by v.way side
+    where
+      requested : IsRequested (world_of frame.world) h x pass j
+      requested = record {
+        answer = request_answer ((world_of frame.world).hop o).req open_response;
+        fits = subst (λ (n : ℕ). IsAnswerIn (row_of (world_of frame.world) pass j) (request_answer ((world_of frame.world).hop n).req open_response)) here
+            (answers_fit ((world_of frame.world).hop (hop_at pass j)).req (is_refused (world_of frame.world) pass j) open_response);
+        begun = subst (λ (n : ℕ). Finds (Among h) (IsCall x n BeginReq (request_answer ((world_of frame.world).hop o).req open_response))) (sym here) call;
+      }
+
+      by : (way : GoesDown frame.world tokens (Known frame.world.platform known) x v.pass There v.hop c ⊎ GoesUp frame.world tokens (Known frame.world.platform known) x v.pass There v.hop c)
+          → IsAtSide Downward way → IsDown frame tokens h x pass There j c × IsRequested (world_of frame.world) h x pass j
+      by (inr u) s = absurd s
+      by (inl d) s =
+          let same : v.hop ≡ j = one_place frame tokens h known free stand x pass v.pass j v.hop o passes d.asked.passes less d.held.below here (vouched_hop v.pass v.hop v.place) in (
+            record {
+              known = known;
+              stand = stand;
+              way = v.pass;
+              down = subst (λ (y : TxnId). GoesDown frame.world tokens (Known frame.world.platform known) y v.pass There j c) (sym d.held.txn)
+                  (subst (λ (k : ℕ). GoesDown frame.world tokens (Known frame.world.platform known) x v.pass There k c) same d);
+              txn = d.held.txn;
+            },
+            requested,
+          )
+
+  response_in_lane : (v : IsVouched frame.world tokens (object_number frame.world.platform (Hop o)) x c known) → IsAtSide Upward v.way
+      → Finds (Among h) (IsCall x o BeginResp (response_answer ((world_of frame.world).hop o).resp)) → IsPlaceAt frame tokens h o x (λ j. GoneUp j c)
+  response_in_lane v side call pass j passes less here = by v.way side
+    where
+      by : (way : GoesDown frame.world tokens (Known frame.world.platform known) x v.pass There v.hop c ⊎ GoesUp frame.world tokens (Known frame.world.platform known) x v.pass There v.hop c)
+          → IsAtSide Upward way → IsUp frame tokens h x pass There j c × Finds (Among h) (IsCall x (hop_at pass j) BeginResp (response_answer ((world_of frame.world).hop (hop_at pass j)).resp))
+      by (inl d) s = absurd s
+      by (inr u) s =
+          let same : v.hop ≡ j = one_place frame tokens h known free stand x pass v.pass j v.hop o passes u.asked.passes less u.held.below here (vouched_hop v.pass v.hop v.place) in (
+            record {
+              known = known;
+              stand = stand;
+              way = v.pass;
+              up = subst (λ (y : TxnId). GoesUp frame.world tokens (Known frame.world.platform known) y v.pass There j c) (sym u.held.txn)
+                  (subst (λ (k : ℕ). GoesUp frame.world tokens (Known frame.world.platform known) x v.pass There k c) same u);
+              txn = u.held.txn;
+            },
+            subst (λ (n : ℕ). Finds (Among h) (IsCall x n BeginResp (response_answer ((world_of frame.world).hop n).resp))) (sym here) call,
+          )
+
+pub requests_in_lanes : RequestsInLanes
+requests_in_lanes frame tokens h known o x c open_response free stand there carried call = request_in_lane frame tokens h known free stand o x c there open_response carried.vouched carried.side call
+
+pub responses_in_lanes : ResponsesInLanes
+responses_in_lanes frame tokens h known o x c free stand there carried call = response_in_lane frame tokens h known free stand o x c there carried.vouched carried.side call

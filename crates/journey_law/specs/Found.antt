@@ -1,15 +1,22 @@
--- What routers and memories hold, found at a hop: it is a place or a part of a journey.
-use Rattle.std.specs.Prelude.{ℕ, ◌≡◌, ◌<◌, List, Some, IfSome}
+-- What routers, memories and hops hold, found at a hop: it is a place or a part of a journey.
+use Rattle.std.specs.Prelude.{Bool, ℕ, ◌≡◌, ◌<◌, List, Some, IfSome}
 use Rattle.atomic_table.specs.Seated.{TableId}
 use Rattle.one_history.specs.declared.entry.Entry.{Entry}
 use Rattle.one_history.specs.declared.view.Frame.{Frame}
 use Rattle.tlm_types.specs.declared.entry.Content.{Content}
+use Rattle.tlm_types.specs.declared.words.ObjectNo.TheVariants.{Hop}
+use Rattle.tlm_types.specs.declared.words.Phase.TheVariants.{BeginReq, BeginResp}
 use Rattle.tlm_types.specs.declared.words.TxnId.{TxnId}
 use Rattle.tlm_model.specs.Plan.{Plan}
+use Rattle.hop_model.specs.Answers.{request_answer, response_answer}
+use Rattle.hop_object.specs.declared.lane.Side.TheVariants.{Down as Downward, Up as Upward}
 use Rattle.flow_model.specs.World.{Passage, hop_at, hop_count}
-use Rattle.flow_model.specs.Events.{Event}
-use Rattle.flow_model.specs.Platform.{passage_of}
+use Rattle.flow_model.specs.Events.{Among, Event, Finds, IsCall}
+use Rattle.flow_model.specs.Platform.{passage_of, world_of}
 use Rattle.flow_plan.specs.Valid.{HasNoCycle}
+use Rattle.cargo_model.specs.declared.cargo.Cargo.{Cargo}
+use Rattle.cargo_model.specs.Known.{object_number, objects_of}
+use Rattle.cargo_net.specs.Carried.{IsCarried}
 use Rattle.plat_net.specs.HopCalls.{CanRespond}
 use Rattle.target_node.specs.Items.{IsWaiting}
 use Rattle.target_node.specs.declared.items.Request.{Request}
@@ -20,7 +27,7 @@ use Rattle.router_node.specs.declared.items.Rest.{Rest}
 use Rattle.router_node.specs.declared.stage.Stage.{Stage}
 use Rattle.router_node.specs.declared.stage.Stage.TheVariants.{Down, Below, Up, Sent}
 use Rattle.journey_law.specs.Parts.{IsAbove, IsBelow, Left, Passed, Stand}
-use Rattle.journey_law.specs.Places.{IsAt, Place, ToGoDown, ToGoUp, Waiting}
+use Rattle.journey_law.specs.Places.{GoneDown, GoneUp, IsAt, Place, ToGoDown, ToGoUp, Waiting}
 
 module _ (frame : Frame Plan) (tokens : TableId) (h : List Event) where
   -- The payload of x stands at this place of its way, where the hop of this number is there.
@@ -53,3 +60,16 @@ RequestsAreFound = (frame : Frame Plan) (tokens : TableId) (h : List Event) (kno
 abbrev pub ResponsesAreFound : Type 0
 ResponsesAreFound = (frame : Frame Plan) (tokens : TableId) (h : List Event) (known : List (Entry Content)) (r : Response) → HasNoCycle frame.world.platform → Stand frame.world h known
     → CanRespond frame tokens r.hop r.leg r.cargo r.due known → IsPlaceAt frame tokens h r.hop r.cargo.baton.txn (λ j. ToGoUp j r.cargo)
+
+-- So is the payload in a lane of a hop, where the hop has made its BEGIN_REQ or its BEGIN_RESP, with the answer of its modes.
+abbrev pub RequestsInLanes : Type 0
+RequestsInLanes = (frame : Frame Plan) (tokens : TableId) (h : List Event) (known : List (Entry Content)) (o : ℕ) (x : TxnId) (c : Cargo) (open_response : Bool)
+    → HasNoCycle frame.world.platform → Stand frame.world h known → Among (objects_of frame.world.platform) (Hop o)
+    → IsCarried frame.world tokens (object_number frame.world.platform (Hop o)) x (Downward, c) known
+    → Finds (Among h) (IsCall x o BeginReq (request_answer ((world_of frame.world).hop o).req open_response)) → IsPlaceAt frame tokens h o x (λ j. GoneDown j c)
+
+abbrev pub ResponsesInLanes : Type 0
+ResponsesInLanes = (frame : Frame Plan) (tokens : TableId) (h : List Event) (known : List (Entry Content)) (o : ℕ) (x : TxnId) (c : Cargo)
+    → HasNoCycle frame.world.platform → Stand frame.world h known → Among (objects_of frame.world.platform) (Hop o)
+    → IsCarried frame.world tokens (object_number frame.world.platform (Hop o)) x (Upward, c) known
+    → Finds (Among h) (IsCall x o BeginResp (response_answer ((world_of frame.world).hop o).resp)) → IsPlaceAt frame tokens h o x (λ j. GoneUp j c)

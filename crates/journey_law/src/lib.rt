@@ -3,7 +3,7 @@
 //! - `specs/Places`: where the payload is, and what is known of it there.
 //! - `specs/Parts`: what the routers along its way have of it.
 //! - `specs/Journeys`: both together, and how many tickets are on the way.
-//! - `specs/Found`: what routers and memories hold, by their own promises, is such a place or part.
+//! - `specs/Found`: what routers, memories and hops hold, by their own promises, is such a place or part.
 //! - `specs/Homes`: an access that its port has taken back, for which routers below still have something to make.
 //! - `specs/Away`: which accesses a port has under way.
 //! - `specs/Tells`: what a journey and a return tell, in the words of the law of runs under way (`begun_end`).
@@ -14,15 +14,17 @@
 #![tactic(auto)]
 
 ghost use Rattle.journey_law.specs.Away.{AwayIsAll};
-ghost use Rattle.journey_law.specs.Found.{RequestsAreFound, ResponsesAreFound, StagesAreFound};
+ghost use Rattle.journey_law.specs.Found.{RequestsAreFound, RequestsInLanes, ResponsesAreFound, ResponsesInLanes, StagesAreFound};
 ghost use Rattle.journey_law.specs.Tells.{HomesTell, JourneysTell};
 ghost use Rattle.journey_law.specs.Whole.{PartsAreSound, PartsStand};
 
-/// What routers and memories hold, by their own promises, is a place or a part of a journey at the hop where it is found.
+/// What routers, memories and hops hold, by their own promises, is a place or a part of a journey at the hop where it is found.
 pub fn parts_are_found()
     ensures stages { StagesAreFound }
     ensures requests { RequestsAreFound }
     ensures responses { ResponsesAreFound }
+    ensures going_down { RequestsInLanes }
+    ensures going_up { ResponsesInLanes }
 {}
 
 /// Wherever the payload of an access is, and whatever routers have of it besides, its journey tells of it: the calls and the entries in the

@@ -1,4 +1,4 @@
-use Rattle.journey_law.proofs.Found.{requests_are_found, responses_are_found, stages_are_found}
+use Rattle.journey_law.proofs.Found.{requests_are_found, requests_in_lanes, responses_are_found, responses_in_lanes, stages_are_found}
 use Rattle.journey_law.proofs.parts_are_found.Goals as goal
 
 pub returns-clause-stages : goal.returns-clause-stages
@@ -9,3 +9,9 @@ returns-clause-requests c = requests_are_found
 
 pub returns-clause-responses : goal.returns-clause-responses
 returns-clause-responses c = responses_are_found
+
+pub returns-clause-going_down : goal.returns-clause-going_down
+returns-clause-going_down c = requests_in_lanes
+
+pub returns-clause-going_up : goal.returns-clause-going_up
+returns-clause-going_up c = responses_in_lanes
