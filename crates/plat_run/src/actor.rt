@@ -66,6 +66,7 @@ impl<N: Naming<Plan, TlmLaw>> Actor<N> {
 
     /// Whether a job is to be passed over: its last turn was a pump that found nothing, and nothing has changed since at its
     /// hops and its pool. Now and then it is not, whatever has changed.
+    #[inline(always)]
     pub fn rests(&mut self, net: &Net<N>) -> bool
         ensures number { number_of self.new ≡ number_of self.old }
         ensures done { is_done self.new ≡ is_done self.old }

@@ -127,6 +127,7 @@ impl Routes {
 
     /// The step through the router that a step leads to. `None` where it leads to a memory, and where
     /// no window of the router has the address.
+    #[inline(always)]
     pub(crate) fn next_step(&self, step: Step) -> Option<Step>
         ensures { result ≡ next_step self.now step }
     {

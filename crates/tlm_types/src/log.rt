@@ -274,6 +274,7 @@ fn append(bytes: &mut Vec<u8>, sent: &[u8], enables: &[u8], got: &[u8])
 }
 
 // Most accesses have bytes in one part alone, and are of a word or of two, which take no call.
+#[inline(always)]
 fn append_part(bytes: &mut Vec<u8>, part: &[u8])
     requires { vec_len bytes.old + length part.now ≤ vec_capacity bytes.old }
     ensures items { bytes.new.items ≡ bytes.old.items ++ part.now }
