@@ -35,7 +35,7 @@ use Rattle.plat_end.specs.Apart.{entries_left}
 use Rattle.run_outcome.specs.Merge.{merged}
 use Rattle.run_outcome.proofs.ListLemmas.{has_element, within}
 use Rattle.plat_run.specs.Entries.{entries_read, entry_read}
-use Rattle.direct_run.specs.Job.{position_of}
+use Rattle.decoupled_run.specs.Job.{position_of}
 use Rattle.plat_run.proofs.OrderLemmas.{merged_is, rising_from}
 
 -- the entries of a history as events are those that are read

@@ -14,7 +14,7 @@ use Rattle.router_node.specs.declared.node.RouterNode.{RouterNode}
 use Rattle.target_node.specs.Hops.{IsNew}
 use Rattle.target_node.specs.declared.node.TargetNode.{TargetNode}
 use Rattle.plat_run.specs.Nodes.{IsMemoryAtRest, IsMemoryNode, IsRouterAtRest, IsRouterNode}
-use Rattle.direct_run.proofs.PassLemmas.{one_value}
+use Rattle.decoupled_run.proofs.PassLemmas.{one_value}
 
 -- what a note that has seen nothing knows stands below what it has seen
 stands_below : (table : TableId) (note : Held Content Plan) → IsBlank table note → StandBelow note.knows.known note.knows.seen

@@ -11,7 +11,7 @@ use Rattle.tlm_model.specs.History.{IsNumberedFrom}
 use Rattle.joined_runs.specs.Counting.{IsRising}
 use Rattle.joined_runs.proofs.CountLemmas.{has_first, rising_same}
 use Rattle.run_outcome.specs.Merge.{by_position, entries_in, merged, put_in}
-use Rattle.direct_run.specs.Job.{position_of}
+use Rattle.decoupled_run.specs.Job.{position_of}
 
 -- numbered entries rise
 pub rising_from : (n : ℕ) (h : List Entry) → IsNumberedFrom n h → IsRising position_of h × ((e : Entry) → Has h e → n ≤ e.position)

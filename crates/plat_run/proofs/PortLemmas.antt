@@ -34,7 +34,7 @@ use Rattle.plat_build.specs.Kept.{IsStart}
 use Rattle.run_outcome.proofs.ListLemmas.{has_element}
 use Rattle.plat_run.specs.End.{IsFinished}
 use Rattle.plat_run.specs.Turn.{finishes}
-use Rattle.direct_run.proofs.BeginLemmas.{nothing_past, script_from}
+use Rattle.decoupled_run.proofs.BeginLemmas.{nothing_past, script_from}
 use Rattle.plat_run.proofs.BeginLemmas.{has_style}
 
 module _ (table tokens : TableId) (p : Plan) (valid : IsValid p) (n : ℕ) (s : Start) (below : n < length p.platform.initiators) (style : IsSomeAnd (slice_get p.platform.initiators n) (λ (row : InitiatorRow). row.style ≡ FourPhase)) (start : IsStart table tokens p n s) where

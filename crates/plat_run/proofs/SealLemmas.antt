@@ -6,7 +6,7 @@ use Rattle.token_book.specs.Purse.{Purse}
 use Rattle.tlm_types.specs.declared.ends.EndOf.{EndOf}
 use Rattle.tlm_types.specs.declared.entry.Content.{Content}
 use Rattle.tlm_model.specs.Plan.{Plan}
-use Rattle.direct_run.specs.End.{IsFinished as IsDecoupledFinished}
+use Rattle.decoupled_run.specs.End.{IsFinished as IsDecoupledFinished}
 use Rattle.plat_run.specs.End.{IsFinished}
 
 pub decoupled_finished : (table tokens : TableId) (p : Plan) (k : ℕ) (end : EndOf) (note : Held Content Plan) (wallet : Purse) → IsDecoupledFinished table tokens p k end note wallet → IsFinished table tokens p k end note wallet

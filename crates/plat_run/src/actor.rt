@@ -8,7 +8,7 @@ use crate::decoupled;
 use crate::nodes::{MemoryJob, RouterJob};
 use crate::port_job::PortJob;
 use crate::turn::Turn;
-use direct_run::DecoupledInitiator;
+use decoupled_run::DecoupledInitiator;
 use outside::Pace;
 use plat_net::{Net, PlatNote, Reach, TlmLaw};
 use route_plan::Plan;
@@ -64,8 +64,8 @@ impl<N: Naming<Plan, TlmLaw>> Actor<N> {
         !matches!(self, Actor::Decoupled(_))
     }
 
-    /// Whether a job is to be passed over: its last turn was a pump that found nothing, and nothing has changed since at its
-    /// hops and its pool. Now and then it is not, whatever has changed.
+    /// Whether a job is to be passed over: by what the net tells of its hops and its pool, a pump would find nothing. Now and
+    /// then it is not, whatever the net tells.
     #[inline(always)]
     pub fn rests(&mut self, net: &Net<N>) -> bool
         ensures number { number_of self.new ≡ number_of self.old }

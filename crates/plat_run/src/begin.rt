@@ -8,7 +8,7 @@ ghost use Rattle.plat_run.specs.Actors.{number_of};
 use crate::actor::Actor;
 use crate::nodes::{MemoryJob, RouterJob};
 use crate::port_job::PortJob;
-use direct_run::DecoupledInitiator;
+use decoupled_run::DecoupledInitiator;
 use fourphase_port::Port;
 use plat_build::{Kept, Start};
 use plat_net::{Net, TlmLaw};

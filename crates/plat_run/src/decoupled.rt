@@ -4,7 +4,7 @@ ghost use Rattle.initiator_run.specs.Steps.{StepsOnce};
 ghost use Rattle.plat_run.specs.Turn.{is_held_back};
 
 use crate::turn::Turn;
-use direct_run::DecoupledInitiator;
+use decoupled_run::DecoupledInitiator;
 use outside::Pace;
 use plat_net::{Reach, TlmLaw};
 use route_plan::Plan;

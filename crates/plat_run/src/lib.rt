@@ -1,12 +1,12 @@
 //! The run of a platform by threads.
 //!
-//! - A turn of a blocking or direct initiator, `direct_run::DecoupledInitiator`, is at most one operation, or one access
+//! - A turn of a blocking or direct initiator, `decoupled_run::DecoupledInitiator`, is at most one operation, or one access
 //!   of it with the grant that is asked for after it, and the sync that is due after it.
 //! - `PortJob` is a four-phase initiator as a job: a turn of it is one pump of its port. `MemoryJob` and `RouterJob` are the
 //!   memories and routers, which are jobs where some initiator is of four phases; a turn is one pump.
 //! - `Actor` is a job of any kind, in a box: workers hand the box on, and a turn works in place. It answers a
-//!   `Turn`: whether the job went on, let others go on, is held back by the board, or found nothing to do. One that found
-//!   nothing is passed over until something has changed at its hops or its pool (`Waits`).
+//!   `Turn`: whether the job went on, let others go on, is held back by the board, or found nothing to do. A pump that would
+//!   find nothing, by what the net tells, is passed over (`Waits`).
 //! - `run` makes the jobs of a net that was just built, lets workers give them turns until all initiators have
 //!   finished, and makes the outcome of what the jobs and the memories have. `run_plan` builds the net as
 //!   well.

@@ -1,6 +1,6 @@
 use Rattle.std.proofs.Common.{sym, subst}
 use Rattle.initiator_run.specs.Run.{Run}
-use Rattle.direct_run.specs.End.{IsFinished as IsDecoupledFinished}
+use Rattle.decoupled_run.specs.End.{IsFinished as IsDecoupledFinished}
 use Rattle.plat_run.specs.Actors.{number_of}
 use Rattle.plat_run.specs.End.{IsFinished}
 use Rattle.plat_run.proofs.SealLemmas.{decoupled_finished}
