@@ -61,6 +61,7 @@ fn drop_empty(places: &mut Vec<ObjectRights>, i: usize)
 }
 
 impl Places {
+    /// Room for this many objects, and nothing in it. Its only error is want of memory.
     pub fn new(alloc: Global, places: u32) -> Result<Places, Memory>
         ensures wallet { IfOk result (λ w. w ≡ empty_purse places) }
         ensures empty { IfOk result (λ w. (o : ℕ) → (left_of w o ≡ 0) × (bytes_of w o ≡ 0)) }
@@ -84,6 +85,7 @@ impl Places {
         }
     }
 
+    /// How many tickets of the object it holds.
     pub fn left(&self, object: u32) -> u64
         ensures left { result ≡ left_of self.now object }
         ensures place { HasPlace self.now object ↔ (0 < left_of self.now object + bytes_of self.now object) }
@@ -94,6 +96,7 @@ impl Places {
         }
     }
 
+    /// How many bytes of the object it holds the right to.
     pub fn bytes(&self, object: u32) -> u64
         ensures bytes { result ≡ bytes_of self.now object }
         ensures place { HasPlace self.now object ↔ (0 < left_of self.now object + bytes_of self.now object) }
@@ -104,6 +107,7 @@ impl Places {
         }
     }
 
+    /// Whether it holds nothing.
     pub fn is_empty(&self) -> bool
         ensures { IsTrue result ↔ (self.now ≡ empty_purse self.now.places) }
     {
@@ -124,6 +128,7 @@ impl Places {
         };
     }
 
+    /// Takes out a ticket of the object for so many bytes. It has no bytes where it is for 0.
     #[inline(always)]
     pub fn pull(&mut self, tokens: &Tokens, object: u32, bytes: u64) -> Ticket
         requires of { IsOf tokens.now self.old }
@@ -147,6 +152,8 @@ impl Places {
         ticket
     }
 
+    /// Puts in a token of the name 0, which is tickets of its owner, or of the name 1, which is bytes.
+    /// The owner has a place, or a place is free. A token of the amount 0 takes no place.
     pub fn put(&mut self, tokens: &Tokens, token: Token)
         requires of { IsOf tokens.now self.old }
         requires token { (token.table ≡ tokens.now) × (token.name < 2) }
@@ -188,6 +195,7 @@ impl Places {
         }
     }
 
+    /// Moves all that others hold into these, which have room for it. The others are empty then.
     pub fn put_all(&mut self, tokens: &Tokens, from: &mut Places)
         requires of { IsOf tokens.now self.old × IsOf tokens.now from.old }
         requires room { HasRoomForAll self.old from.old }
@@ -216,6 +224,8 @@ impl Places {
         Some(self.places.remove(i))
     }
 
+    /// Retires all tickets and bytes that it holds of the owner of a book into that book. What it holds of
+    /// others stays.
     pub fn hand_back(&mut self, tokens: &Tokens, book: &mut Book)
         requires of { IsOf tokens.now self.old }
         requires book { book.old.table ≡ tokens.now }
