@@ -100,6 +100,7 @@ impl Log {
 
     /// Appends an entry that isn't an access. It is `Ok` where there is room for it. Its only error is
     /// want of memory, after which the log is as before.
+    #[inline(always)]
     pub fn push(&mut self, head: Head, what: What) -> Result<(), Memory>
         requires { is_access what ≡ false }
         ensures ok { OnOk result (self.new ≡ with_entry self.old (entry_at head what)) }

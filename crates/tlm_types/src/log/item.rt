@@ -256,6 +256,7 @@ pub(super) fn short_access(head: Head, facts: Facts, span: Span) -> Option<Item>
 }
 
 // An entry that is no access in the short form, where it has one.
+#[inline(always)]
 pub(super) fn short_event(head: Head, event: Plain) -> Option<Item>
     ensures { IfSome result (IsShortFor (item_for head 0 (events.Plain event))) }
 {

@@ -52,6 +52,7 @@ impl Items {
     }
 
     // Appends an entry that is no access. Its only error is want of memory.
+    #[inline(always)]
     pub(super) fn push_event(&mut self, head: Head, event: Plain) -> Result<(), Memory>
         ensures ok { OnOk result (self.new ≡ record self.old { items = self.old.items ++ item_for head 0 (events.Plain event) ∷ [] }) }
         ensures err { OnErr result (self.new ≡ self.old) }

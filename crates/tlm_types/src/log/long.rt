@@ -198,6 +198,7 @@ pub(super) fn stored_access(facts: Facts, span: Span) -> StoredAccess
 }
 
 // What happened, as it is kept, where it is no access.
+#[inline(always)]
 pub(super) fn plain_event(what: What) -> Plain
     requires { is_access what ≡ false }
     ensures { plain_what result ≡ what }
