@@ -11,7 +11,9 @@ mod Homes
 mod Whole
 mod Choices
 mod Found
+mod Lanes
 mod Counting
 mod Away
 mod Ports
 mod Stand
+mod Hands

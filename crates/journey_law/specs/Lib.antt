@@ -2,7 +2,9 @@ pub mod Parts
 pub mod Places
 pub mod Journeys
 pub mod Found
+pub mod Lanes
 pub mod Homes
 pub mod Tells
 pub mod Away
 pub mod Whole
+pub mod Hands

@@ -1,4 +1,6 @@
 use Rattle.journey_law.proofs.Found.{requests_are_found, requests_in_lanes, responses_are_found, responses_in_lanes, stages_are_found}
+use Rattle.journey_law.proofs.Hands.{hands_are_found, ports_are_found}
+use Rattle.journey_law.proofs.Lanes.{lanes_are_found}
 use Rattle.journey_law.proofs.parts_are_found.Goals as goal
 
 pub returns-clause-stages : goal.returns-clause-stages
@@ -15,3 +17,12 @@ returns-clause-going_down c = requests_in_lanes
 
 pub returns-clause-going_up : goal.returns-clause-going_up
 returns-clause-going_up c = responses_in_lanes
+
+pub returns-clause-lanes : goal.returns-clause-lanes
+returns-clause-lanes c = lanes_are_found
+
+pub returns-clause-hands : goal.returns-clause-hands
+returns-clause-hands c = hands_are_found
+
+pub returns-clause-ports : goal.returns-clause-ports
+returns-clause-ports c = ports_are_found
