@@ -18,14 +18,18 @@ use Rattle.flow_plan.specs.Valid.{HasNoCycle}
 use Rattle.flow_plan.proofs.Ways.{world_law}
 use Rattle.cargo_model.specs.declared.cargo.Cargo.{Cargo}
 use Rattle.cargo_model.specs.Called.{IsAnswerIn}
+use Rattle.cargo_model.specs.Counts.{owed_by}
 use Rattle.cargo_model.specs.Known.{Known, object_number, objects_of}
 use Rattle.cargo_model.proofs.Called.{answers_fit}
 use Rattle.cargo_model.proofs.Origins.{only_object}
 use Rattle.cargo_net.specs.Carried.{IsAtSide}
+use Rattle.cargo_net.specs.Fetched.{HasFetchedRequest, HasFetchedResponse, mode_above}
+use Rattle.cargo_net.specs.declared.fetches.FetchedRequest.{FetchedRequest}
+use Rattle.cargo_net.specs.declared.fetches.FetchedResponse.{FetchedResponse}
 use Rattle.begun_end.specs.Cargos.{IsRequested}
 use Rattle.hop_model.specs.Answers.{request_answer, response_answer}
 use Rattle.hop_object.specs.declared.lane.Side.TheVariants.{Down as Downward, Up as Upward}
-use Rattle.cargo_model.specs.Travel.{GoesDown, GoesUp, IsVouched, Ready, There}
+use Rattle.cargo_model.specs.Travel.{Back as IsBackAt, GoesDown, GoesUp, IsVouched, Ready, There}
 use Rattle.plat_net.specs.HopCalls.{CanRespond}
 use Rattle.router_node.specs.Items.{IsDown as MayGoDown, IsHolding}
 use Rattle.router_node.specs.Stages.{IsRestUnder, IsStage}
@@ -34,9 +38,9 @@ use Rattle.router_node.specs.declared.items.Held.{Held}
 use Rattle.router_node.specs.declared.items.Rest.{Rest}
 use Rattle.router_node.specs.declared.stage.Stage.{Stage}
 use Rattle.router_node.specs.declared.stage.Stage.TheVariants.{Down, Below, Up, Sent}
-use Rattle.journey_law.specs.Found.{IsFoundStage, IsPartAbove, IsPartBelow, IsPlaceAt, RequestsAreFound, RequestsInLanes, ResponsesAreFound, ResponsesInLanes, StagesAreFound}
+use Rattle.journey_law.specs.Found.{IsFoundStage, IsPartAbove, IsPartBelow, IsPlaceAt, RequestsAreFound, RequestsFetched, RequestsInLanes, ResponsesAreFound, ResponsesFetched, ResponsesInLanes, StagesAreFound}
 use Rattle.journey_law.specs.Parts.{Stand}
-use Rattle.journey_law.specs.Places.{GoneDown, GoneUp, IsDown, IsUp, ToGoDown, ToGoUp}
+use Rattle.journey_law.specs.Places.{Back, GoneDown, GoneUp, IsDown, IsUp, ToGoDown, ToGoUp}
 use Rattle.journey_law.proofs.Sums.{same_some}
 
 module _ (frame : Frame Plan) (tokens : TableId) (h : List Event) (known : List (Entry Content)) (free : HasNoCycle frame.world.platform) (stand : Stand frame.world h known) where
@@ -165,3 +169,56 @@ requests_in_lanes frame tokens h known o x c open_response free stand there carr
 
 pub responses_in_lanes : ResponsesInLanes
 responses_in_lanes frame tokens h known o x c free stand there carried call = response_in_lane frame tokens h known free stand o x c there carried.vouched carried.side call
+
+module _ (frame : Frame Plan) (tokens : TableId) (h : List Event) (known : List (Entry Content)) (free : HasNoCycle frame.world.platform) (stand : Stand frame.world h known) (o : ℕ)
+    (there : Among (objects_of frame.world.platform) (Hop o)) where
+  fetched_hop : (way : Passage) (k : ℕ) → object_number frame.world.platform (Hop o) ≡ object_number frame.world.platform (Hop (hop_at way k)) → hop_at way k ≡ o
+  fetched_hop way k q = same_number (hop_at way k) o (only_object frame.world.platform (Hop (hop_at way k)) (Hop o) there (sym q))
+    where
+      same_number : (a b : ℕ) → ◌≡◌ {A = ObjectNo} (Hop a) (Hop b) → a ≡ b
+      same_number a b q = cc
+
+  request_fetched : (r : FetchedRequest) → HasFetchedRequest frame tokens (object_number frame.world.platform (Hop o)) r known → IsPlaceAt frame tokens h o r.txn (λ j. GoneDown j r.cargo)
+  request_fetched r f pass j passes less here = (
+    record {
+      known = known;
+      stand = stand;
+      way = f.pass;
+      down = subst (λ (y : TxnId). GoesDown frame.world tokens (Known frame.world.platform known) y f.pass There j r.cargo) (sym f.down.held.txn)
+          (subst (λ (k : ℕ). GoesDown frame.world tokens (Known frame.world.platform known) r.txn f.pass There k r.cargo) same f.down);
+      txn = f.down.held.txn;
+    },
+    record {
+      answer = f.answer;
+      fits = subst (λ (q : Passage). IsAnswerIn (row_of (world_of frame.world) q j) f.answer) way (subst (λ (k : ℕ). IsAnswerIn (row_of (world_of frame.world) f.pass k) f.answer) same f.fits);
+      begun = record { event = f.begun.event; known = stand f.begun.event f.begun.known; is = subst (λ (n : ℕ). IsCall r.txn n BeginReq f.answer f.begun.event) (fetched_hop f.pass f.hop f.place ∙ sym here) f.begun.is };
+    },
+  )
+    where
+      same : f.hop ≡ j
+      same = one_place frame tokens h known free stand r.txn pass f.pass j f.hop o passes f.down.asked.passes less f.down.held.below here (fetched_hop f.pass f.hop f.place)
+
+      way : f.pass ≡ pass
+      way = same_some f.pass pass (passage_of frame.world r.txn) f.down.asked.passes passes
+
+  response_fetched : (r : FetchedResponse) → HasFetchedResponse frame tokens (object_number frame.world.platform (Hop o)) r known → IsPlaceAt frame tokens h o r.txn (λ j. Back j r.cargo)
+  response_fetched r f pass j passes less here = record {
+    owed = owed_by (mode_above frame.world f.pass f.hop);
+    up = record {
+      known = known;
+      stand = stand;
+      way = f.pass;
+      up = subst (λ (y : TxnId). GoesUp frame.world tokens (Known frame.world.platform known) y f.pass (IsBackAt (owed_by (mode_above frame.world f.pass f.hop))) j r.cargo) (sym f.up.held.txn)
+          (subst (λ (k : ℕ). GoesUp frame.world tokens (Known frame.world.platform known) r.txn f.pass (IsBackAt (owed_by (mode_above frame.world f.pass f.hop))) k r.cargo) same f.up);
+      txn = f.up.held.txn;
+    };
+  }
+    where
+      same : f.hop ≡ j
+      same = one_place frame tokens h known free stand r.txn pass f.pass j f.hop o passes f.up.asked.passes less f.up.held.below here (fetched_hop f.pass f.hop f.place)
+
+pub requests_fetched : RequestsFetched
+requests_fetched frame tokens h known o r free stand there f = request_fetched frame tokens h known free stand o there r f
+
+pub responses_fetched : ResponsesFetched
+responses_fetched frame tokens h known o r free stand there f = response_fetched frame tokens h known free stand o there r f

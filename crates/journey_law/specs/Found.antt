@@ -17,6 +17,9 @@ use Rattle.flow_plan.specs.Valid.{HasNoCycle}
 use Rattle.cargo_model.specs.declared.cargo.Cargo.{Cargo}
 use Rattle.cargo_model.specs.Known.{object_number, objects_of}
 use Rattle.cargo_net.specs.Carried.{IsCarried}
+use Rattle.cargo_net.specs.Fetched.{HasFetchedRequest, HasFetchedResponse}
+use Rattle.cargo_net.specs.declared.fetches.FetchedRequest.{FetchedRequest}
+use Rattle.cargo_net.specs.declared.fetches.FetchedResponse.{FetchedResponse}
 use Rattle.plat_net.specs.HopCalls.{CanRespond}
 use Rattle.target_node.specs.Items.{IsWaiting}
 use Rattle.target_node.specs.declared.items.Request.{Request}
@@ -27,7 +30,7 @@ use Rattle.router_node.specs.declared.items.Rest.{Rest}
 use Rattle.router_node.specs.declared.stage.Stage.{Stage}
 use Rattle.router_node.specs.declared.stage.Stage.TheVariants.{Down, Below, Up, Sent}
 use Rattle.journey_law.specs.Parts.{IsAbove, IsBelow, Left, Passed, Stand}
-use Rattle.journey_law.specs.Places.{GoneDown, GoneUp, IsAt, Place, ToGoDown, ToGoUp, Waiting}
+use Rattle.journey_law.specs.Places.{Back, GoneDown, GoneUp, IsAt, Place, ToGoDown, ToGoUp, Waiting}
 
 module _ (frame : Frame Plan) (tokens : TableId) (h : List Event) where
   -- The payload of x stands at this place of its way, where the hop of this number is there.
@@ -73,3 +76,12 @@ ResponsesInLanes = (frame : Frame Plan) (tokens : TableId) (h : List Event) (kno
     → HasNoCycle frame.world.platform → Stand frame.world h known → Among (objects_of frame.world.platform) (Hop o)
     → IsCarried frame.world tokens (object_number frame.world.platform (Hop o)) x (Upward, c) known
     → Finds (Among h) (IsCall x o BeginResp (response_answer ((world_of frame.world).hop o).resp)) → IsPlaceAt frame tokens h o x (λ j. GoneUp j c)
+
+-- So is what was fetched from a hop, by whoever did: a request is where it was in its lane, and a response is back.
+abbrev pub RequestsFetched : Type 0
+RequestsFetched = (frame : Frame Plan) (tokens : TableId) (h : List Event) (known : List (Entry Content)) (o : ℕ) (r : FetchedRequest) → HasNoCycle frame.world.platform → Stand frame.world h known
+    → Among (objects_of frame.world.platform) (Hop o) → HasFetchedRequest frame tokens (object_number frame.world.platform (Hop o)) r known → IsPlaceAt frame tokens h o r.txn (λ j. GoneDown j r.cargo)
+
+abbrev pub ResponsesFetched : Type 0
+ResponsesFetched = (frame : Frame Plan) (tokens : TableId) (h : List Event) (known : List (Entry Content)) (o : ℕ) (r : FetchedResponse) → HasNoCycle frame.world.platform → Stand frame.world h known
+    → Among (objects_of frame.world.platform) (Hop o) → HasFetchedResponse frame tokens (object_number frame.world.platform (Hop o)) r known → IsPlaceAt frame tokens h o r.txn (λ j. Back j r.cargo)

@@ -16,7 +16,7 @@
 #![tactic(auto)]
 
 ghost use Rattle.journey_law.specs.Away.{AwayIsAll};
-ghost use Rattle.journey_law.specs.Found.{RequestsAreFound, RequestsInLanes, ResponsesAreFound, ResponsesInLanes, StagesAreFound};
+ghost use Rattle.journey_law.specs.Found.{RequestsAreFound, RequestsFetched, RequestsInLanes, ResponsesAreFound, ResponsesFetched, ResponsesInLanes, StagesAreFound};
 ghost use Rattle.journey_law.specs.Hands.{HandsAreFound, PortsAreFound};
 ghost use Rattle.journey_law.specs.Lanes.{LanesAreFound};
 ghost use Rattle.journey_law.specs.Tells.{HomesTell, JourneysTell};
@@ -30,6 +30,8 @@ pub fn parts_are_found()
     ensures responses { ResponsesAreFound }
     ensures going_down { RequestsInLanes }
     ensures going_up { ResponsesInLanes }
+    ensures fetched_down { RequestsFetched }
+    ensures fetched_up { ResponsesFetched }
     ensures lanes { LanesAreFound }
     ensures hands { HandsAreFound }
     ensures ports { PortsAreFound }

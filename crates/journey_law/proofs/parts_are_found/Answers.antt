@@ -1,4 +1,4 @@
-use Rattle.journey_law.proofs.Found.{requests_are_found, requests_in_lanes, responses_are_found, responses_in_lanes, stages_are_found}
+use Rattle.journey_law.proofs.Found.{requests_are_found, requests_fetched, requests_in_lanes, responses_are_found, responses_fetched, responses_in_lanes, stages_are_found}
 use Rattle.journey_law.proofs.Hands.{hands_are_found, ports_are_found}
 use Rattle.journey_law.proofs.Lanes.{lanes_are_found}
 use Rattle.journey_law.proofs.parts_are_found.Goals as goal
@@ -17,6 +17,12 @@ returns-clause-going_down c = requests_in_lanes
 
 pub returns-clause-going_up : goal.returns-clause-going_up
 returns-clause-going_up c = responses_in_lanes
+
+pub returns-clause-fetched_down : goal.returns-clause-fetched_down
+returns-clause-fetched_down c = requests_fetched
+
+pub returns-clause-fetched_up : goal.returns-clause-fetched_up
+returns-clause-fetched_up c = responses_fetched
 
 pub returns-clause-lanes : goal.returns-clause-lanes
 returns-clause-lanes c = lanes_are_found
