@@ -32,8 +32,8 @@ pub(crate) fn hand_one(
     }
 }
 
-/// Moves so many tickets of an object, which are for no bytes.
-#[tactic(auto, using(crate::proofs::WalletLemmas::gives_more, crate::proofs::WalletLemmas::gets_more, crate::proofs::WalletLemmas::room_got, crate::proofs::WalletLemmas::more_in))]
+/// Moves so many tickets of an object at once, which are for no bytes.
+#[tactic(auto, using(crate::proofs::WalletLemmas::pulled_in, crate::proofs::WalletLemmas::put_once))]
 pub(crate) fn hand_over(
     tickets: &Tokens,
     from: &mut Wallet,
@@ -42,6 +42,7 @@ pub(crate) fn hand_over(
     count: u64,
 )
     requires tables { IsOf tickets.now from.old × IsOf tickets.now to.old }
+    requires some { 0 < count }
     requires left { count ≤ left_of from.old object }
     requires room { HasRoom to.old object }
     ensures from { Gives tickets.now object count 0 from.old from.new }
@@ -49,9 +50,8 @@ pub(crate) fn hand_over(
     ensures from_in { (o : ℕ) → HasPlace from.new o → HasPlace from.old o }
     ensures to_in { (o : ℕ) → HasPlace to.new o → HasPlace to.old o ⊎ (o ≡ object) }
 {
-    for _moved in 0..count {
-        hand_one(tickets, from, to, object, 0);
-    }
+    let rights = from.pull_many(tickets, object, count);
+    to.put(tickets, rights);
 }
 
 /// Puts a ticket that wasn't spent back.

@@ -50,6 +50,10 @@ merged_slip kept (Some t) = Some (with_amount t (amount_of kept + t.amount))
 abbrev pub without_ticket : ℕ → Pocket → Pocket
 without_ticket bytes p = record { table = p.table; left = p.left - 1; bytes = p.bytes - bytes }
 
+-- the pocket after so many tickets were taken out, which are for no bytes
+abbrev pub without_tickets : ℕ → Pocket → Pocket
+without_tickets tickets p = record { table = p.table; left = p.left - tickets; bytes = p.bytes }
+
 -- a pocket of nothing
 abbrev pub no_pocket : TableId → Pocket
 no_pocket table = record { table = table; left = 0; bytes = 0 }

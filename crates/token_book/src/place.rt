@@ -1,8 +1,8 @@
 // What a wallet holds of one object.
 ghost use Rattle.std.specs.Prelude.{◌≡◌, MatchOption, ℕ, ◌+◌, ◌<◌, ◌≤◌, ◌==◌, IfSome, Some};
 ghost use Rattle.token_book.specs.Account.{Slip, amount_of, named_amount, out_of, with_amount};
-ghost use Rattle.token_book.specs.Ticket.{entry_right, bytes_rights};
-ghost use Rattle.token_book.specs.Pocket.{IsLike, merged_slip, no_pocket, with_pocket_in, with_token, without_ticket};
+ghost use Rattle.token_book.specs.Ticket.{entry_right, entry_rights, bytes_rights};
+ghost use Rattle.token_book.specs.Pocket.{IsLike, merged_slip, no_pocket, with_pocket_in, with_token, without_ticket, without_tickets};
 
 use crate::ticket::Ticket;
 use crate::tokens::{Book, Token, Tokens};
@@ -181,6 +181,21 @@ impl ObjectRights {
         let entry = tokens.part(entries, 1);
         let bytes = take_bytes(tokens, &mut self.bytes, self.object, bytes);
         Ticket { entry, bytes }
+    }
+
+    /// Takes out so many tickets, which are for no bytes, as one token.
+    #[inline(always)]
+    pub fn pull_many(&mut self, tokens: &Tokens, tickets: u64) -> Token
+        requires table { self.old.1.table ≡ tokens.now }
+        requires some { 0 < tickets }
+        requires left { tickets ≤ self.old.1.left }
+        ensures place { self.new ≡ (self.old.0, without_tickets tickets self.old.1) }
+        ensures rights { result ≡ entry_rights tokens.now self.old.0 tickets }
+    {
+        let Some(entries) = &mut self.entries else {
+            unreachable!()
+        };
+        tokens.part(entries, tickets)
     }
 
     /// Retires its tickets and its bytes into the book of its object.

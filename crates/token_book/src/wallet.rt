@@ -2,9 +2,9 @@
 ghost use Rattle.std.specs.Prelude.{◌≡◌, ℕ, ◌+◌, ◌-◌, ◌<◌, ◌≤◌, ◌==◌, ◌↔◌, if◌then◌else◌, IfOk, IsTrue};
 ghost use Rattle.atomic_table.specs.Seated.{TableId};
 ghost use Rattle.token_book.specs.Account.{amount_of, out_of};
-ghost use Rattle.token_book.specs.Ticket.{entry_right, bytes_rights, IsTicket};
+ghost use Rattle.token_book.specs.Ticket.{entry_right, entry_rights, bytes_rights, IsTicket};
 ghost use Rattle.token_book.specs.Pocket.{tickets_in, bytes_in};
-ghost use Rattle.token_book.specs.Purse.{empty_purse, left_of, bytes_of, HasPlace, HasRoom, HasRoomForAll, IsOf, pulled, put_in};
+ghost use Rattle.token_book.specs.Purse.{empty_purse, left_of, bytes_of, HasPlace, HasRoom, HasRoomForAll, IsOf, pulled, pulled_many, put_in};
 
 use crate::places::Places;
 use crate::ticket::Ticket;
@@ -84,6 +84,21 @@ impl Wallet {
         ensures amount { amount_of result.bytes ≡ bytes }
     {
         self.all.pull(tokens, object, bytes)
+    }
+
+    /// Takes out so many tickets of the object at once, which are for no bytes, as one token.
+    pub fn pull_many(&mut self, tokens: &Tokens, object: u32, tickets: u64) -> Token
+        requires of { IsOf tokens.now self.old }
+        requires some { 0 < tickets }
+        requires left { tickets ≤ left_of self.old object }
+        ensures wallet { self.new ≡ pulled_many tokens.now self.old object tickets }
+        ensures of { IsOf tokens.now self.new }
+        ensures left { (o : ℕ) → left_of self.new o ≡ (if o == object then left_of self.old object - tickets else left_of self.old o) }
+        ensures bytes { (o : ℕ) → bytes_of self.new o ≡ bytes_of self.old o }
+        ensures held { (o : ℕ) → HasPlace self.new o → HasPlace self.old o }
+        ensures rights { result ≡ entry_rights tokens.now object tickets }
+    {
+        self.all.pull_many(tokens, object, tickets)
     }
 
     /// Puts in a token of the name 0, which is tickets of its owner, or of the name 1, which is bytes.
