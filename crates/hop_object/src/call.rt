@@ -2,7 +2,7 @@
 use base_phases::LaneState;
 use std::marker::Model;
 use tlm_types::{Ps, ReqMode, RespMode, TlmSync, TxnId};
-use token_book::Token;
+use token_book::One;
 
 /// How a hop is made: the number of its lanes, how the component downstream answers BEGIN_REQ, and how
 /// the one upstream answers BEGIN_RESP.
@@ -17,7 +17,7 @@ pub struct HopTraits {
 /// holds the lane, and the number of the lane's state. Contracts see its token.
 #[derive(Drop)]
 pub struct Leg {
-    pub(crate) token: Token,
+    pub(crate) token: One,
 }
 
 impl Model for Leg {

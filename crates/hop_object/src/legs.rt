@@ -28,7 +28,7 @@ pub(crate) fn redeem<T>(tokens: &Tokens, book: &mut Book, lanes: &[Lane<T>], leg
 {
     let name = leg.token.name();
     let Leg { token } = leg;
-    tokens.retire(book, token);
+    tokens.retire_one(book, token);
     lane_of(lanes, name)
 }
 
@@ -43,6 +43,6 @@ pub(crate) fn issue(tokens: &Tokens, book: &mut Book, position: u64, state: Lane
 {
     let name = 4 * position as u32 + number_of(state);
     Leg {
-        token: tokens.issue(book, name, 1),
+        token: tokens.issue_one(book, name),
     }
 }

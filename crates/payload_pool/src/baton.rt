@@ -5,12 +5,12 @@ ghost use Rattle.payload_pool.specs.Slots.{acquired_of};
 use generic_payload::Payload;
 use std::marker::Model;
 use tlm_types::TxnId;
-use token_book::{Token, Wallet};
+use token_book::{One, Wallet};
 
 /// A reference beside the initiator's own. Contracts see its token.
 #[derive(Drop)]
 pub struct Hold {
-    pub(crate) token: Token,
+    pub(crate) token: One,
 }
 
 impl Model for Hold {
@@ -38,7 +38,7 @@ impl Hold {
 // The initiator's own reference.
 #[derive(Drop)]
 pub struct Own {
-    pub(crate) token: Token,
+    pub(crate) token: One,
 }
 
 impl Model for Own {

@@ -10,7 +10,7 @@ use crate::pool::Pool;
 use crate::slot::{KeptPayload, place_of};
 use crate::take::head;
 use tlm_types::{Ps, What};
-use token_book::{Token, Tokens};
+use token_book::{One, Tokens};
 
 impl Pool {
     // Takes the reference of this token back, with what it brings back.
@@ -19,7 +19,7 @@ impl Pool {
         &mut self,
         tokens: &Tokens,
         position: u64,
-        token: Token,
+        token: One,
         at: Ps,
         kept: Option<KeptPayload>,
     ) -> bool
@@ -32,7 +32,7 @@ impl Pool {
         ensures { Releases self.old position token at (option_map (λ k. k.payload.room) kept) result self.new }
     {
         let name = token.name();
-        tokens.retire(&mut self.book, token);
+        tokens.retire_one(&mut self.book, token);
         let Some(place) = place_of(&self.slots, name) else {
             unreachable!()
         };

@@ -11,7 +11,7 @@ use crate::baton::{Baton, Hold, Own};
 use crate::pool::Pool;
 use crate::slot::{KeptPayload, free_place, place_of};
 use tlm_types::{Head, ObjectNo, Ps, TxnId, What};
-use token_book::{Book, Token, Tokens};
+use token_book::{Book, Tokens};
 
 // Where and when an entry happens.
 pub(crate) fn head(initiator: u32, position: u64, txn: TxnId, time: Ps) -> Head
@@ -34,7 +34,7 @@ fn issue_hold(tokens: &Tokens, book: &mut Book, name: u32) -> Hold
     ensures hold { result ≡ slip book.old name 1 }
 {
     Hold {
-        token: tokens.issue(book, name, 1),
+        token: tokens.issue_one(book, name),
     }
 }
 
@@ -47,7 +47,7 @@ fn issue_own(tokens: &Tokens, book: &mut Book, name: u32) -> Own
     ensures own { result ≡ slip book.old name 1 }
 {
     Own {
-        token: tokens.issue(book, name, 1),
+        token: tokens.issue_one(book, name),
     }
 }
 
@@ -97,7 +97,7 @@ impl Pool {
         } = baton;
         let name = own.name();
         let Own { token } = own;
-        tokens.retire(&mut self.book, token);
+        tokens.retire_one(&mut self.book, token);
         let Some(place) = place_of(&self.slots, name) else {
             unreachable!()
         };

@@ -39,6 +39,12 @@ book_owner (Book p) = Some p.owner
 book_owner (Token t) = None
 book_owner Spent = None
 
+-- whose a seat is
+abbrev pub owner_in : View → ℕ
+owner_in (Book p) = p.owner
+owner_in (Token t) = t.owner
+owner_in Spent = 0
+
 -- what an amount of an owner's name counts for the owner o and the name n
 abbrev pub counts_for : ℕ → ℕ → ℕ → ℕ → ℕ → ℕ
 counts_for o n owner name amount = cond (owner == o) (cond (name == n) amount 0) 0

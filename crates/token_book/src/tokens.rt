@@ -75,6 +75,65 @@ impl Model for Token {
     ghost invariant = { λ t. t.seat.me ≡ (a_token t.owner t.name t.amount, []) };
 }
 
+/// A token of the amount 1, of which no more than its name is kept, so that what carries it is small. Contracts see it as
+/// they see a token.
+#[derive(Drop)]
+pub struct One {
+    name: u32,
+    seat: Seat<u8, View>,
+}
+
+impl Model for One {
+    ghost use Rattle.std.specs.Prelude.{◌≡◌, []};
+    ghost use Rattle.token_book.specs.Account.{Slip, slip_code};
+    ghost use Rattle.token_book.specs.Rule.{a_token, owner_in};
+
+    ghost Value = { Slip };
+
+    ghost coded = { slip_code };
+
+    ghost view = { λ t. record { table = t.seat.table_id; owner = owner_in t.seat.me.0; name = t.name; amount = 1 } };
+
+    ghost invariant = { λ t. t.seat.me ≡ (a_token (owner_in t.seat.me.0) t.name 1, []) };
+}
+
+impl One {
+    /// Its name.
+    pub fn name(&self) -> u32
+        ensures { result ≡ self.now.name }
+    {
+        self.name
+    }
+
+    // The token, with no more than its name.
+    fn of(token: Token) -> One
+        requires { token.amount ≡ 1 }
+        ensures { result ≡ token }
+    {
+        let Token {
+            owner: _,
+            name,
+            amount: _,
+            seat,
+        } = token;
+        One { name, seat }
+    }
+
+    // The token, which is of this owner.
+    fn into_token(self, owner: u32) -> Token
+        requires { owner ≡ self.owner }
+        ensures { result ≡ self }
+    {
+        let One { name, seat } = self;
+        Token {
+            owner,
+            name,
+            amount: 1,
+            seat,
+        }
+    }
+}
+
 impl Book {
     /// The number of its owner.
     pub fn owner(&self) -> u32
@@ -197,6 +256,27 @@ impl Tokens {
         } = token;
         self.table.shared.join_seat::<TakesIn>(&mut book.seat, seat);
         self.table.shared.load::<Settles>(&mut book.seat, 0);
+    }
+
+    /// A token of this name and of the amount 1, as `issue` makes it.
+    pub fn issue_one(&self, book: &mut Book, name: u32) -> One
+        requires book { book.old.table ≡ self.now }
+        requires fits { out_of name book.old.out + 1 < 2 ^ 64 }
+        ensures book { book.new ≡ issued book.old name 1 }
+        ensures token { result ≡ slip book.old name 1 }
+    {
+        One::of(self.issue(book, name, 1))
+    }
+
+    /// Takes a token of the amount 1 back, as `retire` does.
+    pub fn retire_one(&self, book: &mut Book, token: One)
+        requires book { book.old.table ≡ self.now }
+        requires token { (token.table ≡ self.now) × (token.owner ≡ book.old.owner) }
+        ensures out { token.amount ≤ out_of token.name book.old.out }
+        ensures book { book.new ≡ retired book.old token }
+    {
+        let owner = book.owner();
+        self.retire(book, token.into_token(owner));
     }
 
     /// Takes this amount off the token, and answers a token of it.

@@ -21,7 +21,7 @@ was_out b t u is h = subst (λ (q : Slip). q.amount ≤ out_of q.name b.out) is 
 pub unreachable-requires : goal.unreachable-requires
 unreachable-requires c =
     let one = one_own c.own.inside.token c.args.baton.own c.own.view_is c.own.invariant in
-    let out = was_out c.self.inside.book c.own.inside.token c.args.baton.own c.own.view_is c.retire.ensures.out in
+    let out = was_out c.self.inside.book c.own.inside.token c.args.baton.own c.own.view_is c.retire_one.ensures.out in
     not_lost (view_of c.self.inside) c.self.invariant c.args.baton.own c.name-name.result c.deref.result.now c.place_of.result c.deref.ensures.value c.name-name.ensures c.place_of.ensures c.in_default.is one.0 out
 
 pub push-requires-clause-room : goal.push-requires-clause-room
@@ -29,7 +29,7 @@ push-requires-clause-room c =
     let v = view_of c.self.inside in
     let t = c.args.baton.own in
     let one = one_own c.own.inside.token t c.own.view_is c.own.invariant in
-    let out = was_out c.self.inside.book c.own.inside.token t c.own.view_is c.retire.ensures.out in
+    let out = was_out c.self.inside.book c.own.inside.token t c.own.view_is c.retire_one.ensures.out in
     let h = holds_at v c.self.invariant t c.name-name.result c.in-Some.place c.deref.result.now c.place_of.result c.deref.ensures.value c.name-name.ensures c.place_of.ensures c.in-Some.is one.0 out in
     subst (λ (w : PoolView). is_out w t.name ≡ true → length w.log.events < w.log.room) (sym c.self.view_is) c.requires.room h.place.any
 
@@ -39,7 +39,7 @@ acquire-requires-clause-few c =
     let t = c.args.baton.own in
     let k = c.in-Some.place in
     let one = one_own c.own.inside.token t c.own.view_is c.own.invariant in
-    let out = was_out c.self.inside.book c.own.inside.token t c.own.view_is c.retire.ensures.out in
+    let out = was_out c.self.inside.book c.own.inside.token t c.own.view_is c.retire_one.ensures.out in
     let h = holds_at v c.self.invariant t c.name-name.result k c.deref.result.now c.place_of.result c.deref.ensures.value c.name-name.ensures c.place_of.ensures c.in-Some.is one.0 out in
     let may = may_acquire v c.self.invariant t k h one.1 c.requires.few in
     subst (λ (s : SlotView). s.acquired < 15) (sym (read_slot v c.self.invariant k c.index_mut.result.now h.place.within c.index_mut.ensures.value)) may.few
@@ -50,7 +50,7 @@ acquire-requires-clause-room c =
     let t = c.args.baton.own in
     let k = c.in-Some.place in
     let one = one_own c.own.inside.token t c.own.view_is c.own.invariant in
-    let out = was_out c.self.inside.book c.own.inside.token t c.own.view_is c.retire.ensures.out in
+    let out = was_out c.self.inside.book c.own.inside.token t c.own.view_is c.retire_one.ensures.out in
     let h = holds_at v c.self.invariant t c.name-name.result k c.deref.result.now c.place_of.result c.deref.ensures.value c.name-name.ensures c.place_of.ensures c.in-Some.is one.0 out in
     let may = may_acquire v c.self.invariant t k h one.1 c.requires.few in
     subst (λ (s : SlotView). length s.out < 16) (sym (read_slot v c.self.invariant k c.index_mut.result.now h.place.within c.index_mut.ensures.value)) may.room
@@ -61,9 +61,9 @@ issue_own-own-requires-clause-few c =
     let t = c.args.baton.own in
     let k = c.in-Some.place in
     let one = one_own c.own.inside.token t c.own.view_is c.own.invariant in
-    let out = was_out c.self.inside.book c.own.inside.token t c.own.view_is c.retire.ensures.out in
+    let out = was_out c.self.inside.book c.own.inside.token t c.own.view_is c.retire_one.ensures.out in
     let h = holds_at v c.self.invariant t c.name-name.result k c.deref.result.now c.place_of.result c.deref.ensures.value c.name-name.ensures c.place_of.ensures c.in-Some.is one.0 out in
-    let book = c.retire.ensures.book ∙ ap (λ (q : Slip). retired c.self.inside.book q) c.own.view_is in
+    let book = c.retire_one.ensures.book ∙ ap (λ (q : Slip). retired c.self.inside.book q) c.own.view_is in
     let few = few_retired v c.self.invariant t k h (c.name-name.result + 1) in
     subst (λ (b : Account). out_of (c.name-name.result + 1) b.out ≤ 1000) (sym book) (omega arith)
 
@@ -74,9 +74,9 @@ issue_hold-hold-requires-clause-few c =
     let k = c.in-Some.place in
     let n = c.name-name.result in
     let one = one_own c.own.inside.token t c.own.view_is c.own.invariant in
-    let out = was_out c.self.inside.book c.own.inside.token t c.own.view_is c.retire.ensures.out in
+    let out = was_out c.self.inside.book c.own.inside.token t c.own.view_is c.retire_one.ensures.out in
     let h = holds_at v c.self.invariant t n k c.deref.result.now c.place_of.result c.deref.ensures.value c.name-name.ensures c.place_of.ensures c.in-Some.is one.0 out in
-    let book = c.issue_own-own.ensures.book ∙ ap (λ (b : Account). issued b (n + 1) 1) (c.retire.ensures.book ∙ ap (λ (q : Slip). retired c.self.inside.book q) c.own.view_is) in
+    let book = c.issue_own-own.ensures.book ∙ ap (λ (b : Account). issued b (n + 1) 1) (c.retire_one.ensures.book ∙ ap (λ (q : Slip). retired c.self.inside.book q) c.own.view_is) in
     let few = few_issued v c.self.invariant t k h (n + 1) (n - 16) in
     subst (λ (b : Account). out_of (n - 16) b.out ≤ 1000) (sym book) (omega arith)
 
@@ -86,12 +86,12 @@ held c =
     let v = view_of c.self.inside in
     let t = c.args.baton.own in
     let one = one_own c.own.inside.token t c.own.view_is c.own.invariant in
-    let out = was_out c.self.inside.book c.own.inside.token t c.own.view_is c.retire.ensures.out in
+    let out = was_out c.self.inside.book c.own.inside.token t c.own.view_is c.retire_one.ensures.out in
     holds_at v c.self.invariant t c.name-name.result c.in-Some.place c.deref.result.now c.place_of.result c.deref.ensures.value c.name-name.ensures c.place_of.ensures c.in-Some.is one.0 out
 
 -- the book and the pool afterwards
-book : (c : goal.After-issue_hold-hold) → c.retire.new.book ≡ retired c.self.inside.book c.args.baton.own
-book c = c.retire.ensures.book ∙ ap (λ (q : Slip). retired c.self.inside.book q) c.own.view_is
+book : (c : goal.After-issue_hold-hold) → c.retire_one.new.book ≡ retired c.self.inside.book c.args.baton.own
+book c = c.retire_one.ensures.book ∙ ap (λ (q : Slip). retired c.self.inside.book q) c.own.view_is
 
 next_book : (c : goal.After-issue_hold-hold) → c.issue_own-own.new.book ≡ issued (retired c.self.inside.book c.args.baton.own) (c.args.baton.own.name + 1) 1
 next_book c =

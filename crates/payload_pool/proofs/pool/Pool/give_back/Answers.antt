@@ -15,14 +15,14 @@ use Rattle.payload_pool.proofs.pool.Pool.give_back.Goals as goal
 
 pub unreachable-requires : goal.unreachable-requires
 unreachable-requires c =
-    not_lost (view_of c.self.inside) c.self.invariant c.args.token c.name-name.result c.deref.result.now c.place_of.result c.deref.ensures.value c.name-name.ensures c.place_of.ensures c.in_default.is c.requires.token.1 c.retire.ensures.out
+    not_lost (view_of c.self.inside) c.self.invariant c.args.token c.name-name.result c.deref.result.now c.place_of.result c.deref.ensures.value c.name-name.ensures c.place_of.ensures c.in_default.is c.requires.token.1 c.retire_one.ensures.out
 
 pub give_back-freed-requires-clause-number : goal.give_back-freed-requires-clause-number
 give_back-freed-requires-clause-number c =
     let v = view_of c.self.inside in
     let t = c.args.token in
     let k = c.in-Some.place in
-    let h = holds_at v c.self.invariant t c.name-name.result k c.deref.result.now c.place_of.result c.deref.ensures.value c.name-name.ensures c.place_of.ensures c.in-Some.is c.requires.token.1 c.retire.ensures.out in
+    let h = holds_at v c.self.invariant t c.name-name.result k c.deref.result.now c.place_of.result c.deref.ensures.value c.name-name.ensures c.place_of.ensures c.in-Some.is c.requires.token.1 c.retire_one.ensures.out in
     let number = c.min-number.ensures ∙ ap (λ (n : ℕ). reference_number n) c.name-name.ensures in
     rw (number, read_slot v c.self.invariant k c.index_mut.result.now h.place.within c.index_mut.ensures.value) (some_at v c.self.invariant t k h)
 
@@ -30,13 +30,13 @@ pub push-requires-clause-room : goal.push-requires-clause-room
 push-requires-clause-room c =
     let v = view_of c.self.inside in
     let t = c.args.token in
-    let h = holds_at v c.self.invariant t c.name-name.result c.in-Some.place c.deref.result.now c.place_of.result c.deref.ensures.value c.name-name.ensures c.place_of.ensures c.in-Some.is c.requires.token.1 c.retire.ensures.out in
+    let h = holds_at v c.self.invariant t c.name-name.result c.in-Some.place c.deref.result.now c.place_of.result c.deref.ensures.value c.name-name.ensures c.place_of.ensures c.in-Some.is c.requires.token.1 c.retire_one.ensures.out in
     subst (λ (w : PoolView). is_out w t.name ≡ true → length w.log.events < w.log.room) (sym c.self.view_is) c.requires.room h.place.any
 
 -- the slot of the token
 held : (c : goal.After-push) → Holds (view_of c.self.inside) c.self.invariant c.args.token c.in-Some.place
 held c =
-    holds_at (view_of c.self.inside) c.self.invariant c.args.token c.name-name.result c.in-Some.place c.deref.result.now c.place_of.result c.deref.ensures.value c.name-name.ensures c.place_of.ensures c.in-Some.is c.requires.token.1 c.retire.ensures.out
+    holds_at (view_of c.self.inside) c.self.invariant c.args.token c.name-name.result c.in-Some.place c.deref.result.now c.place_of.result c.deref.ensures.value c.name-name.ensures c.place_of.ensures c.in-Some.is c.requires.token.1 c.retire_one.ensures.out
 
 abbrev bytes : (c : goal.After-push) → Option ℕ
 bytes c = option_map (λ (b : KeptPayload). b.payload.room) c.args.kept
@@ -47,7 +47,7 @@ freed c =
     c.give_back-freed.ensures.last ∙ ap (λ (s : SlotView). length s.out == 1) met
 
 -- the pool afterwards
-after : (c : goal.After-push) → record { initiator = c.self.inside.initiator; room = c.self.inside.room; slots = set c.self.inside.slots.items c.in-Some.place c.give_back-freed.new.self; log = c.push.new.self; book = c.retire.new.book }
+after : (c : goal.After-push) → record { initiator = c.self.inside.initiator; room = c.self.inside.room; slots = set c.self.inside.slots.items c.in-Some.place c.give_back-freed.new.self; log = c.push.new.self; book = c.retire_one.new.book }
     ≡ changed (view_of c.self.inside) c.in-Some.place (given_back (reference_number c.args.token.name) (bytes c) (slot_at c.self.inside.slots.items c.in-Some.place)) (event_by (view_of c.self.inside) c.args.position (slot_at c.self.inside.slots.items c.in-Some.place).txn c.args.at (Release c.in-Some.place (length (slot_at c.self.inside.slots.items c.in-Some.place).out == 1)) (reference_number c.args.token.name)) (retired c.self.inside.book c.args.token)
 after c =
     let v = view_of c.self.inside in
@@ -55,7 +55,7 @@ after c =
     let below = (held c).place.within in
     let seen = read_slot v c.self.invariant k c.index.result.now below c.index.ensures in
     let met = read_slot v c.self.invariant k c.index_mut.result.now below c.index_mut.ensures.value in
-    rw (c.push.ensures, c.head.ensures, freed c, c.give_back-freed.ensures.slot, c.txn-txn.ensures, c.retire.ensures.book, c.min-number.ensures, c.name-name.ensures, seen, met) refl
+    rw (c.push.ensures, c.head.ensures, freed c, c.give_back-freed.ensures.slot, c.txn-txn.ensures, c.retire_one.ensures.book, c.min-number.ensures, c.name-name.ensures, seen, met) refl
 
 pub invariant_of-self : goal.invariant_of-self
 invariant_of-self c =
