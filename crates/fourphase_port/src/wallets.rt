@@ -42,7 +42,6 @@ pub(crate) fn hand_over(
     count: u64,
 )
     requires tables { IsOf tickets.now from.old × IsOf tickets.now to.old }
-    requires some { 0 < count }
     requires left { count ≤ left_of from.old object }
     requires room { HasRoom to.old object }
     ensures from { Gives tickets.now object count 0 from.old from.new }
@@ -50,6 +49,9 @@ pub(crate) fn hand_over(
     ensures from_in { (o : ℕ) → HasPlace from.new o → HasPlace from.old o }
     ensures to_in { (o : ℕ) → HasPlace to.new o → HasPlace to.old o ⊎ (o ≡ object) }
 {
+    if count == 0 {
+        return;
+    }
     let rights = from.pull_many(tickets, object, count);
     to.put(tickets, rights);
 }
