@@ -1,14 +1,12 @@
--- Tickets that move one at a time have moved together.
-use Rattle.std.proofs.Common.{◌≡◌, ◌⊎◌, ℕ, ◌+◌, ◌<◌, ◌==◌, Bool, true, false, if◌then◌else◌, Option, Some, None, IsSome, refl, sym, ap, ◌∙◌, subst, inl, inr, arith}
-use Rattle.std.proofs.lemmas.Grind.{common_steps}
+-- Who has a place in a wallet after tickets were moved.
+use Rattle.std.proofs.Common.{◌≡◌, ◌⊎◌, ℕ, ◌<◌, ◌==◌, Bool, true, false, if◌then◌else◌, Option, Some, None, IsSome, refl, sym, ap, ◌∙◌, subst, inl, inr, arith}
 use Rattle.std.specs.FinMap as map
 use Rattle.atomic_table.specs.Seated.{TableId}
 use Rattle.token_book.specs.Pocket.{Pocket}
 use Rattle.token_book.specs.Account.{Slip}
-use Rattle.token_book.specs.Purse.{Purse, HasPlace, HasRoom, bytes_of, left_in, left_of, pulled, put_in}
+use Rattle.token_book.specs.Purse.{Purse, HasPlace, left_in, left_of, pulled, put_in}
 use Rattle.token_book.specs.Ticket.{bytes_right, bytes_rights}
 use Rattle.token_book.proofs.Rooms.{place-pulled, place-put_in}
-use Rattle.fourphase_port.specs.Wallets.{Gets, Gives}
 
 some_left : (p : Option Pocket) → 0 < left_in p → IsSome p
 some_left None some = absurd (omega (arith, some))
