@@ -1,6 +1,6 @@
 //! From initiators that have finished to the points of grants of the whole history (IEEE 1666-2011, clause 11.2).
 //!
-//! - `specs/Done` says what an initiator hands in of its grants, and `specs/Laws` that with what the memories' logs
+//! - `specs/Done` says what an initiator hands in of its grants, `specs/Finished` what it leaves that has finished, and `specs/Laws` that with what the memories' logs
 //!   tell of gates the whole history has the points of grants, at its end too; and so has a closed history whose net
 //!   is taken apart.
 //!

@@ -1,8 +1,1 @@
-pub mod SealLemmas
-pub mod BeginLemmas
-pub mod PortLemmas
-pub mod NodeLemmas
-pub mod OrderLemmas
-pub mod LogLemmas
-pub mod WholeLemmas
 pub mod GatherLemmas

@@ -1,7 +1,1 @@
 pub mod Entries
-pub mod Ports
-pub mod Nodes
-pub mod Actors
-pub mod Turn
-pub mod End
-pub mod Run

@@ -3,24 +3,21 @@ ghost use Rattle.std.specs.Prelude.{◌≡◌, ◌≤◌, true, length, All, IfO
 ghost use Rattle.run_queue.specs.Queue.{AreNumbered};
 ghost use Rattle.plat_build.specs.Kept.{all_waiting};
 ghost use Rattle.plat_net.specs.Objects.{frame_of};
-ghost use Rattle.route_plan.specs.Valid.{IsValid};
 ghost use Rattle.run_outcome.specs.Outcome.{IsWhole};
-ghost use Rattle.plat_run.specs.Actors.{is_done, number_of};
-ghost use Rattle.plat_run.specs.End.{HaveAllLeft};
-ghost use Rattle.plat_run.specs.Entries.{entries_read};
-ghost use Rattle.plat_run.specs.Run.{IsCoreRun};
+ghost use Rattle.run_jobs.specs.Actors.{is_done, number_of};
+ghost use Rattle.run_end.specs.Entries.{entries_read};
+ghost use Rattle.run_end.specs.Run.{IsCoreRun};
 
-use crate::actor::Actor;
-use crate::begin::begin_jobs;
 use crate::ending::{HandedIn, hand_in};
 use crate::workers::{work_all, work_alone};
-use one_history::{Closed, Sealed};
 use outside::Pace;
 use plat_build::{Built, Opened, build};
-use plat_end::{Apart, take_apart};
-use plat_net::{Net, NetParts, PlatHistory, PlatNote, TlmLaw};
+use plat_end::take_apart;
+use plat_net::{Net, NetParts, TlmLaw};
 use route_plan::Plan;
-use run_outcome::{MergedLog, Outcome};
+use run_end::{PlatSealed, seal};
+use run_jobs::{Actor, begin_jobs};
+use run_outcome::Outcome;
 use run_queue::{Job, RunQueue};
 use shared_object::Naming;
 use std::alloc::Global;
@@ -28,11 +25,7 @@ use std::marker::Brand;
 use std::sync::Wait;
 use std::thread::Threads;
 use time_board::Board;
-use tlm_model::Rows;
-use tlm_types::{Content, EndOf, Memory};
-
-/// The history of a run that has ended.
-pub type PlatSealed = Sealed<Content, Plan, TlmLaw>;
+use tlm_types::Memory;
 
 /// Runs the initiators of a net that was just built by so many workers, 1 to 16, until all have finished. Each access and each debug read is told to the pace before it is made, while no lock is
 /// held. The history is good for the plan whatever the workers do in which order, and it is sealed. Its
@@ -70,7 +63,7 @@ pub fn run<N: Naming<Plan, TlmLaw> + Send + Sync, P: Pace + Sync, R: Threads + W
         pools,
     } = net.into_parts();
     let apart = take_apart(rt, alloc, &tickets, memories, hops, pools, &mut wallets)?;
-    finish::<N>(history, ends, notes, apart)
+    seal::<N>(history, ends, notes, apart)
 }
 
 // A board on which the blocking and direct initiators of these jobs take part in rounds. Its only error is want of memory.
@@ -198,38 +191,4 @@ fn run_opened<N: Naming<Plan, TlmLaw> + Send + Sync, P: Pace + Sync, R: Threads 
 {
     let built = build::<N>(alloc, opened, plan)?;
     run::<N, P, R>(rt, alloc, built, workers, pace)
-}
-
-// Seals the history, and makes the outcome of what the jobs and the objects have left. Its only error is
-// want of memory.
-fn finish<N: Naming<Plan, TlmLaw>>(
-    history: PlatHistory,
-    ends: Vec<EndOf>,
-    notes: Vec<PlatNote>,
-    apart: Apart,
-) -> Result<(Outcome, PlatSealed), Memory>
-    requires history { (history.table ≡ N.table) × (history.frame ≡ N.frame) }
-    requires frame { N.frame ≡ frame_of N.frame.world }
-    requires valid { IsValid N.frame.world }
-    requires left { HaveAllLeft N.table N.tokens N.frame ends.items notes.items apart.logs.items apart.stores.items apart.seats.items }
-    ensures whole { IfOk result (λ r. IsWhole N.frame.world r.0) }
-    ensures core { IfOk result (λ r. IsCoreRun N.frame.world r.0.history.entries) }
-    ensures sealed { IfOk result (λ r. entries_read N.frame.world.platform r.1.entries ≡ r.0.history.entries) }
-    ensures world { IfOk result (λ r. (r.1.table ≡ N.table) × (r.1.world ≡ N.frame.world)) }
-{
-    let Apart {
-        logs,
-        stores,
-        seats,
-    } = apart;
-    let Closed::Done(sealed) = history.close(seats, notes) else {
-        unreachable!()
-    };
-    let outcome = Outcome {
-        history: MergedLog::of_logs(logs, sealed.len()),
-        stores: Rows::from_vec(stores),
-        ends: Rows::from_vec(ends),
-        complete: true,
-    };
-    Ok((outcome, sealed))
 }

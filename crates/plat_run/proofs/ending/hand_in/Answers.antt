@@ -5,8 +5,9 @@ use Rattle.tlm_types.specs.declared.ends.EndOf.{EndOf}
 use Rattle.tlm_types.specs.declared.entry.Content.{Content}
 use Rattle.tlm_model.specs.Plan.{Plan}
 use Rattle.plat_build.proofs.KeptLemmas.{next_is, whole_next}
-use Rattle.plat_run.specs.Actors.{is_done, number_of}
-use Rattle.plat_run.specs.End.{AreFinished, IsFinished}
+use Rattle.run_jobs.specs.Actors.{is_done, number_of}
+use Rattle.grant_end.specs.Finished.{IsFinished}
+use Rattle.run_end.specs.End.{AreFinished}
 use Rattle.plat_run.proofs.GatherLemmas.{each_there, finished_more}
 use Rattle.plat_run.proofs.ending.hand_in.Goals as goal
 

@@ -3,8 +3,8 @@ use Rattle.token_book.specs.Purse.{IsOf, Purse}
 use Rattle.net_end.specs.Closed.{AreHandedBack}
 use Rattle.plat_end.specs.Apart.{left_by}
 use Rattle.plat_build.specs.Kept.{HasNoOthers}
-use Rattle.plat_run.specs.End.{AreFinished}
-use Rattle.plat_run.proofs.WholeLemmas.{wallets_no_others, wallets_of}
+use Rattle.run_end.specs.End.{AreFinished}
+use Rattle.run_end.proofs.WholeLemmas.{wallets_no_others, wallets_of}
 use Rattle.plat_run.proofs.running.run.Goals as goal
 
 pub take_apart-requires-clause-of : goal.take_apart-requires-clause-of
@@ -19,8 +19,8 @@ take_apart-requires-clause-no_others g c =
     let in_all = c.in_ok-handed.handed in
     subst (All (HasNoOthers n.frame.world.platform)) (sym c.deref_mut.ensures.value) (wallets_no_others n.table n.tokens n.frame.world (length c.in_ok-jobs-2.jobs.items) in_all.ends.items in_all.wallets.items in_all.notes.items c.in_ok-handed.ensures)
 
-pub finish-requires-clause-left : goal.finish-requires-clause-left
-finish-requires-clause-left g c =
+pub seal-requires-clause-left : goal.seal-requires-clause-left
+seal-requires-clause-left g c =
     let n = g.N.Naming in
     let in_all = c.in_ok-handed.handed in
     let apart = c.in_ok-apart in

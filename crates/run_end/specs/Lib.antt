@@ -1,0 +1,3 @@
+pub mod Entries
+pub mod Run
+pub mod End

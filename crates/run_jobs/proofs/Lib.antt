@@ -1,0 +1,4 @@
+pub mod SealLemmas
+pub mod BeginLemmas
+pub mod PortLemmas
+pub mod NodeLemmas

@@ -1,0 +1,4 @@
+pub mod Ports
+pub mod Nodes
+pub mod Actors
+pub mod Turn
