@@ -13,7 +13,7 @@ use Rattle.outside.specs.declared.libraries.NamedFile.{NamedFile}
 use Rattle.tlm_model.specs.declared.platform.InitiatorRow.{InitiatorRow}
 use Rattle.tlm_model.specs.Plan.{Plan}
 use Rattle.tlm_model.specs.Text.{address_word}
-use Rattle.trace_print.proofs.HexLemmas.{length-within}
+use Rattle.line_text.proofs.HexLemmas.{length-within}
 use Rattle.traffic_gen.specs.Numbers.{drawn, next}
 use Rattle.traffic_gen.specs.Texts.{behind_bridge, data_of, line, lines, on_bus, platform_text, read_line, scripts, value_of, write_line}
 use Rattle.command_words.specs.Words.{gen}

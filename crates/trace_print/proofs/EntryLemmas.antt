@@ -21,8 +21,8 @@ use Rattle.tlm_model.specs.declared.trace.Trace.TheVariants.{All, Accesses, None
 use Rattle.report_model.specs.Report.{bytes_word, command_word, entry_words, freed_words, has_operand, initiator_name, kind_word, memory_name, object_word, operand_text, phase_word, range_word, shown_by, status_word, sync_words, traced, txn_word, way_word, what_words}
 use Rattle.tlm_types.specs.Log.{is_access}
 use Rattle.tlm_model.specs.Text.{address_word, data_word, line_of}
-use Rattle.trace_print.specs.EventText.{freed_text}
-use Rattle.trace_print.specs.Pieces.{asked_text, seq_text, status_text, times_text, unmasked_text, width_text}
+use Rattle.line_text.specs.EventText.{freed_text}
+use Rattle.line_text.specs.Pieces.{asked_text, seq_text, status_text, times_text, unmasked_text, width_text}
 use Rattle.trace_print.specs.Told.{access_words, operand_at, shown_at, shown_of, text_of}
 use Rattle.trace_print.proofs.TextLemmas.{access-line, head-front}
 pub use Rattle.trace_print.proofs.Texts.{text-append, text-one}

@@ -1,5 +1,4 @@
 pub mod Writing
-pub mod Adding
 pub mod Putting
 pub mod Texts
 pub mod HopLemmas
@@ -8,10 +7,6 @@ pub mod EndLemmas
 pub mod StoreLemmas
 pub mod ReportLemmas
 pub mod TextLemmas
-pub mod VectorLemmas
-pub mod WordLemmas
-pub mod NumberLemmas
-pub mod HexLemmas
 pub mod SplitLemmas
 pub mod SameWords
 pub mod SameEntries

@@ -1,8 +1,5 @@
 pub mod LineView
 pub mod Writes
-pub mod Pieces
-pub mod AccessText
-pub mod EventText
 pub mod Putting
 pub mod Told
 pub mod Hops

@@ -7,18 +7,16 @@ ghost use Rattle.tlm_types.specs.declared.entry.What.TheVariants.{Granted, Call}
 ghost use Rattle.report_model.specs.Report.{entry_words, has_operand, operand_text, traced, txn_word, what_words};
 ghost use Rattle.tlm_types.specs.Log.{is_access};
 ghost use Rattle.tlm_model.specs.Text.{line_of};
-ghost use Rattle.trace_print.specs.AccessText.{access_text, IsShort};
-ghost use Rattle.trace_print.specs.EventText.{event_text, what_of, IsBrief};
+ghost use Rattle.line_text.specs.AccessText.{access_text, IsShort};
+ghost use Rattle.line_text.specs.EventText.{event_text, what_of, IsBrief};
 ghost use Rattle.trace_print.specs.Hops.{ends_at, object_word_by};
 ghost use Rattle.trace_print.specs.Putting.{Puts, page};
 ghost use Rattle.trace_print.specs.Told.{access_words, shown_of, text_of};
 
-use crate::access::AccessLine;
-use crate::event::{Event, EventLine};
 use crate::line::{Line, flush, put, put_access_line, put_event_line, put_piece};
 use crate::names::{ends_at, initiator_name, memory_name, place_at, put_object, put_txn};
-use crate::pieces::Piece;
 use crate::words::{kind_text, phase_text, put_data, put_number, put_range, put_sync, put_text};
+use line_text::{AccessLine, Event, EventLine, Piece};
 use outside::Sink;
 use route_plan::{HopEnds, Plan};
 use run_outcome::LogReader;

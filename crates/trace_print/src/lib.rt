@@ -20,15 +20,12 @@ ghost use Rattle.trace_print.specs.Putting.{Puts, page};
 ghost use Rattle.run_outcome.specs.Outcome.{IsReportable};
 ghost use Rattle.trace_print.specs.Writes.{IsPrinted};
 
-mod access;
 mod ends;
 mod entries;
-mod event;
 pub mod laws;
 mod line;
 mod memories;
 mod names;
-mod pieces;
 mod words;
 
 use crate::ends::put_initiators;

@@ -1,14 +1,15 @@
 // The line that is made for a sink.
 ghost use Rattle.std.specs.Prelude.{◌≡◌, ◌+◌, ◌≤◌, ◌∷◌, [], false, length, IfOk};
 ghost use Rattle.tlm_model.specs.Text.{hex_of};
-ghost use Rattle.trace_print.specs.AccessText.{access_text, IsShort};
-ghost use Rattle.trace_print.specs.EventText.{event_text, IsBrief};
-ghost use Rattle.trace_print.specs.Pieces.{piece_text};
+ghost use Rattle.line_text.specs.AccessText.{access_text, IsShort};
+ghost use Rattle.line_text.specs.EventText.{event_text, IsBrief};
+ghost use Rattle.line_text.specs.Pieces.{piece_text};
 ghost use Rattle.trace_print.specs.Putting.{Puts, page};
 
-use crate::access::{ACCESS_MAX, AccessLine, write_access};
-use crate::event::{EVENT_MAX, EventLine, write_event};
-use crate::pieces::{PIECE_MAX, Piece, write_data, write_piece, write_word};
+use line_text::{
+    ACCESS_MAX, AccessLine, EVENT_MAX, EventLine, PIECE_MAX, Piece, write_access, write_data,
+    write_event, write_piece, write_word,
+};
 use outside::Sink;
 use std::alloc::Global;
 use std::marker::Model;

@@ -1,14 +1,13 @@
 // Names of a platform's components, as the report has them.
 ghost use Rattle.std.specs.Prelude.{◌≡◌, ◌++◌, codes, slice_get, IfSome};
 ghost use Rattle.report_model.specs.Report.{initiator_name, memory_name, name_of_router, object_word, seq_word, target_name, txn_word};
-ghost use Rattle.trace_print.specs.EventText.{place_text};
+ghost use Rattle.line_text.specs.EventText.{place_text};
 ghost use Rattle.trace_print.specs.Hops.{ends_at, hop_word_of, object_word_by, up_name};
 ghost use Rattle.trace_print.specs.Putting.{Puts, page};
 
-use crate::event::Place;
 use crate::line::{Line, put, put_piece};
-use crate::pieces::Piece;
 use crate::words::put_text;
+use line_text::{Piece, Place};
 use outside::Sink;
 use route_plan::{HopEnds, Plan, Up};
 use tlm_model::{Platform, Target};

@@ -7,7 +7,7 @@ ghost use Rattle.tlm_model.specs.Text.{address_word, data_word, hex_of, offset_w
 ghost use Rattle.trace_print.specs.Putting.{Puts, page};
 
 use crate::line::{CHUNK, Line, put, put_chunk, put_piece};
-use crate::pieces::Piece;
+use line_text::Piece;
 use outside::Sink;
 use tlm_model::Style;
 use tlm_types::{Command, Kind, Phase, TlmSync};

@@ -1,6 +1,6 @@
 use Rattle.std.proofs.Common.{◌≡◌, ◌==◌, ℕ, List, length, true, ap, ◌∙◌}
 use Rattle.trace_print.proofs.Putting.{puts-as}
-use Rattle.trace_print.proofs.WordLemmas.{data-some}
+use Rattle.line_text.proofs.WordLemmas.{data-some}
 use Rattle.trace_print.proofs.words.put_data.Goals as goal
 
 pub returns-else-is_empty : goal.returns-else-is_empty

@@ -2,7 +2,7 @@ use Rattle.std.proofs.Common.{ap, arith}
 use Rattle.std.proofs.lemmas.List.{take_all}
 use Rattle.tlm_model.specs.Text.{hex_of}
 use Rattle.trace_print.proofs.Putting.{puts-as, puts-more, puts-nothing}
-use Rattle.trace_print.proofs.WordLemmas.{hex-next}
+use Rattle.line_text.proofs.WordLemmas.{hex-next}
 use Rattle.trace_print.proofs.words.put_hex.Goals as goal
 
 pub loop-start-init : goal.loop-start-init

@@ -1,0 +1,5 @@
+pub mod Adding
+pub mod VectorLemmas
+pub mod WordLemmas
+pub mod NumberLemmas
+pub mod HexLemmas

@@ -1,0 +1,183 @@
+// The line of a call at a hop, or of an entry of a pool. It is written in one go, as that of a short access is.
+ghost use Rattle.std.specs.Prelude.{◌≡◌, ◌+◌, ◌≤◌, ◌++◌, length, IsTrue, codes};
+ghost use Rattle.std.specs.Fmt.{decimal};
+ghost use Rattle.report_model.specs.Report.{phase_word, sync_words, what_words};
+ghost use Rattle.tlm_model.specs.Text.{line_of};
+ghost use Rattle.line_text.specs.EventText.{event_text, freed_text, place_text, what_of, IsBrief, IsBriefPlace};
+ghost use Rattle.line_text.specs.Pieces.{Adds};
+
+use crate::access::NAME_MAX;
+use crate::pieces::{write_name, write_number, write_seq, write_times, write_word};
+use tlm_types::{Head, Phase, TlmSync};
+
+/// The name of a hop, by those of its two ends, or of a pool, by that of its initiator.
+#[derive(Clone, Copy)]
+pub enum Place<'a> {
+    Hop { up: &'a [u8], down: &'a [u8] },
+    Pool { initiator: &'a [u8] },
+}
+
+/// What happened at a hop or at a pool.
+#[derive(Clone, Copy)]
+pub enum Event {
+    Call { phase: Phase, answer: TlmSync },
+    Take { slot: u32 },
+    Acquire { slot: u32 },
+    Release { slot: u32, freed: bool },
+}
+
+/// The words of the line of a call at a hop, or of an entry of a pool.
+#[derive(Clone, Copy)]
+pub struct EventLine<'a> {
+    pub head: Head,
+    pub initiator: &'a [u8],
+    pub place: Place<'a>,
+    pub event: Event,
+}
+
+/// How many bytes such a line takes at most, where its names are short.
+pub const EVENT_MAX: usize = 3173;
+
+impl Place<'_> {
+    // Its names are as short as those of a run are.
+    #[inline(always)]
+    fn is_brief(&self) -> bool
+        ensures { IsTrue result → IsBriefPlace self.now }
+    {
+        match self {
+            Place::Hop { up, down } => up.len() <= NAME_MAX && down.len() <= NAME_MAX,
+            Place::Pool { initiator } => initiator.len() <= NAME_MAX,
+        }
+    }
+}
+
+impl EventLine<'_> {
+    /// Its names are as short as those of a run are.
+    #[inline(always)]
+    pub fn is_brief(&self) -> bool
+        ensures { IsTrue result → IsBrief self.now }
+    {
+        self.initiator.len() <= NAME_MAX && self.place.is_brief()
+    }
+}
+
+// The name of a hop or a pool.
+#[inline(always)]
+fn write_place(bytes: &mut [u8], start: usize, place: Place<'_>) -> usize
+    requires brief { IsBriefPlace place }
+    requires room { start + 2049 ≤ length bytes.old }
+    ensures adds { Adds bytes.old bytes.new start result (place_text place.entry) }
+    ensures within { result ≤ start + 2049 }
+{
+    match place {
+        Place::Hop { up, down } => {
+            let mark = write_name(bytes, start, up);
+            let name = write_word(bytes, mark, b">");
+            write_name(bytes, name, down)
+        }
+        Place::Pool { initiator } => {
+            let mark = write_name(bytes, start, initiator);
+            write_word(bytes, mark, b".pool")
+        }
+    }
+}
+
+// A phase after a space.
+#[inline(always)]
+fn write_phase(bytes: &mut [u8], start: usize, phase: Phase) -> usize
+    requires { start + 11 ≤ length bytes.old }
+    ensures adds { Adds bytes.old bytes.new start result (codes " " ++ phase_word phase) }
+    ensures within { result ≤ start + 11 }
+{
+    match phase {
+        Phase::BeginReq => write_word(bytes, start, b" BEGIN_REQ"),
+        Phase::EndReq => write_word(bytes, start, b" END_REQ"),
+        Phase::BeginResp => write_word(bytes, start, b" BEGIN_RESP"),
+        Phase::EndResp => write_word(bytes, start, b" END_RESP"),
+    }
+}
+
+// The answer to a call after a space, with the end of the line.
+#[inline(always)]
+fn write_answer(bytes: &mut [u8], start: usize, answer: TlmSync) -> usize
+    requires { start + 20 ≤ length bytes.old }
+    ensures adds { Adds bytes.old bytes.new start result (codes " " ++ line_of (sync_words answer)) }
+    ensures within { result ≤ start + 20 }
+{
+    match answer {
+        TlmSync::Accepted => write_word(bytes, start, b" ACCEPTED\n"),
+        TlmSync::Updated(phase) => {
+            let place = write_word(bytes, start, b" UPDATED");
+            let end = write_phase(bytes, place, phase);
+            write_word(bytes, end, b"\n")
+        }
+        TlmSync::Completed => write_word(bytes, start, b" COMPLETED\n"),
+    }
+}
+
+// A word with its spaces, and the number of a slot.
+#[inline(always)]
+fn write_slot(bytes: &mut [u8], start: usize, word: &[u8], slot: u32) -> usize
+    requires { start + length word.now + 20 ≤ length bytes.old }
+    ensures adds { Adds bytes.old bytes.new start result (word.now ++ decimal slot) }
+    ensures within { result ≤ start + length word.now + 20 }
+{
+    let number = write_word(bytes, start, word);
+    write_number(bytes, number, slot as u64)
+}
+
+// What happened, after a space and with the end of the line.
+#[inline(always)]
+fn write_what(bytes: &mut [u8], start: usize, event: Event) -> usize
+    requires { start + 36 ≤ length bytes.old }
+    ensures adds { Adds bytes.old bytes.new start result (codes " " ++ line_of (what_words (what_of event))) }
+    ensures within { result ≤ start + 36 }
+{
+    match event {
+        Event::Call { phase, answer } => {
+            let place = write_phase(bytes, start, phase);
+            write_answer(bytes, place, answer)
+        }
+        Event::Take { slot } => {
+            let end = write_slot(bytes, start, b" take ", slot);
+            write_word(bytes, end, b"\n")
+        }
+        Event::Acquire { slot } => {
+            let end = write_slot(bytes, start, b" acquire ", slot);
+            write_word(bytes, end, b"\n")
+        }
+        Event::Release { slot, freed } => {
+            let end = write_slot(bytes, start, b" release ", slot);
+            write_freed(bytes, end, freed)
+        }
+    }
+}
+
+// That a payload was freed, and the end of the line.
+#[inline(always)]
+fn write_freed(bytes: &mut [u8], start: usize, freed: bool) -> usize
+    requires { start + 7 ≤ length bytes.old }
+    ensures adds { Adds bytes.old bytes.new start result (freed_text freed) }
+    ensures within { result ≤ start + 7 }
+{
+    if freed {
+        write_word(bytes, start, b" freed\n")
+    } else {
+        write_word(bytes, start, b"\n")
+    }
+}
+
+/// Writes the line.
+#[inline(always)]
+pub fn write_event(bytes: &mut [u8], start: usize, line: &EventLine<'_>) -> usize
+    requires brief { IsBrief line.now }
+    requires room { start + 3173 ≤ length bytes.old }
+    ensures adds { Adds bytes.old bytes.new start result (event_text line.now) }
+    ensures within { result ≤ start + 3173 }
+{
+    let name = write_times(bytes, start, line.head.position, line.head.time);
+    let seq = write_name(bytes, name, line.initiator);
+    let place = write_seq(bytes, seq, line.head.txn.seq);
+    let what = write_place(bytes, place, line.place);
+    write_what(bytes, what, line.event)
+}

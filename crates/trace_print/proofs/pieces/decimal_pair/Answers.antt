@@ -1,8 +1,0 @@
-use Rattle.std.proofs.Common.{refl}
-use Rattle.trace_print.proofs.NumberLemmas.{decimal-pairs-at}
-use Rattle.trace_print.proofs.pieces.decimal_pair.Goals as goal
-
-pub returns : goal.returns
-returns c =
-    let p = decimal-pairs-at c.args.number c.requires in
-    rw (p.0, p.1) refl

@@ -1,5 +1,0 @@
-use Rattle.trace_print.proofs.Adding.{adds-more}
-use Rattle.trace_print.proofs.pieces.write_spaced.Goals as goal
-
-pub returns-clause-adds : goal.returns-clause-adds
-returns-clause-adds c = adds-more _ _ _ _ _ _ _ _ c.write_number-end.ensures.adds c.write_word.ensures
