@@ -1,12 +1,12 @@
 -- Digits of the bytes of a vector.
-use Rattle.std.proofs.Common.{◌≡◌, ℕ, zero, suc, ◌+◌, ◌*◌, ◌-◌, ◌/◌, ◌%◌, ◌<◌, ◌≤◌, List, [], ◌∷◌, ◌++◌, Bool, true, false, cond, ltb, length, get_or, map, take, drop, replicate, refl, sym, ap, ◌∙◌, arith, w8, take-add}
+use Rattle.std.proofs.Common.{◌≡◌, ℕ, zero, suc, ◌+◌, ◌*◌, ◌-◌, ◌/◌, ◌%◌, ◌<◌, ◌≤◌, List, [], ◌∷◌, ◌++◌, Bool, true, false, cond, ltb, length, get_or, map, take, drop, replicate, refl, sym, ap, ◌∙◌, arith, w8, length-append, take-add}
 use Rattle.std.specs.Fmt.{digit_glyph}
 use Rattle.std.specs.Simd.Lanes.{put_chunk, sel_l, top, zip2}
-use Rattle.std.proofs.lemmas.Simd.{get_or-replicate, get_or-sel_l, get_or-zip2, length-replicate, length-sel_l, length-zip2, put_chunk_whole, tops_compared}
-use Rattle.std.proofs.lemmas.List.{get_or-append_right, get_or_append_left, length-drop, length-take-le, take-append-le}
+use Rattle.std.proofs.lemmas.Simd.{get_or-replicate, get_or-sel_l, get_or-zip2, length-put_chunk, length-replicate, length-sel_l, length-zip2, put_chunk_whole, take_more_put_chunk, tops_compared}
+use Rattle.std.proofs.lemmas.List.{get_or-append_right, get_or_append_left, length-drop, length-take-le, take-append-le, take_all}
 use borrow.Rule.Slice.PartMut.{put_mid}
 use Rattle.std.proofs.Math.Nat.{mod-eq_of_lt}
-use Rattle.std.proofs.Math.Seq.{take-append-add}
+use Rattle.std.proofs.Math.Seq.{take-append-add, take-append_seam}
 use Rattle.line_text.proofs.WordLemmas.{hex-append}
 use Rattle.tlm_model.specs.Text.{hex_of}
 
@@ -47,25 +47,42 @@ hex_pairs : (xs : List ℕ) → hex_of xs ≡ pairs (high_at xs) (low_at xs) 0 (
 hex_pairs [] = refl
 hex_pairs (x ∷ xs) = ap (λ (rest : List ℕ). digit_glyph false (x / 16) ∷ digit_glyph false (x % 16) ∷ rest) (hex_pairs xs ∙ sym (shifted x xs (length xs)))
 
--- the lanes of two vectors in turn, put over 32 bytes
-pub spread : (bytes digits high low : List ℕ) → length bytes ≡ 16 → length digits ≡ 32 → length high ≡ 16 → length low ≡ 16
+-- the digits of 16 bytes, from the lanes of two vectors in turn
+pub spread : (bytes high low : List ℕ) → length bytes ≡ 16 → length high ≡ 16
     → ((k : ℕ) → k < 16 → get_or high k 0 ≡ digit_glyph false (get_or bytes k 0 / 16)) → ((k : ℕ) → k < 16 → get_or low k 0 ≡ digit_glyph false (get_or bytes k 0 % 16))
-    → put_chunk 16 (put_chunk 0 (take 16 digits) (pairs (λ k. get_or (high ++ low) k 0) (λ k. get_or (high ++ low) (16 + k) 0) 0 8) ++ drop 16 digits) (pairs (λ k. get_or (high ++ low) k 0) (λ k. get_or (high ++ low) (16 + k) 0) 8 8)
-    ≡ hex_of bytes
-spread bytes digits high low b d h l is_high is_low =
-    let first = λ (k : ℕ). get_or (high ++ low) k 0 in
-    let second = λ (k : ℕ). get_or (high ++ low) (16 + k) 0 in
-    let front = pairs first second 0 8 in
-    let back = pairs first second 8 8 in
-    let begin : put_chunk 0 (take 16 digits) front ≡ front = put_chunk_whole (take 16 digits) front (length-take-le 16 digits (omega (arith, d))) in
-    let end : put_chunk 0 (drop 16 digits) back ≡ back = put_chunk_whole (drop 16 digits) back (omega (arith, length-drop 16 digits, d)) in
-    ap (λ (xs : List ℕ). put_chunk 16 (xs ++ drop 16 digits) back) begin
-    ∙ ap (λ (xs : List ℕ). front ++ xs) end
-    ∙ pairs_same first second (high_at bytes) (low_at bytes) 0 16
+    → pairs (λ k. get_or (high ++ low) k 0) (λ k. get_or (high ++ low) (16 + k) 0) 0 16 ≡ hex_of bytes
+spread bytes high low b h is_high is_low =
+    pairs_same (λ k. get_or (high ++ low) k 0) (λ k. get_or (high ++ low) (16 + k) 0) (high_at bytes) (low_at bytes) 0 16
     (λ k below. get_or_append_left high low 0 k (omega (arith, below, h)) ∙ is_high k (omega (arith, below)))
     (λ k below. get_or-append_right high low 16 (16 + k) 0 h (omega arith) ∙ ap (λ (j : ℕ). get_or low j 0) (let e : 16 + k - 16 ≡ k = omega arith in e) ∙ is_low k (omega (arith, below)))
     ∙ ap (λ (n : ℕ). pairs (high_at bytes) (low_at bytes) 0 n) (sym b)
     ∙ sym (hex_pairs bytes)
+
+-- two vectors put over 32 bytes
+pub laid : (bytes front back : List ℕ) → length bytes ≡ 32 → length front ≡ 16 → length back ≡ 16 → put_chunk 16 (put_chunk 0 (take 16 bytes) front ++ drop 16 bytes) back ≡ front ++ back
+laid bytes front back b f r =
+    let rest = drop 16 bytes in
+    let begin : put_chunk 0 (take 16 bytes) front ≡ front = put_chunk_whole (take 16 bytes) front (length-take-le 16 bytes (omega (arith, b)) ∙ sym f) in
+    let size : length (front ++ rest) ≡ 32 = omega (arith, length-append front rest, length-drop 16 bytes, b, f) in
+    let first : take 16 (front ++ rest) ≡ front = ap (λ (n : ℕ). take n (front ++ rest)) (sym f) ∙ take-append_seam front rest in
+    ap (λ (xs : List ℕ). put_chunk 16 (xs ++ rest) back) begin
+    ∙ sym (take_all 32 (put_chunk 16 (front ++ rest) back) (omega (arith, length-put_chunk 16 (front ++ rest) back, size)))
+    ∙ take_more_put_chunk 16 (front ++ rest) back 32 (omega (arith, r)) (omega (arith, size))
+    ∙ ap (λ (xs : List ℕ). xs ++ back) first
+
+length-hex : (bytes : List ℕ) → length (hex_of bytes) ≡ 2 * length bytes
+length-hex [] = refl
+length-hex (x ∷ xs) = omega (arith, length-hex xs)
+
+-- the digits of 8 bytes are the first of those of a vector that begins with them
+pub half_digits : (bytes rest front back : List ℕ) → length bytes ≡ 8 → length front ≡ 16 → front ++ back ≡ hex_of (bytes ++ rest) → front ≡ hex_of bytes
+half_digits bytes rest front back b f e =
+    let size : length (hex_of bytes) ≡ 16 = omega (arith, length-hex bytes, b) in
+    sym (take-append_seam front back)
+    ∙ ap (λ (n : ℕ). take n (front ++ back)) f
+    ∙ ap (take 16) (e ∙ hex-append bytes rest)
+    ∙ ap (λ (n : ℕ). take n (hex_of bytes ++ hex_of rest)) (sym size)
+    ∙ take-append_seam (hex_of bytes) (hex_of rest)
 
 glyph_by : (x : ℕ) (b : Bool) → ltb x 10 ≡ b → x < 16 → (x + cond b 48 87) % 256 ≡ digit_glyph false x
 glyph_by x true is small = rw is (mod-eq_of_lt (omega (arith, small)) ∙ (let e : x + 48 ≡ 48 + x = omega arith in e))

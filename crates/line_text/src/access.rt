@@ -40,8 +40,8 @@ impl AccessLine<'_> {
     }
 }
 
-// The bytes that a line shows, or a dash where there are none. Most accesses are of 4 or 8 bytes, and a loop of
-// known length is unrolled.
+// The bytes that a line shows, or a dash where there are none. A loop of known length, as of 4
+// bytes, is unrolled.
 #[inline(always)]
 fn write_shown(bytes: &mut [u8], start: usize, shown: &[u8]) -> usize
     requires { start + 1 + 2 * length shown.now ≤ length bytes.old }
@@ -50,8 +50,6 @@ fn write_shown(bytes: &mut [u8], start: usize, shown: &[u8]) -> usize
 {
     if shown.is_empty() {
         write_word(bytes, start, b"-")
-    } else if shown.len() == 8 {
-        write_data(bytes, start, &shown[..8])
     } else if shown.len() == 4 {
         write_data(bytes, start, &shown[..4])
     } else {

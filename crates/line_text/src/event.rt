@@ -117,10 +117,10 @@ fn write_answer(bytes: &mut [u8], start: usize, answer: TlmSync) -> usize
 
 // A word with its spaces, and the number of a slot.
 #[inline(always)]
-fn write_slot(bytes: &mut [u8], start: usize, word: &[u8], slot: u32) -> usize
-    requires { start + length word.now + 20 ≤ length bytes.old }
+fn write_slot<const N: usize>(bytes: &mut [u8], start: usize, word: &[u8; N], slot: u32) -> usize
+    requires { start + N + 20 ≤ length bytes.old }
     ensures adds { Adds bytes.old bytes.new start result (word.now ++ decimal slot) }
-    ensures within { result ≤ start + length word.now + 20 }
+    ensures within { result ≤ start + N + 20 }
 {
     let number = write_word(bytes, start, word);
     write_number(bytes, number, slot as u64)

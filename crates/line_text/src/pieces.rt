@@ -32,9 +32,9 @@ pub enum Piece {
     Status(Response),
 }
 
-/// Writes a word. Where its length is known, that takes no call.
+/// Writes some bytes.
 #[inline(always)]
-pub fn write_word(bytes: &mut [u8], start: usize, word: &[u8]) -> usize
+pub fn write_bytes(bytes: &mut [u8], start: usize, word: &[u8]) -> usize
     requires { start + length word.now ≤ length bytes.old }
     ensures { Adds bytes.old bytes.new start result word.now }
 {
@@ -43,16 +43,32 @@ pub fn write_word(bytes: &mut [u8], start: usize, word: &[u8]) -> usize
     end
 }
 
-// Copies the first and the last bytes of a word, so many of each that they are all of it.
+/// Writes a word of known length.
+// It is a move or two: nothing asks whether the bytes and the word overlap, as for a slice.
 #[inline(always)]
-fn write_ends(bytes: &mut [u8], start: usize, word: &[u8], count: usize) -> usize
-    requires few { (count ≤ length word.now) × (length word.now ≤ 2 * count) }
+pub fn write_word<const N: usize>(bytes: &mut [u8], start: usize, word: &[u8; N]) -> usize
+    requires { start + N ≤ length bytes.old }
+    ensures { Adds bytes.old bytes.new start result word.now }
+{
+    let word = *word;
+    for k in 0..N {
+        bytes[start + k] = word[k];
+    }
+    start + N
+}
+
+// Writes the first and the last N bytes of a word, which are all of it.
+#[inline(always)]
+fn write_ends<const N: usize>(bytes: &mut [u8], start: usize, word: &[u8]) -> usize
+    requires few { (N ≤ length word.now) × (length word.now ≤ 2 * N) }
     requires room { start + length word.now ≤ length bytes.old }
     ensures { Adds bytes.old bytes.new start result word.now }
 {
-    let rest = word.len() - count;
-    write_word(bytes, start, &word[..count]);
-    write_word(bytes, start + rest, &word[rest..])
+    let (Some(front), Some(back)) = (word.first_chunk::<N>(), word.last_chunk::<N>()) else {
+        unreachable!()
+    };
+    write_word(bytes, start, front);
+    write_word(bytes, start + (word.len() - N), back)
 }
 
 /// Writes a name. A short one takes no call, since as many bytes as are known are copied at once.
@@ -62,11 +78,11 @@ pub fn write_name(bytes: &mut [u8], start: usize, name: &[u8]) -> usize
     ensures { Adds bytes.old bytes.new start result name.now }
 {
     match name.len() {
-        1 => write_ends(bytes, start, name, 1),
-        2..=3 => write_ends(bytes, start, name, 2),
-        4..=7 => write_ends(bytes, start, name, 4),
-        8..=16 => write_ends(bytes, start, name, 8),
-        _ => write_word(bytes, start, name),
+        1 => write_ends::<1>(bytes, start, name),
+        2..=3 => write_ends::<2>(bytes, start, name),
+        4..=7 => write_ends::<4>(bytes, start, name),
+        8..=16 => write_ends::<8>(bytes, start, name),
+        _ => write_bytes(bytes, start, name),
     }
 }
 
@@ -239,12 +255,36 @@ fn write_vector(bytes: &[u8], digits: &mut [u8])
     requires digits { length digits.old ≡ 32 }
     ensures { digits.new ≡ hex_of bytes.now }
 {
-    let bytes = u8x16::from_slice(bytes);
-    let high = glyphs(bytes >> u8x16::splat(4));
-    let low = glyphs(bytes & u8x16::splat(15));
-    let (front, back) = high.interleave(low);
+    let (front, back) = digits_of(u8x16::from_slice(bytes));
     front.copy_to_slice(&mut digits[..WIDTH]);
     back.copy_to_slice(&mut digits[WIDTH..]);
+}
+
+// Writes the digits of 8 bytes, as many accesses have. They are the first half of a vector, whose digits are one.
+#[inline(always)]
+fn write_half(bytes: &[u8], digits: &mut [u8])
+    requires bytes { length bytes.now ≡ 8 }
+    requires digits { 2 * length bytes.now ≤ length digits.old }
+    ensures { take (2 * length bytes.now) digits.new ≡ hex_of bytes.now }
+{
+    let half = u8x8::from_slice(bytes);
+    let bytes = half.shuffle(
+        u8x8::splat(0),
+        [0, 1, 2, 3, 4, 5, 6, 7, 8, 9, 10, 11, 12, 13, 14, 15],
+    );
+    let (front, _) = digits_of(bytes);
+    front.copy_to_slice(digits);
+}
+
+// The digits of 16 bytes: those of the first eight, and those of the last eight.
+#[inline(always)]
+fn digits_of(bytes: u8x16) -> (u8x16, u8x16)
+    ensures long { (length result.0 ≡ 16) × (length result.1 ≡ 16) }
+    ensures digits { result.0 ++ result.1 ≡ hex_of bytes }
+{
+    let high = glyphs(bytes >> u8x16::splat(4));
+    let low = glyphs(bytes & u8x16::splat(15));
+    high.interleave(low)
 }
 
 // Each digit below 16 as a lower-case hexadecimal one.
@@ -260,6 +300,21 @@ fn glyphs(digits: u8x16) -> u8x16
     digits + from
 }
 
+// The same, by the vector that the bytes fit.
+#[inline(always)]
+fn write_pairs(bytes: &[u8], digits: &mut [u8])
+    requires { 2 * length bytes.now ≤ length digits.old }
+    ensures { take (2 * length bytes.now) digits.new ≡ hex_of bytes.now }
+{
+    if bytes.len() == WIDTH / 2 {
+        write_half(bytes, digits);
+    } else if bytes.len() < WIDTH {
+        write_few_pairs(bytes, digits);
+    } else {
+        write_many_pairs(bytes, digits);
+    }
+}
+
 /// Writes each byte as two digits.
 #[inline(always)]
 pub fn write_data(bytes: &mut [u8], start: usize, source: &[u8]) -> usize
@@ -267,12 +322,7 @@ pub fn write_data(bytes: &mut [u8], start: usize, source: &[u8]) -> usize
     ensures adds { Adds bytes.old bytes.new start result (hex_of source.now) }
     ensures end { result ≡ start + 2 * length source.now }
 {
-    let digits = &mut bytes[start..];
-    if source.len() < WIDTH {
-        write_few_pairs(source, digits);
-    } else {
-        write_many_pairs(source, digits);
-    }
+    write_pairs(source, &mut bytes[start..]);
     start + 2 * source.len()
 }
 

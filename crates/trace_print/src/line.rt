@@ -7,8 +7,8 @@ ghost use Rattle.line_text.specs.Pieces.{piece_text};
 ghost use Rattle.trace_print.specs.Putting.{Puts, page};
 
 use line_text::{
-    ACCESS_MAX, AccessLine, EVENT_MAX, EventLine, PIECE_MAX, Piece, write_access, write_data,
-    write_event, write_piece, write_word,
+    ACCESS_MAX, AccessLine, EVENT_MAX, EventLine, PIECE_MAX, Piece, write_access, write_bytes,
+    write_data, write_event, write_piece,
 };
 use outside::Sink;
 use std::alloc::Global;
@@ -164,7 +164,7 @@ pub fn put<K: Sink>(out: &mut K, line: &mut Line, bytes: &[u8])
         (page (K.taken out.new) (K.faults out.new) line.new) bytes.now }
 {
     if bytes.len() <= ROOM && line.len <= ROOM - bytes.len() {
-        line.len = write_word(&mut line.bytes, line.len, bytes);
+        line.len = write_bytes(&mut line.bytes, line.len, bytes);
         return;
     }
     put_through(out, line, bytes);

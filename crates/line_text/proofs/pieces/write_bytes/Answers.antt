@@ -1,7 +1,7 @@
 use Rattle.std.proofs.Common.{◌+◌, length, drop, arith}
 use Rattle.std.proofs.lemmas.Grind.{common_steps}
 use Rattle.line_text.proofs.Adding.{adds-word}
-use Rattle.line_text.proofs.pieces.write_word.Goals as goal
+use Rattle.line_text.proofs.pieces.write_bytes.Goals as goal
 
 pub returns : goal.returns
 returns c =
