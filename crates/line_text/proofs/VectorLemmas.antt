@@ -84,13 +84,17 @@ half_digits bytes rest front back b f e =
     ∙ ap (λ (n : ℕ). take n (hex_of bytes ++ hex_of rest)) (sym size)
     ∙ take-append_seam (hex_of bytes) (hex_of rest)
 
-glyph_by : (x : ℕ) (b : Bool) → ltb x 10 ≡ b → x < 16 → (x + cond b 48 87) % 256 ≡ digit_glyph false x
-glyph_by x true is small = rw is (mod-eq_of_lt (omega (arith, small)) ∙ (let e : x + 48 ≡ 48 + x = omega arith in e))
-glyph_by x false is small = rw is (mod-eq_of_lt (omega (arith, small)) ∙ (let e : x + 87 ≡ 87 + x = omega arith in e))
+glyph_by : (x : ℕ) (b : Bool) → ltb x 10 ≡ b → x < 16 → ((x + 48) % 256 + cond b 0 39) % 256 ≡ digit_glyph false x
+glyph_by x true is small = rw is (let e : ((x + 48) % 256 + 0) % 256 ≡ 48 + x = omega (arith, small) in e)
+glyph_by x false is small = rw is (let e : ((x + 48) % 256 + 39) % 256 ≡ 87 + x = omega (arith, small) in e)
 
--- a glyph from a digit and the letter that it counts from
+-- how far a glyph of each lane stands behind the digit's own
+abbrev pub further : List ℕ → List ℕ
+further digits = sel_l (map (top 7) (zip2 (λ a b. cond (ltb a b) 255 0) digits (replicate 16 10))) (replicate 16 0) (replicate 16 39)
+
+-- a glyph from a digit, and how far the letters are behind it
 pub glyph_lane : (digits : List ℕ) (k : ℕ) → length digits ≡ 16 → get_or digits k 0 < 16 → k < 16
-    → (get_or digits k 0 + get_or (sel_l (map (top 7) (zip2 (λ a b. cond (ltb a b) 255 0) digits (replicate 16 10))) (replicate 16 48) (replicate 16 87)) k 0) % 256 ≡ digit_glyph false (get_or digits k 0)
+    → ((get_or digits k 0 + 48) % 256 + get_or (further digits) k 0) % 256 ≡ digit_glyph false (get_or digits k 0)
 glyph_lane digits k long small within =
     let tests = zip2 ltb digits (replicate 16 10) in
     let tens : length (replicate {A = ℕ} 16 10) ≡ 16 = length-replicate {A = ℕ} 16 10 in
@@ -98,11 +102,11 @@ glyph_lane digits k long small within =
     let test : get_or tests k false ≡ ltb (get_or digits k 0) 10 =
     get_or-zip2 ltb digits (replicate 16 10) k 0 0 false (omega (arith, long, within)) (omega (arith, tens, within))
     ∙ ap (λ (b : ℕ). ltb (get_or digits k 0) b) (get_or-replicate {A = ℕ} 16 k 10 0 within) in
-    let from : get_or (sel_l (map (top 7) (zip2 (λ a b. cond (ltb a b) 255 0) digits (replicate 16 10))) (replicate 16 48) (replicate 16 87)) k 0 ≡ cond (ltb (get_or digits k 0) 10) 48 87 =
-    ap (λ (ms : List Bool). get_or (sel_l ms (replicate 16 48) (replicate 16 87)) k 0) (tops_compared w8 ltb digits (replicate 16 10))
-    ∙ get_or-sel_l tests (replicate 16 48) (replicate 16 87) k 0 (omega (arith, tested, within)) (omega (arith, length-replicate {A = ℕ} 16 48, within)) (omega (arith, length-replicate {A = ℕ} 16 87, within))
-    ∙ (λ i. cond (test i) (get_or-replicate {A = ℕ} 16 k 48 0 within i) (get_or-replicate {A = ℕ} 16 k 87 0 within i)) in
-    ap (λ (n : ℕ). (get_or digits k 0 + n) % 256) from ∙ glyph_by (get_or digits k 0) (ltb (get_or digits k 0) 10) refl small
+    let from : get_or (further digits) k 0 ≡ cond (ltb (get_or digits k 0) 10) 0 39 =
+    ap (λ (ms : List Bool). get_or (sel_l ms (replicate 16 0) (replicate 16 39)) k 0) (tops_compared w8 ltb digits (replicate 16 10))
+    ∙ get_or-sel_l tests (replicate 16 0) (replicate 16 39) k 0 (omega (arith, tested, within)) (omega (arith, length-replicate {A = ℕ} 16 0, within)) (omega (arith, length-replicate {A = ℕ} 16 39, within))
+    ∙ (λ i. cond (test i) (get_or-replicate {A = ℕ} 16 k 0 0 within i) (get_or-replicate {A = ℕ} 16 k 39 0 within i)) in
+    ap (λ (n : ℕ). ((get_or digits k 0 + 48) % 256 + n) % 256) from ∙ glyph_by (get_or digits k 0) (ltb (get_or digits k 0) 10) refl small
 
 -- a lane of an operation with one value in all lanes
 pub lane_with : (f : ℕ → ℕ → ℕ) (xs : List ℕ) (y k : ℕ) → length xs ≡ 16 → k < 16 → get_or (zip2 f xs (replicate 16 y)) k 0 ≡ f (get_or xs k 0) y
@@ -111,12 +115,16 @@ lane_with f xs y k long within =
     ∙ ap (f (get_or xs k 0)) (get_or-replicate {A = ℕ} 16 k y 0 within)
 
 -- so many lanes are chosen
-pub chosen_long : (digits : List ℕ) → length digits ≡ 16 → length (sel_l (map (top 7) (zip2 (λ a b. cond (ltb a b) 255 0) digits (replicate 16 10))) (replicate {A = ℕ} 16 48) (replicate {A = ℕ} 16 87)) ≡ 16
+pub chosen_long : (digits : List ℕ) → length digits ≡ 16 → length (further digits) ≡ 16
 chosen_long digits long =
     let tested : length (zip2 ltb digits (replicate 16 10)) ≡ 16 = length-zip2 ltb digits (replicate 16 10) (long ∙ sym (length-replicate {A = ℕ} 16 10)) ∙ long in
-    let chosen = λ (ms : List Bool). length {A = ℕ} (sel_l ms (replicate 16 48) (replicate 16 87)) in
+    let chosen = λ (ms : List Bool). length {A = ℕ} (sel_l ms (replicate 16 0) (replicate 16 39)) in
     ap chosen (tops_compared w8 ltb digits (replicate 16 10))
-    ∙ length-sel_l _ (replicate 16 48) (replicate 16 87) (tested ∙ sym (length-replicate {A = ℕ} 16 48)) (tested ∙ sym (length-replicate {A = ℕ} 16 87)) ∙ tested
+    ∙ length-sel_l _ (replicate 16 0) (replicate 16 39) (tested ∙ sym (length-replicate {A = ℕ} 16 0)) (tested ∙ sym (length-replicate {A = ℕ} 16 39)) ∙ tested
+
+-- so many lanes are left
+pub with_long : (f : ℕ → ℕ → ℕ) (xs : List ℕ) (y : ℕ) → length xs ≡ 16 → length (zip2 f xs (replicate 16 y)) ≡ 16
+with_long f xs y long = length-zip2 f xs (replicate 16 y) (long ∙ sym (length-replicate {A = ℕ} 16 y)) ∙ long
 
 hex_joined : (bytes : List ℕ) (i n : ℕ) → hex_of (take i bytes) ++ hex_of (take n (drop i bytes)) ≡ hex_of (take (i + n) bytes)
 hex_joined bytes i n = sym (hex-append (take i bytes) (take n (drop i bytes))) ∙ ap hex_of (sym (take-add i n bytes))

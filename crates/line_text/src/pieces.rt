@@ -294,10 +294,10 @@ fn glyphs(digits: u8x16) -> u8x16
     ensures long { length result ≡ 16 }
     ensures each { (k : ℕ) → k < 16 → slice_index result k ≡ digit_glyph false (slice_index digits k) }
 {
-    let from = digits
+    let further = digits
         .simd_lt(u8x16::splat(10))
-        .select(u8x16::splat(b'0'), u8x16::splat(b'a' - 10));
-    digits + from
+        .select(u8x16::splat(0), u8x16::splat(b'a' - 10 - b'0'));
+    digits + u8x16::splat(b'0') + further
 }
 
 // The same, by the vector that the bytes fit.
