@@ -5,7 +5,6 @@ use Rattle.std.specs.Simd.Lanes.{put_chunk, sel_l, top, zip2}
 use Rattle.std.proofs.lemmas.Simd.{get_or-replicate, get_or-sel_l, get_or-zip2, length-put_chunk, length-replicate, length-sel_l, length-zip2, put_chunk_whole, take_more_put_chunk, tops_compared}
 use Rattle.std.proofs.lemmas.List.{get_or-append_right, get_or_append_left, length-drop, length-take-le, take-append-le, take_all}
 use borrow.Rule.Slice.PartMut.{put_mid}
-use Rattle.std.proofs.Math.Nat.{mod-eq_of_lt}
 use Rattle.std.proofs.Math.Seq.{take-append-add, take-append_seam}
 use Rattle.line_text.proofs.WordLemmas.{hex-append}
 use Rattle.tlm_model.specs.Text.{hex_of}

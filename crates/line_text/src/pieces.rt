@@ -155,7 +155,7 @@ fn write_decimal(bytes: &mut [u8], start: usize, number: u64) -> usize
     write_word(bytes, last, &decimal_pair(low % 100))
 }
 
-/// Writes a decimal number. Most lengths and widths have one digit, and that takes no call.
+/// Writes a decimal number. Most lengths, widths, slots and gates have one digit or two, and that takes no call.
 #[inline(always)]
 pub fn write_number(bytes: &mut [u8], start: usize, number: u64) -> usize
     requires { start + 20 ≤ length bytes.old }
@@ -164,6 +164,8 @@ pub fn write_number(bytes: &mut [u8], start: usize, number: u64) -> usize
 {
     if number < 10 {
         write_word(bytes, start, &[b'0' + number as u8])
+    } else if number < 100 {
+        write_word(bytes, start, &decimal_pair(number))
     } else {
         write_decimal(bytes, start, number)
     }
