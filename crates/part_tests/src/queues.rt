@@ -178,10 +178,7 @@ fn work<R: Wait>(rt: &R, queue: &RunQueue<Countdown>) -> u64 {
     for _ in rt.forever() {
         taken = match taken {
             Taken::AllDone => break,
-            Taken::Nothing => {
-                thread::yield_now();
-                queue.take(rt)
-            }
+            Taken::Nothing => queue.wait_and_take(rt).0,
             Taken::Took(job) => {
                 turns = turns.saturating_add(1);
                 give_turn(rt, queue, job)

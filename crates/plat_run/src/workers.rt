@@ -1,5 +1,5 @@
 // The workers.
-ghost use Rattle.std.specs.Prelude.{◌≡◌, ◌<◌, true, false, map, All};
+ghost use Rattle.std.specs.Prelude.{◌≡◌, ◌<◌, true, false, map, length, All};
 ghost use Rattle.run_jobs.specs.Actors.{is_done, number_of};
 
 use outside::Pace;
@@ -12,17 +12,20 @@ use std::sync::Wait;
 use std::thread;
 use std::thread::Threads;
 use time_board::Board;
+use tlm_types::ObjectNo;
 
-/// Takes a job, gives it its share of turns, and takes the next one as it hands it in, until none is in line: enough
-/// have finished, or each of the others is out with another worker, or parked or at rest until one that is out lets
-/// it go on. So a worker that isn't needed leaves: where rounds are short, waking it would cost more than its work. The
-/// last one stays: whoever lets others go on takes one of them, and where none is out the queue gives those that rest.
+/// Takes a job, gives it its share of turns, and takes the next one as it hands it in, until enough have finished, or
+/// none is in line: each of the others is out with another worker, or parked or at rest until one that is out lets
+/// it go on. Then a worker waits where `waits` says so, and else it leaves, since it isn't needed: where rounds are short,
+/// waking it would cost more than its work. The last one stays: whoever lets others go on takes one of them, and where
+/// none is out the queue gives those that rest.
 fn work<N: Naming<Plan, TlmLaw>, P: Pace, R: Wait>(
     rt: &R,
     net: &Net<N>,
     board: &Board,
     queue: &RunQueue<Actor<N>>,
     pace: &P,
+    waits: bool,
 ) {
     let mut reach = net;
     let mut next = queue.take_and_look(rt);
@@ -30,6 +33,7 @@ fn work<N: Naming<Plan, TlmLaw>, P: Pace, R: Wait>(
         let (taken, moves) = next;
         next = match taken {
             Taken::Took(job) => give_turns(rt, &mut reach, board, queue, pace, job, moves),
+            Taken::Nothing if waits => queue.wait_and_take(rt),
             Taken::Nothing | Taken::AllDone => return,
         };
     }
@@ -101,6 +105,28 @@ fn give_turns<N: Naming<Plan, TlmLaw>, B: Reach<N>, P: Pace, R: Wait>(
     }
 }
 
+// An access of so many bytes takes longer than waking a worker.
+const LARGE: u64 = 1024;
+
+// Whether the entries of a memory log so many bytes each, as planned.
+fn has_large_accesses(plan: &Plan, memory: u32) -> bool
+    requires { memory < length plan.now.platform.memories }
+{
+    let entries = plan.entries(ObjectNo::Memory(memory));
+    entries > 0 && plan.logged(memory) / LARGE >= entries
+}
+
+// Whether it pays that a worker waits for its work to come back: where some memory has large accesses.
+fn pays_to_wait(plan: &Plan) -> bool {
+    let memories = plan.platform().memories.as_slice().len() as u32;
+    for memory in 0..memories {
+        if has_large_accesses(plan, memory) {
+            return true;
+        }
+    }
+    false
+}
+
 /// Lets so many workers work at once, each in a thread of its own but for one, which is the caller's. Where a
 /// thread can't be started, the others do its work. It takes no memory.
 pub(crate) fn work_all<
@@ -108,14 +134,15 @@ pub(crate) fn work_all<
     P: Pace + Sync,
     R: Threads + Wait + Sync,
 >(rt: &R, net: &Net<N>, board: &Board, queue: &RunQueue<Actor<N>>, workers: u32, pace: &P) {
+    let waits = pays_to_wait(net.plan());
     thread::scope(thread::scope_env(), rt, |scope| {
         for _worker in 1..workers {
-            let worker = move || work::<N, P, R>(rt, net, board, queue, pace);
+            let worker = move || work::<N, P, R>(rt, net, board, queue, pace, waits);
             if scope.spawn(worker).is_err() {
                 break;
             }
         }
-        work(rt, net, board, queue, pace);
+        work(rt, net, board, queue, pace, waits);
     });
 }
 

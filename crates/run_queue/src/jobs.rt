@@ -199,6 +199,13 @@ impl<J: Job> Jobs<J> {
         Taken::Took(job)
     }
 
+    /// Whether `take` would answer Nothing.
+    pub fn is_idle(&self) -> bool
+        ensures { IsTrue result ↔ ((self.now.order ≡ []) × (finished_count self.now.places < self.now.unfinished)) }
+    {
+        self.order.is_empty() && self.finished < self.unfinished as usize
+    }
+
     /// The job waits again, behind all in line. A job whose number isn't out is dropped.
     pub fn give_back(&mut self, job: J)
         ensures back { IsOut self.old.places (J.number_of job)

@@ -6,7 +6,7 @@
 //!   number, the numbers in line, those that are parked and those at rest, the greatest round that was told, how often
 //!   a move was told, and how many jobs have to finish.
 //! - `RunQueue<J>` is the same for threads, under a lock. Who hands in a job can take the next one under
-//!   the same lock.
+//!   the same lock, and who finds none in line can wait for one.
 //! - `tlm_types::Memory` is the error of the two calls named `new`, which were refused memory.
 //!
 //! Promises: the jobs in line are taken first in, first out; a parked one comes back into line when a round above

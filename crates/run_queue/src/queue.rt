@@ -5,13 +5,15 @@ ghost use Rattle.run_queue.specs.Queue.{AreNumbered};
 use crate::jobs::{Job, Jobs, Taken};
 use std::alloc::Global;
 use std::marker::Model;
-use std::sync::{Mutex, Wait};
+use std::sync::{Condvar, Mutex, Wait};
 use tlm_types::Memory;
 
-/// Jobs under a lock. Contracts see how many there are, and how many of them have to finish.
+/// Jobs under a lock, with a bell for those who wait until one is in line. Contracts see how many there are, and how many
+/// of them have to finish.
 #[derive(Drop)]
 pub struct RunQueue<J: Job> {
     lock: Mutex<Jobs<J>>,
+    bell: Condvar,
     count: usize,
     unfinished: u32,
 }
@@ -34,6 +36,7 @@ impl<J: Job> RunQueue<J> {
         let jobs = Jobs::new(alloc, jobs, unfinished)?;
         Ok(RunQueue {
             lock: Mutex::new(jobs),
+            bell: Condvar::new(),
             count,
             unfinished,
         })
@@ -59,7 +62,7 @@ impl<J: Job> RunQueue<J> {
     /// What `Jobs::rouse` and then `Jobs::take` do, under one lock, with how often it was told by then that a job has moved.
     /// It may wait for the lock. So do the calls below, which hand in a job before.
     pub fn take_and_look<R: Wait>(&self, rt: &R) -> (Taken<J>, u64) {
-        look(&mut self.lock.lock(rt))
+        self.look(&mut self.lock.lock(rt))
     }
 
     /// `Jobs::bring_back` and `Jobs::give_back` before.
@@ -67,7 +70,7 @@ impl<J: Job> RunQueue<J> {
         let mut jobs = self.lock.lock(rt);
         jobs.bring_back(reached);
         jobs.give_back(job);
-        look(&mut jobs)
+        self.look(&mut jobs)
     }
 
     /// The job has moved: `Jobs::wake` and `Jobs::give_back` before.
@@ -75,7 +78,7 @@ impl<J: Job> RunQueue<J> {
         let mut jobs = self.lock.lock(rt);
         jobs.wake();
         jobs.give_back(job);
-        look(&mut jobs)
+        self.look(&mut jobs)
     }
 
     /// `Jobs::bring_back` and `Jobs::park`, both with this round, before.
@@ -83,7 +86,7 @@ impl<J: Job> RunQueue<J> {
         let mut jobs = self.lock.lock(rt);
         jobs.bring_back(reached);
         jobs.park(job, reached);
-        look(&mut jobs)
+        self.look(&mut jobs)
     }
 
     /// `Jobs::rest` before, with what was told when the job was taken; where the job has moved since then, `Jobs::wake`
@@ -98,7 +101,7 @@ impl<J: Job> RunQueue<J> {
         let mut jobs = self.lock.lock(rt);
         let moves = tell_move(&mut jobs, moves, moved);
         jobs.rest(job, moves);
-        look(&mut jobs)
+        self.look(&mut jobs)
     }
 
     /// `Jobs::bring_back`, `Jobs::wake` and `Jobs::finish` before.
@@ -109,7 +112,25 @@ impl<J: Job> RunQueue<J> {
         jobs.bring_back(reached);
         jobs.wake();
         jobs.finish(job);
-        look(&mut jobs)
+        self.look(&mut jobs)
+    }
+
+    /// Waits until a job is in line or enough have finished, and does then what `take_and_look` does.
+    pub fn wait_and_take<R: Wait>(&self, rt: &R) -> (Taken<J>, u64) {
+        let jobs = self.lock.lock(rt);
+        let mut jobs = self.bell.wait_while(rt, jobs, |jobs| jobs.is_idle());
+        self.look(&mut jobs)
+    }
+
+    // Takes the next job, and tells how often it was told by then that a job has moved. Where more is to be taken, those
+    // who wait are told.
+    fn look(&self, jobs: &mut Jobs<J>) -> (Taken<J>, u64) {
+        jobs.rouse();
+        let taken = jobs.take();
+        if !jobs.is_idle() {
+            self.bell.notify_all();
+        }
+        (taken, jobs.moves())
     }
 
     /// Each job once, in the order of their numbers; enough of them are done. It waits without end where
@@ -121,6 +142,7 @@ impl<J: Job> RunQueue<J> {
     {
         let RunQueue {
             lock,
+            bell: _,
             count,
             unfinished,
         } = self;
@@ -130,13 +152,6 @@ impl<J: Job> RunQueue<J> {
         for _ in rt.forever() {}
         unreachable!()
     }
-}
-
-// Takes the next job, and tells how often it was told by then that a job has moved.
-fn look<J: Job>(jobs: &mut Jobs<J>) -> (Taken<J>, u64) {
-    jobs.rouse();
-    let taken = jobs.take();
-    (taken, jobs.moves())
 }
 
 // Where a job has moved, the queue is told so: so many moves are known then to one who knew so many before.
