@@ -25,6 +25,12 @@ length-events_of [] ns = refl
 length-events_of (e ∷ es) [] = ap suc (length-events_of es [])
 length-events_of (e ∷ es) (n ∷ ns) = ap suc (length-events_of es ns)
 
+pub numbers-events_of : (es : List Entry) (ns : List ℕ) → length es ≡ length ns → map (λ (e : Event). e.number) (events_of es ns) ≡ ns
+numbers-events_of [] [] h = refl
+numbers-events_of [] (n ∷ ns) h = absurd (omega arith)
+numbers-events_of (e ∷ es) [] h = absurd (omega arith)
+numbers-events_of (e ∷ es) (n ∷ ns) h = ap (λ (l : List ℕ). n ∷ l) (numbers-events_of es ns (omega arith))
+
 -- the log has just what was written
 pub logged_written : (o : ObjectNo) (es : List Event) → All (λ (e : Event). e.object ≡ o) es → entries es ≡ map (logged o) (map written_by es)
 logged_written o [] all = refl

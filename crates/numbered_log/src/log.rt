@@ -1,5 +1,5 @@
 // A log whose entries have numbers.
-ghost use Rattle.std.specs.Prelude.{◌≡◌, ◌<◌, false, [], length, IfOk};
+ghost use Rattle.std.specs.Prelude.{◌≡◌, ◌<◌, false, [], length, map, IfOk};
 ghost use Rattle.tlm_types.specs.Log.{entry_at, is_access};
 ghost use Rattle.flow_model.specs.Events.{entries};
 ghost use Rattle.numbered_log.specs.Logged.{event_of, with_event};
@@ -48,6 +48,13 @@ impl NumberedLog {
         ensures len { length result.now.entries ≡ length self.now.events }
     {
         &self.log
+    }
+
+    /// The numbers of the entries, in order.
+    pub fn numbers(&self) -> &[u32]
+        ensures { result.now ≡ map (λ e. e.number) self.now.events }
+    {
+        self.numbers.as_slice()
     }
 
     /// The entries without their numbers, when the numbers aren't needed any more.

@@ -6,3 +6,4 @@ pub mod Steps
 pub mod Keeps
 pub mod Held
 pub mod Takes
+pub mod ReleaseLemmas

@@ -4,3 +4,4 @@ pub mod Pool
 pub mod Inside
 pub mod Calls
 pub mod Laws
+pub mod Released
