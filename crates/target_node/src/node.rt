@@ -250,4 +250,14 @@ impl TargetNode {
         let (_, note) = self.send(net, rt, note);
         (Pumped::Did, note)
     }
+
+    /// All that it holds, wherever it has come: the requests that wait to be served, by the times in picoseconds at
+    /// which their responses are due, and the response that was refused.
+    pub fn into_parts(self) -> (EventQueue<Request>, Option<Response>)
+        ensures queue { result.0 ≡ self.queue }
+        ensures held { result.1 ≡ self.held }
+    {
+        let TargetNode { queue, held, .. } = self;
+        (queue, held)
+    }
 }
