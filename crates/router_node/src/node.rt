@@ -460,4 +460,13 @@ impl RouterNode {
         requires held { self.held.items ≡ [] }
         requires stray { self.stray ≡ None }
     {}
+
+    /// All that it holds, wherever it has come: the transactions in order of arrival, and a response of none of them.
+    pub fn into_parts(self) -> (VecDeque<Stage>, Option<Found>)
+        ensures held { result.0 ≡ self.held }
+        ensures stray { result.1 ≡ self.stray }
+    {
+        let RouterNode { held, stray, .. } = self;
+        (held, stray)
+    }
 }
