@@ -1,7 +1,7 @@
 //! A four-phase initiator (IEEE 1666-2011, clauses 11.1.2, 14.5 and 15.2) over a net.
 //!
 //! - `Port` is a four-phase initiator under way with its note. `pump` makes its moves up to where a pump ends, `advance`
-//!   the next one, and `finish` gives up its note, its wallet and how it ended.
+//!   the next one, and `finish` gives up its note, its wallet and how it ended. `into_parts` gives up all that it has, wherever it has come.
 //! - `PortState` is what it has beside its note: where its script stands, its times, what is outstanding, what it works
 //!   on, and its wallet. Each of its moves (`moves`) makes one entry at most, but for an invalidation, which makes all of its
 //!   own.
@@ -40,5 +40,5 @@ mod wallets;
 
 pub use away::Away;
 pub use hand::{Hand, Moved, Pumped};
-pub use port::Port;
+pub use port::{Port, PortParts};
 pub use state::PortState;

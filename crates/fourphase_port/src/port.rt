@@ -1,5 +1,6 @@
 // A port: a four-phase initiator under way.
 ghost use Rattle.std.specs.Prelude.{◌≡◌, ◌<◌, ◌≤◌, IfOk, Some, length, slice_get};
+ghost use Rattle.view_lists.specs.Lists.{AreDistinct};
 ghost use Rattle.tlm_model.specs.Plan.{Initiator, initiators_of};
 ghost use Rattle.script_engine.specs.State.{next_of};
 ghost use Rattle.port_model.specs.Ends.{IsEndOfPort};
@@ -12,6 +13,7 @@ ghost use Rattle.fourphase_port.specs.declared.hand.Pumped.TheVariants as Pumps;
 use crate::away::Away;
 use crate::hand::{Hand, Moved, Pumped};
 use crate::state::PortState;
+use cargo_model::Cargo;
 use cargo_net::TlmLaw;
 use generic_payload::Payload;
 use plat_net::{Net, PlatNote};
@@ -46,6 +48,18 @@ impl<N: Naming<Plan, TlmLaw>> Model for Port<N> {
     ghost view = { λ p. record { state = p.state; note = p.note } };
 
     ghost invariant = { λ p. IsAtRest N.table N.tokens N.frame (record { state = p.state; note = p.note }) };
+}
+
+/// What a port has, wherever it has come: how many sequence numbers its script has taken, its note and its wallet, the numbers of
+/// the accesses that are outstanding, the last one first, what it works on, and the request that was refused, if there is one.
+#[derive(Drop)]
+pub struct PortParts {
+    pub seq: u64,
+    pub note: PlatNote,
+    pub wallet: Wallet,
+    pub away: Vec<u64>,
+    pub hand: Hand,
+    pub held: Option<Cargo>,
 }
 
 // Room for all that a script may have outstanding or refused.
@@ -153,6 +167,36 @@ impl<N: Naming<Plan, TlmLaw>> Port<N> {
         let Port { state, note, of: _ } = self;
         let (wallet, end) = state.into_end();
         (note.unwrap(), wallet, end)
+    }
+
+    /// All that it has, wherever it has come.
+    pub fn into_parts(self) -> PortParts
+        ensures port { IsPort N.table N.tokens N.frame (with_note self.state result.note) }
+        ensures seq { result.seq ≡ self.port.engine.seq }
+        ensures note { self.note ≡ Some result.note }
+        ensures wallet { result.wallet ≡ self.wallet }
+        ensures away { result.away.items ≡ self.port.away }
+        ensures distinct { AreDistinct result.away.items }
+        ensures hand { result.hand ≡ self.hand }
+        ensures held { result.held ≡ self.held }
+    {
+        let Port { state, note, of: _ } = self;
+        let PortState {
+            engine,
+            away,
+            hand,
+            held,
+            wallet,
+            ..
+        } = state;
+        PortParts {
+            seq: engine.transactions(),
+            note: note.unwrap(),
+            wallet,
+            away: away.into_numbers(),
+            hand,
+            held,
+        }
     }
 }
 
