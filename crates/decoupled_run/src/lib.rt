@@ -5,7 +5,7 @@
 //!   a direct initiator goes direct by the first grant that covers it and isn't stale, and anything else goes by
 //!   transport. After a plain access by transport that was OK and has the DMI hint a direct initiator asks for a grant
 //!   at once. An invalidation ends each grant that it overlaps, whoever holds it, before the script goes on.
-//! - `finish` hands in how it ended, its wallet and its note.
+//! - `finish` hands in how it ended, its wallet and its note; `into_parts` gives up what it has, wherever it has come.
 //!
 //! Promises: `specs/Job` says what such an initiator knows at any time: its own entries run its script, with
 //! their times, and keep what a history of grants asks of them, in each history that has all that its note
@@ -19,4 +19,4 @@ mod access;
 mod initiator;
 mod send;
 
-pub use initiator::DecoupledInitiator;
+pub use initiator::{DecoupledInitiator, RunParts};
