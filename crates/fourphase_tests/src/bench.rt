@@ -143,6 +143,17 @@ pub(crate) struct Nodes {
 }
 
 impl Nodes {
+    // Each gives up what it holds, which is nothing.
+    fn expect_empty(self, rt: &impl Abort) {
+        let Nodes { router, memory } = self;
+        let (queue, held) = memory.target.into_parts();
+        assert!(rt; queue.is_empty() && held.is_none());
+        if let Some(router) = router {
+            let (stages, stray) = router.node.into_parts();
+            assert!(rt; stages.is_empty() && stray.is_none());
+        }
+    }
+
     // One turn of each.
     fn pump<N: Naming<Plan, TlmLaw>, R: Wait>(self, rt: &R, net: &Net<N>) -> Nodes
         requires router { IfSome self.router (λ r. IsRouting N.table N.tokens N.frame r.node r.note) }
@@ -335,6 +346,7 @@ fn finish<N: Naming<Plan, TlmLaw>, R: Wait + Abort>(
 {
     for _turn in 0..TURNS {
         if pump_all(rt, net, ports) {
+            nodes.expect_empty(rt);
             return;
         }
         nodes = nodes.pump(rt, net);

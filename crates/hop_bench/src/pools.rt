@@ -161,4 +161,7 @@ fn a_slot_is_free_after_its_last_reference(rt: HostRuntime) {
     assert!(rt; bench.said(0) == ("take", 0) && bench.said(1) == ("take", 1));
     assert!(rt; bench.said(2) == ("acquire", 0) && bench.said(3) == ("release", 0));
     assert!(rt; bench.said(4) == ("free", 0) && bench.said(5) == ("take", 0));
+    let pool = &bench.pool;
+    assert!(rt; pool.has_released(txn(0), 0) && pool.has_released(txn(0), 15));
+    assert!(rt; !pool.has_released(txn(1), 15));
 }
