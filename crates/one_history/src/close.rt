@@ -37,11 +37,11 @@ impl<E, G, W: Law<E, G>> Sealed<E, G, W> {
     }
 }
 
-/// What `History::close` answers. Nothing in it can fail, so that it never answers `Refused`.
+/// What `History::close` answers. Closing takes no memory, so it is always `Done`.
 #[derive(Drop)]
 pub enum Closed<E, G, W: Law<E, G>> {
     Done(Sealed<E, G, W>),
-    /// There was no memory. All is handed back untouched.
+    /// Never answered: it stands for want of memory, with all that is handed back untouched.
     Refused(History<E, G, W>, Vec<ObjectSeat<E, G, W>>, Vec<Note<E, G, W>>),
 }
 

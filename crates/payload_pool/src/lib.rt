@@ -8,8 +8,8 @@
 //! Promises: a take gives the least free slot with a payload as new, and none exactly where all slots
 //! are live. A slot is free again exactly where its last reference was given back, which the answer
 //! tells. Each call but `Live` adds one entry, past those before it, and the slots are what the log
-//! gives. `has_released` looks a Release up in it. The name of a reference that is out gives its Take and its transaction. No call but `new` can
-//! fail for want of memory.
+//! gives. `has_released` tells whether a Release stands in the log. The name of a reference that is out
+//! gives its Take and its transaction. No call but `new` can fail for want of memory.
 #![tactic(auto)]
 
 mod baton;

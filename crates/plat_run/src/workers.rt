@@ -128,7 +128,7 @@ fn pays_to_wait(plan: &Plan) -> bool {
 }
 
 /// Lets so many workers work at once, each in a thread of its own but for one, which is the caller's. Where a
-/// thread can't be started, the others do its work. It takes no memory.
+/// thread can't be started, the others do its work. It takes no memory but what the system takes for a thread.
 pub(crate) fn work_all<
     N: Naming<Plan, TlmLaw> + Send + Sync,
     P: Pace + Sync,

@@ -1,6 +1,6 @@
 -- What is read, or the first refusal.
 use Rattle.std.specs.Prelude.{ℕ, List, Option, Some, None, Result, Ok, Err, codes}
-use Rattle.tlm_types.specs.Reading.{FailsAs, Returns}
+use Rattle.tlm_types.specs.Reading.{Returns}
 use Rattle.traffic_script.specs.declared.fault.ScriptCode.{ScriptCode}
 use Rattle.traffic_script.specs.declared.fault.ScriptCode.TheVariants.{TooManyLines, BadByte, UnknownOperation, Arity, BadNumber, BadHex, BadLength, BadOption, NestedRepeat, EndWithoutRepeat, EmptyRepeat, TooManyOperations, RepeatWithoutEnd}
 use Rattle.traffic_script.specs.declared.fault.ScriptFault.{ScriptFault}
@@ -43,13 +43,6 @@ script_refusal_of script.Memory = None
 abbrev pub code_of : LineFault → Option ScriptCode
 code_of (line.Refused code) = Some code
 code_of line.Memory = None
-
--- the fault is the refusal that reading gives, unless memory ran out
-abbrev pub ScriptFails : {A : Type 0} → ScriptFault → Result A ScriptRefusal → Type 0
-ScriptFails fault read = FailsAs (script_refusal_of fault) read
-
-abbrev pub FailsCode : {A : Type 0} → LineFault → Result A ScriptCode → Type 0
-FailsCode fault read = FailsAs (code_of fault) read
 
 -- what a function returned is what reading gives, unless memory ran out
 abbrev pub ScriptGives : {A : Type 0} → Result A ScriptFault → Result A ScriptRefusal → Type 0
