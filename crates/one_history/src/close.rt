@@ -10,7 +10,6 @@ use atomic_table::Seat;
 use std::marker::Model;
 
 /// A history that has ended. Contracts see its table, its world, and its list of entries.
-#[derive(Drop)]
 pub struct Sealed<E, G, W: Law<E, G>> {
     history: History<E, G, W>,
     seat: Seat<u8, View<E, G>>,
@@ -26,6 +25,17 @@ impl<E, G, W: Law<E, G>> Model for Sealed<E, G, W> {
     ghost view = { λ s. record { table = s.history.table; world = s.history.frame.world; entries = s.seat.me.0.known } };
 
     ghost invariant = { λ s. s.count ≡ length s.seat.me.0.known };
+}
+
+// Written out, so that crates above call it and needn't prove again how each part is let go of.
+impl<E, G, W: Law<E, G>> Drop for Sealed<E, G, W> {
+    fn drop(self) {
+        let Sealed {
+            history: _history,
+            seat: _seat,
+            count: _,
+        } = self;
+    }
 }
 
 impl<E, G, W: Law<E, G>> Sealed<E, G, W> {

@@ -16,7 +16,6 @@ use tlm_types::Memory;
 
 /// A history of entries with the content E, in a world G, under a law W. Contracts see which table it
 /// is, and what `new` was given.
-#[derive(Drop)]
 pub struct History<E, G, W: Law<E, G>> {
     pub(crate) table: Table<u8, View<E, G>, Key<G>, Rule<E, G, W>, Global>,
 }
@@ -32,6 +31,13 @@ impl<E, G, W: Law<E, G>> Model for History<E, G, W> {
     ghost view = { λ h. record { table = h.table.shared.table_id; frame = plain h.table.shared.key } };
 
     ghost invariant = { λ h. (h.table.shared.table_id.words ≡ 1 + total_gates (plain h.table.shared.key)) × (sum h.table.shared.key.planned.items ≤ 1000000) × (0 < length h.table.shared.key.planned.items) };
+}
+
+// Written out, so that crates above call it and needn't prove again how each part is let go of.
+impl<E, G, W: Law<E, G>> Drop for History<E, G, W> {
+    fn drop(self) {
+        let History { table: _table } = self;
+    }
 }
 
 // The facts that the table keeps.

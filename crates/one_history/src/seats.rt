@@ -6,7 +6,6 @@ use atomic_table::Seat;
 use std::marker::{Model, PhantomData};
 
 /// The seat of an object. Contracts see its history's table and what it knows.
-#[derive(Drop)]
 pub struct ObjectSeat<E, G, W> {
     pub(crate) seat: Seat<u8, View<E, G>>,
     pub(crate) of: PhantomData<W>,
@@ -25,7 +24,6 @@ impl<E, G, W> Model for ObjectSeat<E, G, W> {
 
 /// A note, which carries what was seen to a seat. Contracts see its history's table and what it
 /// knows. It stands for a number of notes, and those that `split` and `copy` give away are fewer.
-#[derive(Drop)]
 pub struct Note<E, G, W> {
     pub(crate) seat: Seat<u8, View<E, G>>,
     pub(crate) of: PhantomData<W>,
@@ -40,6 +38,19 @@ impl<E, G, W> Model for Note<E, G, W> {
     ghost view = { λ s. record { table = s.seat.table_id; knows = s.seat.me.0 } };
 
     ghost invariant = { λ s. (s.seat.me.1 ≡ []) × (s.seat.me.0.objects ≡ []) };
+}
+
+// These are written out, so that crates above call them and needn't prove again how each part is let go of.
+impl<E, G, W> Drop for ObjectSeat<E, G, W> {
+    fn drop(self) {
+        let ObjectSeat { seat: _seat, of: _ } = self;
+    }
+}
+
+impl<E, G, W> Drop for Note<E, G, W> {
+    fn drop(self) {
+        let Note { seat: _seat, of: _ } = self;
+    }
 }
 
 impl<E, G, W> ObjectSeat<E, G, W> {

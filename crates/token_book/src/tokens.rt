@@ -1,7 +1,7 @@
 // The tokens, their books, and the steps on them.
 ghost use Rattle.std.specs.Prelude.{◌≡◌, ℕ, ◌+◌, ◌-◌, ◌<◌, ◌≤◌, ◌^◌, [], length, slice_get, Some, codes, IfOk};
 ghost use Rattle.token_book.specs.Account.{Account, out_of, fresh, issued, retired, slip, with_amount, AreFresh};
-ghost use Rattle.token_book.specs.Rule.{a_book};
+ghost use Rattle.token_book.specs.Rule.{a_book, a_token};
 
 use crate::view::{
     Amounts, Counted, Issues, Makes, Merges, Names, Parts, Settles, TakesIn, View, Weighs,
@@ -12,7 +12,6 @@ use std::marker::{Brand, Model};
 use tlm_types::Memory;
 
 /// What all books and tokens of one making share. Contracts see which table it is.
-#[derive(Drop)]
 pub struct Tokens {
     table: Table<u8, View, (), Counted, Global>,
 }
@@ -31,7 +30,6 @@ impl Model for Tokens {
 }
 
 /// The book of an owner. Contracts see its table, its owner, and what is out of each name.
-#[derive(Drop)]
 pub struct Book {
     owner: u32,
     seat: Seat<u8, View>,
@@ -53,7 +51,6 @@ impl Model for Book {
 
 /// An amount of one name that is out of its owner's book. Contracts see its table, its owner, its
 /// name and its amount.
-#[derive(Drop)]
 pub struct Token {
     owner: u32,
     name: u32,
@@ -77,7 +74,6 @@ impl Model for Token {
 
 /// A token of the amount 1, of which no more than its name is kept, so that what carries it is small. Contracts see it as
 /// they see a token.
-#[derive(Drop)]
 pub struct One {
     name: u32,
     seat: Seat<u8, View>,
@@ -97,6 +93,42 @@ impl Model for One {
     ghost invariant = { λ t. t.seat.me ≡ (a_token (owner_in t.seat.me.0) t.name 1, []) };
 }
 
+// These are written out, so that crates above call them and needn't prove again how each part is let go of.
+impl Drop for Tokens {
+    fn drop(self) {
+        let Tokens { table: _table } = self;
+    }
+}
+
+impl Drop for Book {
+    fn drop(self) {
+        let Book {
+            owner: _,
+            seat: _seat,
+        } = self;
+    }
+}
+
+impl Drop for Token {
+    fn drop(self) {
+        let Token {
+            owner: _,
+            name: _,
+            amount: _,
+            seat: _seat,
+        } = self;
+    }
+}
+
+impl Drop for One {
+    fn drop(self) {
+        let One {
+            name: _,
+            seat: _seat,
+        } = self;
+    }
+}
+
 impl One {
     /// Its name.
     pub fn name(&self) -> u32
@@ -110,13 +142,11 @@ impl One {
         requires { token.amount ≡ 1 }
         ensures { result ≡ token }
     {
-        let Token {
-            owner: _,
+        let name = token.name();
+        One {
             name,
-            amount: _,
-            seat,
-        } = token;
-        One { name, seat }
+            seat: token.into_seat(),
+        }
     }
 
     // The token, which is of this owner.
@@ -163,6 +193,19 @@ impl Token {
         ensures { result ≡ self.now.amount }
     {
         self.amount
+    }
+
+    // The seat of the table.
+    fn into_seat(self) -> Seat<u8, View>
+        ensures { (result.table_id ≡ self.table) × (result.me ≡ (a_token self.owner self.name self.amount, [])) }
+    {
+        let Token {
+            owner: _,
+            name: _,
+            amount: _,
+            seat,
+        } = self;
+        seat
     }
 }
 
@@ -248,12 +291,7 @@ impl Tokens {
         ensures out { token.amount ≤ out_of token.name book.old.out }
         ensures book { book.new ≡ retired book.old token }
     {
-        let Token {
-            owner: _,
-            name: _,
-            amount: _,
-            seat,
-        } = token;
+        let seat = token.into_seat();
         self.table.shared.join_seat::<TakesIn>(&mut book.seat, seat);
         self.table.shared.load::<Settles>(&mut book.seat, 0);
     }
@@ -317,12 +355,8 @@ impl Tokens {
         ensures fits { token.old.amount + other.amount < 2 ^ 64 }
         ensures sum { token.new ≡ with_amount token.old (token.old.amount + other.amount) }
     {
-        let Token {
-            owner: _,
-            name: _,
-            amount,
-            seat,
-        } = other;
+        let amount = other.amount();
+        let seat = other.into_seat();
         self.table.shared.join_seat::<Merges>(&mut token.seat, seat);
         self.table.shared.load::<Weighs>(&mut token.seat, 0);
         token.amount += amount;

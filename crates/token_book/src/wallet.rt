@@ -16,7 +16,6 @@ use tlm_types::Memory;
 /// The tickets of many objects. It has a place for each object of which it holds some, and its places
 /// are made with it. Contracts see how many places it has, and what it holds of each object.
 // They are in a box, so that handing a payload on with its wallet moves no more than a pointer.
-#[derive(Drop)]
 pub struct Wallet {
     all: Box<Places, Global>,
 }
@@ -29,6 +28,13 @@ impl Model for Wallet {
     ghost coded = { purse_code };
 
     ghost view = { λ w. w.all.value };
+}
+
+// Written out, so that crates above call it and needn't prove again how each part is let go of.
+impl Drop for Wallet {
+    fn drop(self) {
+        let Wallet { all: _all } = self;
+    }
 }
 
 impl Wallet {

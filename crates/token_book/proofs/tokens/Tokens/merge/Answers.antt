@@ -10,28 +10,29 @@ use Rattle.token_book.proofs.tokens.Tokens.merge.Goals as goal
 pub join_seat-requires : goal.join_seat-requires
 join_seat-requires c =
     let t = c.token.inside in
-    let u = c.other.inside in
-    let owner : u.owner ≡ t.owner = ap (λ x. x.owner) c.other.view_is ∙ c.requires.alike.0 ∙ sym (ap (λ x. x.owner) c.token.view_is) in
-    let name : u.name ≡ t.name = ap (λ x. x.name) c.other.view_is ∙ c.requires.alike.1 ∙ sym (ap (λ x. x.name) c.token.view_is) in
-    let theirs : u.seat.me.0 ≡ a_token t.owner t.name u.amount = ap (λ x. x.0) c.other.invariant ∙ ap (λ (o : ℕ). a_token o u.name u.amount) owner ∙ ap (λ (n : ℕ). a_token t.owner n u.amount) name in
+    let u = c.args.other in
+    let s = c.into_seat-seat.result in
+    let owner : u.owner ≡ t.owner = c.requires.alike.0 ∙ sym (ap (λ x. x.owner) c.token.view_is) in
+    let name : u.name ≡ t.name = c.requires.alike.1 ∙ sym (ap (λ x. x.name) c.token.view_is) in
+    let theirs : s.me.0 ≡ a_token t.owner t.name u.amount = ap (λ x. x.0) c.into_seat-seat.ensures.1 ∙ ap (λ (o : ℕ). a_token o u.name u.amount) owner ∙ ap (λ (n : ℕ). a_token t.owner n u.amount) name in
     let mine : t.seat.me.0 ≡ a_token t.owner t.name t.amount = ap (λ x. x.0) c.token.invariant in (
       ap (λ x. x.table) c.token.view_is ∙ c.requires.same.0 ∙ sym c.self.view_is,
-      ap (λ x. x.table) c.other.view_is ∙ c.requires.same.1 ∙ sym c.self.view_is,
-      ap (λ x. x.1) c.other.invariant,
+      c.into_seat-seat.ensures.0 ∙ c.requires.same.1 ∙ sym c.self.view_is,
+      ap (λ x. x.1) c.into_seat-seat.ensures.1,
       omega (arith, c.self.invariant),
-      subst (λ (v : View). Joins IsCounted t.seat.id v u.seat.id u.seat.me.0 (merged v u.seat.me.0) Spent) (sym mine)
-          (subst (λ (w : View). Joins IsCounted t.seat.id (a_token t.owner t.name t.amount) u.seat.id w (merged (a_token t.owner t.name t.amount) w) Spent) (sym theirs)
-          (merges t.seat.id u.seat.id t.owner t.name t.amount u.amount)),
+      subst (λ (v : View). Joins IsCounted t.seat.id v s.id s.me.0 (merged v s.me.0) Spent) (sym mine)
+          (subst (λ (w : View). Joins IsCounted t.seat.id (a_token t.owner t.name t.amount) s.id w (merged (a_token t.owner t.name t.amount) w) Spent) (sym theirs)
+          (merges t.seat.id s.id t.owner t.name t.amount u.amount)),
     )
 
 pub load-requires : goal.load-requires
 load-requires c =
     let t = c.token.inside in
-    let u = c.other.inside in
+    let u = c.into_seat-seat.result in
     let seat = c.join_seat.new.seat in
     let slots = c.self.inside.table.shared.table_id.slots in
-    let sum = t.amount + amount_in u.seat.me.0 in
-    let me : seat.me ≡ (a_token t.owner t.name sum, []) = c.join_seat.ensures.2 ∙ ap (λ (m : Me ℕ View). (merged m.0 u.seat.me.0, m.1)) c.token.invariant in (
+    let sum = t.amount + amount_in u.me.0 in
+    let me : seat.me ≡ (a_token t.owner t.name sum, []) = c.join_seat.ensures.2 ∙ ap (λ (m : Me ℕ View). (merged m.0 u.me.0, m.1)) c.token.invariant in (
       c.join_seat.ensures.0 ∙ ap (λ x. x.table) c.token.view_is ∙ c.requires.same.0 ∙ sym c.self.view_is,
       omega (arith, c.self.invariant),
       subst (λ (m : Me ℕ View). Allows IsCounted slots seat.id m 0 (λ n. n) (Weighed (step slots 0 0 0 none) m)) (sym me) (weighs slots seat.id t.owner t.name sum),

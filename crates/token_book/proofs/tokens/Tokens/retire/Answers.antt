@@ -10,30 +10,34 @@ use Rattle.token_book.proofs.tokens.Tokens.retire.Goals as goal
 pub join_seat-requires : goal.join_seat-requires
 join_seat-requires c =
     let b = c.book.inside in
-    let t = c.token.inside in
-    let owner : t.owner ≡ b.owner = ap (λ x. x.owner) c.token.view_is ∙ c.requires.token.1 ∙ sym (ap (λ x. x.owner) c.book.view_is) in
-    let theirs : t.seat.me.0 ≡ a_token b.owner t.name t.amount = ap (λ x. x.0) c.token.invariant ∙ ap (λ (o : ℕ). a_token o t.name t.amount) owner in
+    let t = c.args.token in
+    let s = c.into_seat-seat.result in
+    let owner : t.owner ≡ b.owner = c.requires.token.1 ∙ sym (ap (λ x. x.owner) c.book.view_is) in
+    let theirs : s.me.0 ≡ a_token b.owner t.name t.amount = ap (λ x. x.0) c.into_seat-seat.ensures.1 ∙ ap (λ (o : ℕ). a_token o t.name t.amount) owner in
     let mine : b.seat.me.0 ≡ a_book b.owner (out_in b.seat.me.0) (made_in b.seat.me.0) = ap (λ x. x.0) c.book.invariant in (
       ap (λ x. x.table) c.book.view_is ∙ c.requires.book ∙ sym c.self.view_is,
-      ap (λ x. x.table) c.token.view_is ∙ c.requires.token.0 ∙ sym c.self.view_is,
-      ap (λ x. x.1) c.token.invariant,
+      c.into_seat-seat.ensures.0 ∙ c.requires.token.0 ∙ sym c.self.view_is,
+      ap (λ x. x.1) c.into_seat-seat.ensures.1,
       omega (arith, c.self.invariant),
-      subst (λ (v : View). Joins IsCounted b.seat.id v t.seat.id t.seat.me.0 (taking_in v t.seat.me.0) Spent) (sym mine)
-          (subst (λ (w : View). Joins IsCounted b.seat.id (a_book b.owner (out_in b.seat.me.0) (made_in b.seat.me.0)) t.seat.id w (taking_in (a_book b.owner (out_in b.seat.me.0) (made_in b.seat.me.0)) w) Spent) (sym theirs)
-          (takes_in b.seat.id t.seat.id b.owner (out_in b.seat.me.0) (made_in b.seat.me.0) t.name t.amount)),
+      subst (λ (v : View). Joins IsCounted b.seat.id v s.id s.me.0 (taking_in v s.me.0) Spent) (sym mine)
+          (subst (λ (w : View). Joins IsCounted b.seat.id (a_book b.owner (out_in b.seat.me.0) (made_in b.seat.me.0)) s.id w (taking_in (a_book b.owner (out_in b.seat.me.0) (made_in b.seat.me.0)) w) Spent) (sym theirs)
+          (takes_in b.seat.id s.id b.owner (out_in b.seat.me.0) (made_in b.seat.me.0) t.name t.amount)),
     )
 
 pub load-requires : goal.load-requires
 load-requires c =
     let b = c.book.inside in
-    let t = c.token.inside in
+    let t = c.args.token in
+    let s = c.into_seat-seat.result in
     let seat = c.join_seat.new.seat in
     let slots = c.self.inside.table.shared.table_id.slots in
-    let taken = taking_in (a_book b.owner (out_in b.seat.me.0) (made_in b.seat.me.0)) (a_token t.owner t.name t.amount) in
+    let owner : t.owner ≡ b.owner = c.requires.token.1 ∙ sym (ap (λ x. x.owner) c.book.view_is) in
+    let theirs : s.me.0 ≡ a_token b.owner t.name t.amount = ap (λ x. x.0) c.into_seat-seat.ensures.1 ∙ ap (λ (o : ℕ). a_token o t.name t.amount) owner in
+    let taken = taking_in (a_book b.owner (out_in b.seat.me.0) (made_in b.seat.me.0)) (a_token b.owner t.name t.amount) in
     let me : seat.me ≡ (taken, []) =
     c.join_seat.ensures.2
-    ∙ ap (λ (m : Me ℕ View). (taking_in m.0 t.seat.me.0, m.1)) c.book.invariant
-    ∙ ap (λ (w : View). (taking_in (a_book b.owner (out_in b.seat.me.0) (made_in b.seat.me.0)) w, [])) (ap (λ x. x.0) c.token.invariant) in (
+    ∙ ap (λ (m : Me ℕ View). (taking_in m.0 s.me.0, m.1)) c.book.invariant
+    ∙ ap (λ (w : View). (taking_in (a_book b.owner (out_in b.seat.me.0) (made_in b.seat.me.0)) w, [])) theirs in (
       c.join_seat.ensures.0 ∙ ap (λ x. x.table) c.book.view_is ∙ c.requires.book ∙ sym c.self.view_is,
       omega (arith, c.self.invariant),
       subst (λ (m : Me ℕ View). Allows IsCounted slots seat.id m 0 (λ n. n) (Settled (step slots 0 0 0 none) m)) (sym me) (settles slots seat.id b.owner (out_in b.seat.me.0) (made_in b.seat.me.0) t.name t.amount),
