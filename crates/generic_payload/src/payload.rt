@@ -15,7 +15,6 @@ use tlm_types::{Command, Memory, MemoryTraits, Response};
 
 /// A transaction's attributes: the standard's `tlm_generic_payload` (clause 14). Addresses, lengths and the streaming width are in bytes.
 // They are in a box, so that handing a payload on moves no more than a pointer.
-#[derive(Drop)]
 pub struct Payload {
     attributes: Box<Attributes, Global>,
 }
@@ -44,6 +43,15 @@ impl Model for Payload {
         (p.attributes.value.room ≤ vec_capacity p.attributes.value.bytes) × (length p.attributes.value.bytes.items ≤ p.attributes.value.room)
         × (p.attributes.value.room ≤ vec_capacity p.attributes.value.enables) × (length p.attributes.value.enables.items ≤ p.attributes.value.room)
         × HasWord p.attributes.value.command p.attributes.value.bytes.items p.attributes.value.width };
+}
+
+// Written out, so that crates above call it and needn't prove again how each part is let go of.
+impl Drop for Payload {
+    fn drop(self) {
+        let Payload {
+            attributes: _attributes,
+        } = self;
+    }
 }
 
 impl Payload {

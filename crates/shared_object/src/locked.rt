@@ -192,7 +192,6 @@ pub struct Stepped<O: Object, G, W> {
 }
 
 /// An object, its seat and its book of tickets. Contracts see the object and its number in the history.
-#[derive(Drop)]
 pub struct Locked<O: Object, G, W: Law<Content, G> + World<G, O>, N: Naming<G, W>> {
     object: O,
     seat: ObjectSeat<Content, G, W>,
@@ -215,6 +214,18 @@ impl<O: Object, G, W: Law<Content, G> + World<G, O>, N: Naming<G, W>> Model for 
         × IsBook N.tokens l.book.owner (O.room l.object) (O.bytes_left l.object) l.book
         × (length (O.entries l.object) + O.room l.object ≡ slice_index_or N.frame.planned l.book.owner 0)
         × AreVouched (W.vouches N.frame.world N.tokens l.book.owner) (O.carried l.object) l.seat.knows.known };
+}
+
+impl<O: Object + Drop, G, W: Law<Content, G> + World<G, O>, N: Naming<G, W>> Drop
+    for Locked<O, G, W, N> {
+    fn drop(self) {
+        let Locked {
+            object: _object,
+            seat: _seat,
+            book: _book,
+            of: _,
+        } = self;
+    }
 }
 
 impl<O: Object, G, W: Law<Content, G> + World<G, O>, N: Naming<G, W>> Locked<O, G, W, N> {

@@ -18,7 +18,6 @@ use token_book::{Book, Ticket, Tokens};
 
 /// An object with its seat in the history and its book of tickets, under a lock. Contracts see its
 /// number in the history and its own number.
-#[derive(Drop)]
 pub struct Shared<O: Object, G, W: Law<Content, G> + World<G, O>, N: Naming<G, W>> {
     lock: Mutex<Locked<O, G, W, N>>,
     number: u32,
@@ -31,6 +30,18 @@ impl<O: Object, G, W: Law<Content, G> + World<G, O>, N: Naming<G, W>> Model for 
     ghost Value = { Numbers };
 
     ghost view = { λ s. record { number = s.number; own = s.own } };
+}
+
+// Written out, so that crates above call it and needn't prove again how each part is let go of.
+impl<O: Object + Drop, G, W: Law<Content, G> + World<G, O>, N: Naming<G, W>> Drop
+    for Shared<O, G, W, N> {
+    fn drop(self) {
+        let Shared {
+            lock: _lock,
+            number: _,
+            own: _,
+        } = self;
+    }
 }
 
 impl<O: Object, G, W: Law<Content, G> + World<G, O>, N: Naming<G, W>> Shared<O, G, W, N> {
