@@ -15,7 +15,6 @@ pub struct HopTraits {
 
 /// The right to the next call of one lane. Its name is four times the position of the BEGIN_REQ that
 /// holds the lane, and the number of the lane's state. Contracts see its token.
-#[derive(Drop)]
 pub struct Leg {
     pub(crate) token: One,
 }
@@ -33,6 +32,13 @@ impl Model for Leg {
     ghost invariant = { λ l. l.token.amount ≡ 1 };
 }
 
+// Written out, so that crates above call it and needn't prove again how each part is let go of.
+impl Drop for Leg {
+    fn drop(self) {
+        let Leg { token: _token } = self;
+    }
+}
+
 impl Leg {
     ghost use Rattle.std.specs.Prelude.{◌≡◌, ◌%◌};
     ghost use Rattle.hop_object.specs.States.{number_of_state};
@@ -47,6 +53,14 @@ impl Leg {
             2 => LaneState::Waiting,
             _ => LaneState::Responding,
         }
+    }
+
+    #[inline(always)]
+    pub(crate) fn into_token(self) -> One
+        ensures { result ≡ self }
+    {
+        let Leg { token } = self;
+        token
     }
 }
 

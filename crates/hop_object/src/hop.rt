@@ -19,7 +19,6 @@ use token_book::Book;
 /// A bound pair of sockets (clause 11.1.2) with its lanes in use, the time of the last call that ended
 /// a request, the greatest time of a call that ended a response, its log with the marks of its calls,
 /// and the book of its legs.
-#[derive(Drop)]
 pub struct Hop<T> {
     pub(crate) number: u32,
     pub(crate) traits: HopTraits,
@@ -39,6 +38,21 @@ impl<T> Model for Hop<T> {
     ghost view = { view_of };
 
     ghost invariant = { IsHop };
+}
+
+// Written out, so that crates above call it and needn't prove again how each part is let go of.
+impl<T: Drop> Drop for Hop<T> {
+    fn drop(self) {
+        let Hop {
+            number: _,
+            traits: _,
+            lanes: _lanes,
+            request_end: _,
+            response_end: _,
+            log: _log,
+            book: _book,
+        } = self;
+    }
 }
 
 impl<T> Hop<T> {
@@ -115,7 +129,16 @@ impl<T> Hop<T> {
         ensures entries { result.entries ≡ entries self.log.events }
         ensures follows { Follows self }
     {
-        self.log.into_log()
+        let Hop {
+            number: _,
+            traits: _,
+            lanes: _lanes,
+            request_end: _,
+            response_end: _,
+            log,
+            book: _book,
+        } = self;
+        log.into_log()
     }
 
     /// Whether a BEGIN_REQ is taken now.

@@ -27,8 +27,7 @@ pub(crate) fn redeem<T>(tokens: &Tokens, book: &mut Book, lanes: &[Lane<T>], leg
     ensures found { (l : _) → l ≡ slice_index_or lanes.now result l → find (has_leg leg.name) lanes.now ≡ Some l }
 {
     let name = leg.token.name();
-    let Leg { token } = leg;
-    tokens.retire_one(book, token);
+    tokens.retire_one(book, leg.into_token());
     lane_of(lanes, name)
 }
 

@@ -1,11 +1,11 @@
 use Rattle.std.proofs.Common.{Some, List, get_or, length, ◌<◌, subst, ap, ◌≡◌, suc, take, drop, true, refl, sym, ◌∙◌, arith}
 use Rattle.std.specs.Prelude.{find}
-use Rattle.std.specs.List.{list_any}
+use Rattle.std.specs.List.{list_any, All}
 use Rattle.base_phases.specs.declared.phases.LaneState.TheVariants.{Responding}
 use Rattle.hop_object.specs.declared.lane.Lane.{Lane}
 use Rattle.hop_object.specs.View.{HopView}
 use Rattle.hop_object.specs.Inside.{view_of}
-use Rattle.hop_object.specs.Lanes.{has_leg}
+use Rattle.hop_object.specs.Lanes.{has_leg, legs_out, HasPosition}
 use Rattle.hop_object.specs.Hops.{IsLegOf, MayCall}
 use Rattle.hop_object.proofs.Places.{at_place, found_any}
 use Rattle.hop_object.proofs.LegLemmas.{leg_parts}
@@ -61,3 +61,18 @@ returns g c =
       time_is = c.max-time.ensures;
       after = rw (d.after, c.push_call.ensures, c.redeem-index.ensures.book, c.max-self-inside.ensures) refl;
     })
+
+pub redeem-index-requires-clause-tokens : goal.redeem-index-requires-clause-tokens
+redeem-index-requires-clause-tokens g c = ap (λ (v : HopView g.row.T.Denot). v.book.table) c.self.view_is ∙ c.requires.tokens
+
+pub redeem-index-requires-clause-leg : goal.redeem-index-requires-clause-leg
+redeem-index-requires-clause-leg g c = (c.requires.leg.table ∙ c.requires.tokens, c.requires.leg.owner ∙ sym (ap (λ (v : HopView g.row.T.Denot). v.book.owner) c.self.view_is))
+
+pub redeem-index-requires-clause-placed : goal.redeem-index-requires-clause-placed
+redeem-index-requires-clause-placed g c = subst (λ (ls : List (Lane g.row.T.Denot)). All HasPosition ls) (sym c.deref.ensures.value) c.self.invariant.kept.placed
+
+pub redeem-index-requires-clause-legs : goal.redeem-index-requires-clause-legs
+redeem-index-requires-clause-legs g c = λ n. c.self.invariant.kept.legs n ∙ ap (legs_out n) (sym c.deref.ensures.value)
+
+pub take_out-was-requires : goal.take_out-was-requires
+take_out-was-requires g c = subst (λ (ls : List (Lane g.row.T.Denot)). c.redeem-index.result < length ls) c.deref.ensures.value c.redeem-index.ensures.place

@@ -1,11 +1,11 @@
 use Rattle.std.proofs.Common.{◌⊎◌, false, Some, List, get_or, length, ◌<◌, subst, ap, ◌≡◌, suc, take, drop, true, refl, sym, ◌∙◌, arith}
 use Rattle.std.specs.Prelude.{find}
-use Rattle.std.specs.List.{list_any}
+use Rattle.std.specs.List.{list_any, All}
 use Rattle.base_phases.specs.declared.phases.LaneState.TheVariants.{Requested, Waiting}
 use Rattle.hop_object.specs.declared.lane.Lane.{Lane}
 use Rattle.hop_object.specs.View.{HopView}
 use Rattle.hop_object.specs.Inside.{view_of}
-use Rattle.hop_object.specs.Lanes.{any_responding, has_leg}
+use Rattle.hop_object.specs.Lanes.{any_responding, has_leg, legs_out, HasPosition}
 use Rattle.hop_object.specs.Hops.{IsLegOf, MayCall}
 use Rattle.hop_object.proofs.Places.{at_place, found_any}
 use Rattle.hop_object.proofs.LegLemmas.{leg_parts}
@@ -66,3 +66,15 @@ returns g c =
       after = rw (d.after, c.push_call.ensures, c.redeem-index.ensures.book, c.request_end_responded-self-inside.ensures, c.response_end_responded-self-inside.ensures, c.state_by-next.ensures, c.mark_of.ensures, c.response_answer-answer.ensures) refl;
       answer_is = rw c.response_answer-answer.ensures refl;
     })
+
+pub redeem-index-requires-clause-tokens : goal.redeem-index-requires-clause-tokens
+redeem-index-requires-clause-tokens g c = ap (λ (v : HopView g.row.T.Denot). v.book.table) c.self.view_is ∙ c.requires.tokens
+
+pub redeem-index-requires-clause-placed : goal.redeem-index-requires-clause-placed
+redeem-index-requires-clause-placed g c = subst (λ (ls : List (Lane g.row.T.Denot)). All HasPosition ls) (sym c.deref.ensures.value) c.self.invariant.kept.placed
+
+pub redeem-index-requires-clause-legs : goal.redeem-index-requires-clause-legs
+redeem-index-requires-clause-legs g c = λ n. c.self.invariant.kept.legs n ∙ ap (legs_out n) (sym c.deref.ensures.value)
+
+pub change-was-requires : goal.change-was-requires
+change-was-requires g c = subst (λ (ls : List (Lane g.row.T.Denot)). c.redeem-index.result < length ls) c.deref.ensures.value c.redeem-index.ensures.place
