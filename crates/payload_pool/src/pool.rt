@@ -23,7 +23,6 @@ pub struct PoolMade {
 
 /// The payloads of an initiator with their memory manager (clause 14.5). Contracts see its slots, its
 /// log and the book of its references.
-#[derive(Drop)]
 pub struct Pool {
     pub(crate) initiator: u32,
     pub(crate) room: u32,
@@ -52,6 +51,19 @@ fn free_slots(alloc: Global, slots: u32, room: u32) -> Result<Vec<Slot>, Memory>
         all.push(Slot::new(alloc, room)?)?;
     }
     Ok(all)
+}
+
+// Written out, so that crates above call it and needn't prove again how each part is let go of.
+impl Drop for Pool {
+    fn drop(self) {
+        let Pool {
+            initiator: _,
+            room: _,
+            slots: _slots,
+            log: _log,
+            book: _book,
+        } = self;
+    }
 }
 
 impl Pool {
@@ -120,7 +132,14 @@ impl Pool {
         ensures entries { result.entries ≡ entries self.log.events }
         ensures pool { IsPool self }
     {
-        self.log.into_log()
+        let Pool {
+            initiator: _,
+            room: _,
+            slots: _slots,
+            log,
+            book: _book,
+        } = self;
+        log.into_log()
     }
 
     /// How many slots are live.

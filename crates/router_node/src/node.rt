@@ -28,7 +28,6 @@ use tlm_types::{Ps, TxnId};
 
 /// A router with its hops above and those of its windows, in order, and with the transactions that it
 /// holds, in order of arrival.
-#[derive(Drop)]
 pub struct RouterNode {
     pub(crate) router: u32,
     /// The number of the hop of its first window.
@@ -41,6 +40,23 @@ pub struct RouterNode {
     pub(crate) room: u32,
     /// A response of no transaction that it holds.
     pub(crate) stray: Option<Found>,
+}
+
+// Written out, so that crates above call it and needn't prove again how each part is let go of.
+impl Drop for RouterNode {
+    fn drop(self) {
+        let RouterNode {
+            router: _,
+            first: _,
+            accepts: _,
+            latency: _,
+            above: _above,
+            below: _below,
+            held: _held,
+            room: _,
+            stray: _stray,
+        } = self;
+    }
 }
 
 /// What a pump has done.
@@ -466,7 +482,17 @@ impl RouterNode {
         ensures held { result.0 ≡ self.held }
         ensures stray { result.1 ≡ self.stray }
     {
-        let RouterNode { held, stray, .. } = self;
+        let RouterNode {
+            router: _,
+            first: _,
+            accepts: _,
+            latency: _,
+            above: _above,
+            below: _below,
+            held,
+            room: _,
+            stray,
+        } = self;
         (held, stray)
     }
 }
