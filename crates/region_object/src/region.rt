@@ -26,7 +26,6 @@ use tlm_types::{
 
 /// A memory, which is a target with debug transport and a direct memory interface (clauses 11.2 and 11.3), with its log. Contracts see its
 /// number, its traits, the number of its first gate, and its log with the room that it has left.
-#[derive(Drop)]
 pub struct Region {
     number: u32,
     traits: MemoryTraits,
@@ -48,6 +47,19 @@ impl Model for Region {
     } };
 
     ghost invariant = { λ r. IsConsistent r.number r.traits r.store.items r.gates r.log.entries };
+}
+
+// Written out, so that crates above call it and needn't prove again how each part is let go of.
+impl Drop for Region {
+    fn drop(self) {
+        let Region {
+            number: _,
+            traits: _,
+            store: _store,
+            gates: _gates,
+            log: _log,
+        } = self;
+    }
 }
 
 impl Region {
@@ -128,7 +140,14 @@ impl Region {
         ensures bytes { result.1 ≡ log_bytes self.traits self.log.entries }
         ensures size { length result.1 ≡ self.traits.size }
     {
-        (self.log, Bytes::from_vec(self.store))
+        let Region {
+            number: _,
+            traits: _,
+            store,
+            gates: _gates,
+            log,
+        } = self;
+        (log, Bytes::from_vec(store))
     }
 
     /// Makes this call. Where it adds an entry, there has to be room for it, and for its bytes, so that it
