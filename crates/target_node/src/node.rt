@@ -20,7 +20,6 @@ use token_book::Ticket;
 
 /// A memory with the hops that lead to it, in order. What it fetched waits in a queue, by the times at which
 /// the responses are due; a response that was refused is held.
-#[derive(Drop)]
 pub struct TargetNode {
     pub(crate) memory: u32,
     pub(crate) hops: Vec<u32>,
@@ -28,6 +27,20 @@ pub struct TargetNode {
     pub(crate) latency: Ps,
     pub(crate) queue: EventQueue<Request>,
     pub(crate) held: Option<Response>,
+}
+
+// Written out, so that crates above call it and needn't prove again how each part is let go of.
+impl Drop for TargetNode {
+    fn drop(self) {
+        let TargetNode {
+            memory: _,
+            hops: _hops,
+            accepts: _,
+            latency: _,
+            queue: _queue,
+            held: _held,
+        } = self;
+    }
 }
 
 /// What a pump has done.
@@ -257,7 +270,14 @@ impl TargetNode {
         ensures queue { result.0 ≡ self.queue }
         ensures held { result.1 ≡ self.held }
     {
-        let TargetNode { queue, held, .. } = self;
+        let TargetNode {
+            memory: _,
+            hops: _hops,
+            accepts: _,
+            latency: _,
+            queue,
+            held,
+        } = self;
         (queue, held)
     }
 }
