@@ -1,5 +1,5 @@
 -- A leg and its lane agree, and what is out of the book of the legs.
-use Rattle.std.proofs.Common.{◌≡◌, ℕ, ◌+◌, ◌*◌, ◌<◌, ◌≤◌, ◌==◌, ◌&&◌, Bool, true, false, cond, [], ◌∷◌, Option, Some, None, refl, sym, ap, ◌∙◌, arith}
+use Rattle.std.proofs.Common.{◌≡◌, ℕ, ◌+◌, ◌*◌, ◌<◌, ◌≤◌, ◌==◌, ◌&&◌, Bool, true, false, cond, [], ◌∷◌, Option, Some, None, refl, sym, ap, subst, ◌∙◌, arith, List}
 use Rattle.std.specs.Prelude.{◌%◌, is_none}
 use Rattle.std.specs.List.{count_by}
 use Rattle.std.proofs.lemmas.Bool.{eqb-true}
@@ -9,7 +9,7 @@ use Rattle.token_book.specs.Account.{Account, Slip, out_of, issued, retired}
 use Rattle.token_book.proofs.Amounts.{out_of-put_out, out_of-struck_off}
 use Rattle.hop_object.specs.declared.lane.Lane.{Lane}
 use Rattle.hop_object.specs.States.{number_of_state}
-use Rattle.hop_object.specs.Lanes.{leg_name, has_leg, step_lane}
+use Rattle.hop_object.specs.Lanes.{leg_name, legs_out, has_leg, step_lane}
 use Rattle.hop_object.specs.Hops.{leg_changed}
 
 pub both : (a b : Bool) → a && b ≡ true → (a ≡ true) × (b ≡ true)
@@ -46,6 +46,13 @@ module _ {T : Type 0} where
   -- the lane of a leg carries nothing, and its name is the leg's
   pub leg_parts : (n : ℕ) (l : Lane T) → has_leg n l ≡ true → (l.item ≡ None) × (leg_name l ≡ n)
   leg_parts n l h = let b = both (is_none l.item) (leg_name l == n) h in (none_is l.item b.0, eqb-true (leg_name l) n b.1)
+
+  -- a leg that was taken back was out, so a lane has it
+  pub leg_is_out : (leg taken : Slip) (name : ℕ) (book : Account) (lanes : List (Lane T)) → name ≡ leg.name → taken ≡ leg → leg.amount ≡ 1 → taken.amount ≤ out_of taken.name book.out → ((n : ℕ) → out_of n book.out ≡ legs_out n lanes) → 1 ≤ legs_out name lanes
+  leg_is_out leg taken name book lanes n is one was legs =
+      let h : leg.amount ≤ out_of leg.name book.out = subst (λ (s : Slip). s.amount ≤ out_of s.name book.out) is was in
+      let q = legs leg.name in
+      subst (λ (k : ℕ). 1 ≤ legs_out k lanes) (sym n) (omega (arith, h, q, one))
 
   -- its state is that of the leg
   pub leg_state : (n : ℕ) (l : Lane T) (s : LaneState) → has_leg n l ≡ true → n % 4 ≡ number_of_state s → l.state ≡ s

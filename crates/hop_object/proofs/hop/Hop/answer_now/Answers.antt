@@ -1,4 +1,4 @@
-use Rattle.std.proofs.Common.{◌≡◌, ◌≤◌, ◌+◌, ◌*◌, true, None, refl, sym, ap, subst, ◌∙◌, arith}
+use Rattle.std.proofs.Common.{◌≡◌, ◌≤◌, ◌<◌, length, ◌+◌, ◌*◌, true, None, refl, sym, ap, subst, ◌∙◌, arith}
 use Rattle.tlm_types.specs.declared.words.Phase.TheVariants.{BeginResp}
 use Rattle.tlm_types.specs.declared.words.TlmSync.TheVariants.{Updated}
 use Rattle.base_phases.specs.declared.phases.LaneState.TheVariants.{Responding}
@@ -6,7 +6,7 @@ use Rattle.hop_object.specs.View.{HopView}
 use Rattle.hop_object.specs.Inside.{view_of}
 use Rattle.hop_object.specs.Hops.{can_begin, begin_answer, leg_out, MayCall}
 use Rattle.hop_object.proofs.LegLemmas.{out_issued}
-use Rattle.hop_object.proofs.Keeps.{kept_entered}
+use Rattle.hop_object.proofs.Keeps.{few_out, kept_entered}
 use Rattle.hop_object.proofs.hop.Hop.answer_now.Goals as goal
 
 pub invariant_of-self : goal.invariant_of-self
@@ -23,3 +23,15 @@ invariant_of-self g c =
       kept = rw (c.put.ensures.items, c.push_call.ensures, c.issue.ensures.book) kept;
       roomy = omega (arith, c.put.ensures.capacity, k.roomy);
     }
+
+pub issue-requires-clause-tokens : goal.issue-requires-clause-tokens
+issue-requires-clause-tokens g c = ap (λ (v : HopView g.row.T.Denot). v.book.table) c.self.view_is ∙ c.requires.tokens
+
+pub issue-requires-clause-position : goal.issue-requires-clause-position
+issue-requires-clause-position g c = c.requires.may.below
+
+pub issue-requires-clause-few : goal.issue-requires-clause-few
+issue-requires-clause-few g c = λ n. few_out (view_of c.self.inside) c.self.invariant.kept n
+
+pub push_call-requires : goal.push_call-requires
+push_call-requires g c = subst (λ (v : HopView g.row.T.Denot). length v.log.events < v.log.room) (sym c.self.view_is) c.requires.may.room
