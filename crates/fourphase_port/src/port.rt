@@ -29,7 +29,6 @@ use token_book::Wallet;
 /// A four-phase initiator under way, with its note and its wallet (IEEE 1666-2011, clause 11.1.2). Contracts
 /// see where its script stands, its times, what is outstanding, what had no route, and what it works on.
 // The note is away only while a call is made, which carries it along.
-#[derive(Drop)]
 pub struct Port<N: Naming<Plan, TlmLaw>> {
     state: PortState,
     note: Option<PlatNote>,
@@ -48,6 +47,17 @@ impl<N: Naming<Plan, TlmLaw>> Model for Port<N> {
     ghost view = { λ p. record { state = p.state; note = p.note } };
 
     ghost invariant = { λ p. IsAtRest N.table N.tokens N.frame (record { state = p.state; note = p.note }) };
+}
+
+// Written out, so that crates above call it and needn't prove again how each part is let go of.
+impl<N: Naming<Plan, TlmLaw>> Drop for Port<N> {
+    fn drop(self) {
+        let Port {
+            state: _state,
+            note: _note,
+            of: _,
+        } = self;
+    }
 }
 
 /// What a port has, wherever it has come: how many sequence numbers its script has taken, its note and its wallet, the numbers of
