@@ -1,6 +1,8 @@
 -- What a payload tells after its access is what the memory answered.
-use Rattle.std.proofs.Common.{◌≡◌, ℕ, ◌≤◌, Bool, List, ◌++◌, length, take, drop, refl, sym, ap, ◌∙◌, arith, length-append, length-drop}
+use Rattle.std.proofs.Common.{◌≡◌, ℕ, ◌≤◌, Bool, true, false, List, ◌++◌, length, take, drop, refl, sym, ap, ◌∙◌, arith, length-append, length-drop}
 use Rattle.std.proofs.lemmas.List.{take_at, length-take}
+use denote.Enum.Bare.{sameb}
+use Rattle.tlm_types.specs.contracts.words.Response.{the_type}
 use Rattle.tlm_types.specs.declared.words.Command.{Command}
 use Rattle.tlm_types.specs.declared.words.Command.TheVariants.{Read, Write, Ignore, FetchAdd}
 use Rattle.tlm_types.specs.declared.words.MemoryTraits.{MemoryTraits}
@@ -15,7 +17,7 @@ use Rattle.tlm_model.specs.Store.{zeros, status_of, status_by, store_after, stor
 use Rattle.generic_payload.specs.Payload.{PayloadView, access_of, moved_by}
 use Rattle.generic_payload.proofs.Moves.{length-taken_from}
 use Rattle.region_object.specs.Call.{IsTransport, MovesData}
-use Rattle.region_object.specs.Region.{answered, buffer_after, got_told, sent_told, told_by}
+use Rattle.region_object.specs.Region.{LoggedMemory, accessed, answered, buffer_after, hint_of, got_told, sent_told, told_by}
 
 -- an access by transport moves data
 pub transport_moves : (way : Way) → IsTransport way → MovesData way
@@ -87,6 +89,31 @@ told_by-access m log store operand way p hint bytes transport blank word =
     let r = status_by m a p.command in
     let told = buffer-told p.command r a store operand blank word in
     rw (told.sends, told.gets, told.size, status_of-transport way m a transport, got_of-transport way r a (log_bytes m log) transport, ← bytes) refl
+
+-- the hint of a memory that grants direct access, and of one that doesn't
+pub hint_there : (m : MemoryTraits) (r : Response) → m.dmi ≡ true → sameb the_type r Ok ≡ hint_of m r
+hint_there m Ok e = sym e
+hint_there m Incomplete e = refl
+hint_there m GenericError e = refl
+hint_there m AddressError e = refl
+hint_there m CommandError e = refl
+hint_there m BurstError e = refl
+hint_there m ByteEnableError e = refl
+
+pub hint_not : (m : MemoryTraits) (r : Response) → m.dmi ≡ false → false ≡ hint_of m r
+hint_not m Ok e = sym e
+hint_not m Incomplete e = refl
+hint_not m GenericError e = refl
+hint_not m AddressError e = refl
+hint_not m CommandError e = refl
+hint_not m BurstError e = refl
+hint_not m ByteEnableError e = refl
+
+-- the payload after an access, by what its memory has
+pub accessed-access : (m : LoggedMemory) (store : List ℕ) (way : Way) (p : PayloadView) (hint : Bool) → store ≡ log_bytes m.traits m.log.entries → MovesData way → hint ≡ hint_of m.traits (status_by m.traits (access_of p) p.command) → payload_after p (status_by m.traits (access_of p) p.command) hint store ≡ accessed m way p
+accessed-access m store way p hint bytes transport is =
+    let a = access_of p in
+    rw (status_of-transport way m.traits a transport, got_of-transport way (status_by m.traits a p.command) a (log_bytes m.traits m.log.entries) transport, ← bytes, ← is) refl
 
 -- the data after a debug read begins with what was moved, and stays as long as it is
 pub take-debugged : (p : PayloadView) (store : List ℕ) → take (length (moved_by p store)) (moved_by p store ++ drop (length (moved_by p store)) p.bytes) ≡ moved_by p store
