@@ -18,7 +18,6 @@ use token_book::{Tokens, Wallet};
 
 /// The objects of a platform under their locks, with their history and their tokens, which N names.
 /// Threads share it. Contracts see the plan.
-#[derive(Drop)]
 pub struct Net<N: Naming<Plan, TlmLaw>> {
     plan: Plan,
     history: PlatHistory,
@@ -43,6 +42,21 @@ impl<N: Naming<Plan, TlmLaw>> Model for Net<N> {
         × (n.tickets ≡ N.tokens) × AreMemories n.plan n.memories.items
         × AreHops n.plan.platform n.hops.items × ArePools n.plan.platform n.pools.items
         × (N.frame ≡ frame_of n.plan) };
+}
+
+// Written out, so that crates above call it and needn't prove again how each part is let go of.
+impl<N: Naming<Plan, TlmLaw>> Drop for Net<N> {
+    fn drop(self) {
+        let Net {
+            plan: _plan,
+            history: _history,
+            tickets: _tickets,
+            memories: _memories,
+            hops: _hops,
+            pools: _pools,
+            signs: _signs,
+        } = self;
+    }
 }
 
 /// What a net consists of.

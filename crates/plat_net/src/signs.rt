@@ -7,7 +7,6 @@ use tlm_types::TlmSync;
 
 /// What calls have left at the hops of a net and at the pool of each initiator, so that a call is made only where it may
 /// come to something. No clause rests on it: what stands in an object is seen by a call at it alone.
-#[derive(Drop)]
 pub struct Signs {
     hops: Vec<HopSigns>,
     pools: Vec<PoolSigns>,
@@ -30,6 +29,16 @@ struct HopSigns {
 struct PoolSigns {
     live: AtomicU64,
     slots: AtomicU64,
+}
+
+// Written out, so that crates above call it and needn't prove again how each part is let go of.
+impl Drop for Signs {
+    fn drop(self) {
+        let Signs {
+            hops: _hops,
+            pools: _pools,
+        } = self;
+    }
 }
 
 impl HopSigns {
