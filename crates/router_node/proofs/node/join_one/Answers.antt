@@ -34,3 +34,12 @@ returns-clause-joined g c =
     let first : IsFirstOf c.args.found items at = subst (λ (o : Option ℕ). IsPlaceOf c.args.found items o) c.in-Some.is c.place_of.ensures in
     let put : c.put_back.new.held.items ≡ set (set items at gap) at t = c.put_back.ensures.items ∙ ap (λ (l : List Stage). set l at t) c.take_out-stage.ensures.items in
     joined_there c.args.found items c.put_back.new.held.items at c.take_out-stage.result gap t c.join-stage.result.1 first c.take_out-stage.ensures.was put c.join-stage.ensures.joined
+
+pub returns-clause-capacity : goal.returns-clause-capacity
+returns-clause-capacity g c = c.put_back.ensures.capacity ∙ c.take_out-stage.ensures.capacity
+
+pub returns-clause-found : goal.returns-clause-found
+returns-clause-found g c = c.join-stage.ensures.found
+
+pub returns-in_default-clause-found : goal.returns-in_default-clause-found
+returns-in_default-clause-found g c = c.requires.found
