@@ -27,12 +27,23 @@ pub struct Start {
 
 /// What was made with a net and waits to be handed out. Threads share the net alone: a note is of one
 /// thread at a time. Contracts see what still waits.
-#[derive(Drop)]
 pub struct Kept<N: Naming<Plan, TlmLaw>> {
     starts: Vec<Option<Start>>,
     router_notes: Vec<Option<PlatNote>>,
     memory_notes: Vec<Option<PlatNote>>,
     of: PhantomData<N>,
+}
+
+// Written out, so that the crates above call it: how each part is let go of is proved here alone.
+impl<N: Naming<Plan, TlmLaw>> Drop for Kept<N> {
+    fn drop(self) {
+        let Kept {
+            starts: _,
+            router_notes: _,
+            memory_notes: _,
+            of: _,
+        } = self;
+    }
 }
 
 impl<N: Naming<Plan, TlmLaw>> Model for Kept<N> {

@@ -24,7 +24,6 @@ pub(crate) struct Supply {
 
 /// The seats and the books of the objects that aren't made yet, in order, and the wallets of the
 /// initiators with the tickets of those that are. Contracts see the number of the next object.
-#[derive(Drop)]
 pub(crate) struct Supplies<N: Naming<Plan, TlmLaw>> {
     next: u32,
     seats: Vec<PlatSeat>,
@@ -32,6 +31,20 @@ pub(crate) struct Supplies<N: Naming<Plan, TlmLaw>> {
     seconds: Vec<Book>,
     wallets: Vec<Wallet>,
     of: PhantomData<N>,
+}
+
+// Written out, so that each early return calls it.
+impl<N: Naming<Plan, TlmLaw>> Drop for Supplies<N> {
+    fn drop(self) {
+        let Supplies {
+            next: _,
+            seats: _,
+            books: _,
+            seconds: _,
+            wallets: _,
+            of: _,
+        } = self;
+    }
 }
 
 impl<N: Naming<Plan, TlmLaw>> Model for Supplies<N> {
@@ -92,6 +105,14 @@ impl<N: Naming<Plan, TlmLaw>> Supplies<N> {
     pub(crate) fn into_wallets(self) -> Vec<Wallet>
         ensures { AreStocked N.tokens N.frame.world self result.items }
     {
-        self.wallets
+        let Supplies {
+            next: _,
+            seats: _,
+            books: _,
+            seconds: _,
+            wallets,
+            of: _,
+        } = self;
+        wallets
     }
 }
