@@ -3,12 +3,13 @@ ghost use Rattle.std.specs.Prelude.{◌≡◌, ◌+◌, [], length, IfOk, OnOk};
 ghost use Rattle.tlm_types.specs.declared.words.ObjectNo.{ObjectNo as Object};
 ghost use Rattle.token_book.specs.Account.{out_of};
 ghost use Rattle.plat_build.specs.Kept.{all_waiting};
+ghost use Rattle.plat_net.specs.Net.{AreHops, AreMemories, ArePools};
 ghost use Rattle.plat_net.specs.Objects.{frame_of, HasObject};
 ghost use Rattle.plat_build.specs.Unused.{added_by_all, AddUp, AreNumberedFrom, AreUnused, HaveTicketsFrom, IsThere, IsUnused};
 
 use crate::building::Built;
 use one_history::{Closed, Sealed};
-use plat_net::{NetParts, PlatSeat, TlmLaw};
+use plat_net::{NetParts, PlatSeat, SharedHop, SharedMemory, SharedPool, TlmLaw};
 use route_plan::Plan;
 use shared_object::{Naming, Object, Shared, World};
 use std::alloc::{AllocError, Global};
@@ -81,6 +82,33 @@ where
     Ok(())
 }
 
+// The seats of all objects of a net of which nothing was handed out.
+fn unused_seats<N: Naming<Plan, TlmLaw>, R: Wait>(
+    rt: &R,
+    alloc: Global,
+    tickets: &Tokens,
+    memories: Vec<SharedMemory<N>>,
+    hops: Vec<SharedHop<N>>,
+    pools: Vec<SharedPool<N>>,
+    wallets: &mut [Wallet],
+) -> Result<Vec<PlatSeat>, AllocError>
+    requires frame { N.frame ≡ frame_of N.frame.world }
+    requires planned { AddUp N.frame }
+    requires tickets { tickets.now ≡ N.tokens }
+    requires memories { AreMemories N.frame.world memories.items }
+    requires hops { AreHops N.frame.world.platform hops.items }
+    requires pools { ArePools N.frame.world.platform pools.items }
+    requires wallets { HaveTicketsFrom N.tokens N.frame.world 0 wallets.old }
+    ensures seats { IfOk result (λ seats. AreUnused N.table N.frame seats.items) }
+    ensures count { IfOk result (λ seats. length seats.items ≡ length N.frame.planned) }
+{
+    let mut seats = Vec::new(alloc);
+    push_unused(rt, tickets, memories, &mut seats, wallets)?;
+    push_unused(rt, tickets, hops, &mut seats, wallets)?;
+    push_unused(rt, tickets, pools, &mut seats, wallets)?;
+    Ok(seats)
+}
+
 /// Ends the history of a net of which nothing was handed out. It has no entries: this is what tells that
 /// the history of a new net is empty. Its only error is want of memory.
 pub fn close_unused<N: Naming<Plan, TlmLaw>, R: Wait>(
@@ -105,10 +133,7 @@ pub fn close_unused<N: Naming<Plan, TlmLaw>, R: Wait>(
         hops,
         pools,
     } = net.into_parts();
-    let mut seats = Vec::new(alloc);
-    push_unused(rt, &tickets, memories, &mut seats, &mut wallets)?;
-    push_unused(rt, &tickets, hops, &mut seats, &mut wallets)?;
-    push_unused(rt, &tickets, pools, &mut seats, &mut wallets)?;
+    let seats = unused_seats(rt, alloc, &tickets, memories, hops, pools, &mut wallets)?;
     let Closed::Done(sealed) = history.close(seats, Vec::new(alloc)) else {
         unreachable!()
     };
