@@ -13,25 +13,15 @@ use Rattle.platform_model.specs.Bounded.{IsBounded}
 use Rattle.plat_build.specs.Kept.{AreFreshFrom, AreFreshBooksFrom}
 use Rattle.cargo_model.specs.Known.{objects_of}
 use Rattle.plat_net.specs.Objects.{frame_of, notes_of}
-use Rattle.plat_build.specs.Opened.{IsOpened}
+use Rattle.plat_build.specs.Opened.{AreAllSupplies, IsFirstNote, IsOpened}
 use Rattle.plat_build.proofs.KeptLemmas.{books_from, seats_from}
 use Rattle.plat_net.proofs.ObjectLemmas.{count_planned, few_objects}
 
 -- what the net of a plan is built of
 pub record MayBuild (table tokens : TableId) (frame : Frame Plan) (p : Plan) (seats : List (Held Content Plan)) (note : Held Content Plan) (books : List Account) : Type 0 where
   pub made : frame ≡ frame_of p
-  pub planned : length seats ≡ length frame.planned
-  pub places : length seats ≡ length (objects_of p.platform)
-  pub fresh_seats : AreFreshFrom table frame 0 seats
-  pub fresh_books : AreFreshBooksFrom tokens 0 books
-  pub twice : length books ≡ 2 * length frame.planned
-  pub few : length frame.planned ≤ 336
-  pub note_of : note.table ≡ table
-  pub notes : note.knows.notes ≡ notes_of p.platform
-  pub unseen : note.knows.seen ≡ 0
-  pub unknown : note.knows.known ≡ []
-  pub unlooked : note.knows.looks ≡ []
-  pub outside : note.knows.stays ≡ []
+  pub supplies : AreAllSupplies table tokens frame p seats books
+  pub first : IsFirstNote table p.platform note
 
 pub may_build : (table tokens : TableId) (frame : Frame Plan) (p : Plan) (table_there tokens_there : TableId) (frame_there : Frame Plan) (seats : List (Held Content Plan)) (note : Held Content Plan) (books : List Account)
     → IsOpened table_there tokens_there frame_there seats note books → table_there ≡ table → frame_there ≡ frame → tokens_there ≡ tokens → p ≡ frame.world → IsBounded p.platform → MayBuild table tokens frame p seats note books
@@ -45,16 +35,20 @@ may_build table tokens frame p table_there tokens_there frame_there seats note b
     let twice : length books ≡ 2 * length frame.planned = h.book_count ∙ ap (λ (f : Frame Plan). 2 * length f.planned) same_frame in
     record {
       made = made;
-      planned = planned;
-      places = places;
-      fresh_seats = seats_from table frame seats seats_fresh;
-      fresh_books = books_from tokens books books_fresh;
-      twice = twice;
-      few = omega (arith, planned, places, few_objects p.platform bounded);
-      note_of = h.note_of ∙ same_table;
-      notes = ap (λ (v : View Content Plan). v.notes) knows ∙ ap (λ (f : Frame Plan). f.notes) made;
-      unseen = ap (λ (v : View Content Plan). v.seen) knows;
-      unknown = ap (λ (v : View Content Plan). v.known) knows;
-      unlooked = ap (λ (v : View Content Plan). v.looks) knows;
-      outside = ap (λ (v : View Content Plan). v.stays) knows;
+      supplies = record {
+        planned = planned;
+        places = places;
+        fresh_seats = seats_from table frame seats seats_fresh;
+        fresh_books = books_from tokens books books_fresh;
+        twice = twice;
+        few = omega (arith, planned, places, few_objects p.platform bounded);
+      };
+      first = record {
+        note_of = h.note_of ∙ same_table;
+        notes = ap (λ (v : View Content Plan). v.notes) knows ∙ ap (λ (f : Frame Plan). f.notes) made;
+        unseen = ap (λ (v : View Content Plan). v.seen) knows;
+        unknown = ap (λ (v : View Content Plan). v.known) knows;
+        unlooked = ap (λ (v : View Content Plan). v.looks) knows;
+        outside = ap (λ (v : View Content Plan). v.stays) knows;
+      };
     }

@@ -1,10 +1,12 @@
 // The history of a plan and its tokens, before its net is built.
 ghost use Rattle.std.specs.Prelude.{◌≡◌, IfOk};
 ghost use Rattle.plat_net.specs.Objects.{frame_of};
+ghost use Rattle.plat_build.specs.Opened.{AreAllSupplies, IsFirstNote};
 
 use crate::objects::{gates_of, notes_of, objects_of, planned_of};
-use plat_net::{PlatHistory, PlatNote, PlatSeat};
+use plat_net::{PlatHistory, PlatNote, PlatSeat, TlmLaw};
 use route_plan::Plan;
+use shared_object::Naming;
 use std::alloc::Global;
 use std::marker::Model;
 use tlm_types::Memory;
@@ -14,11 +16,22 @@ use token_book::{Book, Tokens};
 /// the tables of both, and what the history was made with.
 #[derive(Drop)]
 pub struct Opened {
-    pub(crate) history: PlatHistory,
-    pub(crate) seats: Vec<PlatSeat>,
-    pub(crate) note: PlatNote,
-    pub(crate) tickets: Tokens,
-    pub(crate) books: Vec<Book>,
+    history: PlatHistory,
+    seats: Vec<PlatSeat>,
+    note: PlatNote,
+    tickets: Tokens,
+    books: Vec<Book>,
+}
+
+/// What was opened: the history, the seats of its objects, the note that stands for all that are wanted, and the tokens
+/// with their books.
+#[derive(Drop)]
+pub(crate) struct OpenedParts {
+    pub history: PlatHistory,
+    pub seats: Vec<PlatSeat>,
+    pub note: PlatNote,
+    pub tickets: Tokens,
+    pub books: Vec<Book>,
 }
 
 impl Model for Opened {
@@ -53,5 +66,33 @@ impl Opened {
             tickets,
             books,
         })
+    }
+
+    /// Its parts, where it was opened for this plan.
+    pub(crate) fn into_parts<N: Naming<Plan, TlmLaw>>(self, plan: &Plan) -> OpenedParts
+        requires history { (self.table ≡ N.table) × (self.frame ≡ N.frame) }
+        requires tickets { self.tokens ≡ N.tokens }
+        requires plan { plan.now ≡ N.frame.world }
+        ensures frame { N.frame ≡ frame_of plan.now }
+        ensures history { (result.history.table ≡ N.table) × (result.history.frame ≡ N.frame) }
+        ensures tickets { result.tickets ≡ N.tokens }
+        ensures supplies { AreAllSupplies N.table N.tokens N.frame plan.now result.seats.items result.books.items }
+        ensures note { IsFirstNote N.table plan.now.platform result.note }
+    {
+        let _ = plan.platform();
+        let Opened {
+            history,
+            seats,
+            note,
+            tickets,
+            books,
+        } = self;
+        OpenedParts {
+            history,
+            seats,
+            note,
+            tickets,
+            books,
+        }
     }
 }
