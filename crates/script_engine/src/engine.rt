@@ -11,7 +11,6 @@ use tlm_types::Command;
 use traffic_script::{Cursor, Script};
 
 /// What an initiator asks for, operation by operation, as its script says.
-#[derive(Drop)]
 pub struct Engine {
     initiator: u32,
     cursor: Cursor,
@@ -19,6 +18,20 @@ pub struct Engine {
     due: Option<u64>,
     buffer: Buffer,
     ended: bool,
+}
+
+// Written out, so that the crates above call it: how each part is let go of is proved here alone.
+impl Drop for Engine {
+    fn drop(self) {
+        let Engine {
+            initiator: _,
+            cursor: _,
+            seq: _,
+            due: _,
+            buffer: _,
+            ended: _,
+        } = self;
+    }
 }
 
 impl Model for Engine {
