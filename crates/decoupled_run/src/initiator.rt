@@ -29,7 +29,6 @@ const MOST_GRANTS: u32 = 2048;
 /// A blocking or direct initiator under way, whose local time is decoupled (clause 16), with its payload, its note,
 /// its wallet and the grants that it holds, if it is a direct one. Contracts see its run.
 // The payload and the note are away only while an access is made, which carries them along.
-#[derive(Drop)]
 pub struct DecoupledInitiator<N: Naming<Plan, TlmLaw>> {
     run: InitiatorRun,
     payload: Option<Payload>,
@@ -38,6 +37,21 @@ pub struct DecoupledInitiator<N: Naming<Plan, TlmLaw>> {
     grants: GrantTable,
     is_direct: bool,
     of: PhantomData<N>,
+}
+
+// Written out, so that the crates above call it: how each part is let go of is proved here alone.
+impl<N: Naming<Plan, TlmLaw>> Drop for DecoupledInitiator<N> {
+    fn drop(self) {
+        let DecoupledInitiator {
+            run: _,
+            payload: _,
+            note: _,
+            wallet: _,
+            grants: _,
+            is_direct: _,
+            of: _,
+        } = self;
+    }
 }
 
 impl<N: Naming<Plan, TlmLaw>> Model for DecoupledInitiator<N> {
