@@ -24,12 +24,22 @@ use traffic_script::Script;
 
 /// A platform with the script of each of its initiators in order, ready to be run. Contracts see the
 /// plan of the definitions. Numbers count from 0.
-#[derive(Drop)]
 pub struct Plan {
     routes: Routes,
     scripts: Rows<Script>,
     /// What each initiator may add to each object, place by place.
     shares: Rows<Rows<Share>>,
+}
+
+// Written out, so that the crates above call it: how each part is let go of is proved here alone.
+impl Drop for Plan {
+    fn drop(self) {
+        let Plan {
+            routes: _,
+            scripts: _,
+            shares: _,
+        } = self;
+    }
 }
 
 impl Model for Plan {
