@@ -1,5 +1,5 @@
 // The jobs of a net, before their first turns.
-ghost use Rattle.std.specs.Prelude.{◌≡◌, ◌≢◌, ◌+◌, ◌<◌, ◌≤◌, ◌^◌, true, length, replicate, IfOk, IsSomeAnd, Some, slice_get, slice_set, false};
+ghost use Rattle.std.specs.Prelude.{◌≡◌, ◌≢◌, ◌+◌, ◌<◌, ◌≤◌, ◌^◌, true, length, replicate, IfOk, OnOk, IsSomeAnd, Some, slice_get, slice_set, false};
 ghost use Rattle.plat_build.specs.Kept.{all_waiting, IsStart};
 ghost use Rattle.run_queue.specs.Queue.{AreNumbered};
 ghost use Rattle.tlm_model.specs.declared.platform.Style.TheVariants as Styles;
@@ -147,20 +147,20 @@ fn begin_memory<N: Naming<Plan, TlmLaw>>(
     Ok(Actor::Memory(Box::new(alloc, job)?))
 }
 
-// The routers of a net as jobs behind these, of which there are so many. Its only error is want of memory.
+// Adds the routers of a net as jobs behind these, of which there are so many. Its only error is want of memory.
 fn begin_routers<N: Naming<Plan, TlmLaw>>(
     alloc: Global,
     net: &Net<N>,
     kept: &mut Kept<N>,
-    mut jobs: Vec<Actor<N>>,
+    jobs: &mut Vec<Actor<N>>,
     first: u32,
-) -> Result<Vec<Actor<N>>, Memory>
+) -> Result<(), Memory>
     requires kept { kept.old.routers ≡ replicate (length net.now.platform.routers) true }
-    requires numbered { AreNumbered number_of jobs.items }
-    requires first { length jobs.items ≡ first }
+    requires numbered { AreNumbered number_of jobs.old.items }
+    requires first { length jobs.old.items ≡ first }
     requires few { first ≤ 2 ^ 16 }
-    ensures numbered { IfOk result (λ jobs. AreNumbered number_of jobs.items) }
-    ensures count { IfOk result (λ all. length all.items ≡ first + length net.now.platform.routers) }
+    ensures numbered { OnOk result (AreNumbered number_of jobs.new.items) }
+    ensures count { OnOk result (length jobs.new.items ≡ first + length net.now.platform.routers) }
     ensures memories { kept.new.memories ≡ kept.old.memories }
 {
     for router in 0..net.plan().platform().routers.as_slice().len() {
@@ -168,30 +168,30 @@ fn begin_routers<N: Naming<Plan, TlmLaw>>(
         let job = begin_router(alloc, net, kept, router as u32, number)?;
         jobs.push(job)?;
     }
-    Ok(jobs)
+    Ok(())
 }
 
-// The memories of a net as jobs behind these, of which there are so many. Its only error is want of memory.
+// Adds the memories of a net as jobs behind these, of which there are so many. Its only error is want of memory.
 fn begin_memories<N: Naming<Plan, TlmLaw>>(
     alloc: Global,
     net: &Net<N>,
     kept: &mut Kept<N>,
-    mut jobs: Vec<Actor<N>>,
+    jobs: &mut Vec<Actor<N>>,
     first: u32,
-) -> Result<Vec<Actor<N>>, Memory>
+) -> Result<(), Memory>
     requires kept { kept.old.memories ≡ replicate (length net.now.platform.memories) true }
-    requires numbered { AreNumbered number_of jobs.items }
-    requires first { length jobs.items ≡ first }
+    requires numbered { AreNumbered number_of jobs.old.items }
+    requires first { length jobs.old.items ≡ first }
     requires few { first ≤ 2 ^ 16 }
-    ensures numbered { IfOk result (λ jobs. AreNumbered number_of jobs.items) }
-    ensures count { IfOk result (λ all. length all.items ≡ first + length net.now.platform.memories) }
+    ensures numbered { OnOk result (AreNumbered number_of jobs.new.items) }
+    ensures count { OnOk result (length jobs.new.items ≡ first + length net.now.platform.memories) }
 {
     for memory in 0..net.plan().platform().memories.as_slice().len() {
         let number = first + memory as u32;
         let job = begin_memory(alloc, net, kept, memory as u32, number)?;
         jobs.push(job)?;
     }
-    Ok(jobs)
+    Ok(())
 }
 
 // How many initiators a net has, and how many initiators and routers.
@@ -206,22 +206,22 @@ fn counts_of<N: Naming<Plan, TlmLaw>>(net: &Net<N>) -> (u32, u32)
     (initiators, initiators + routers)
 }
 
-// The routers and the memories of a net as jobs behind those of its initiators. Its only error is want of memory.
+// Adds the routers and the memories of a net as jobs behind those of its initiators. Its only error is want of memory.
 fn begin_nodes<N: Naming<Plan, TlmLaw>>(
     alloc: Global,
     net: &Net<N>,
     kept: &mut Kept<N>,
-    jobs: Vec<Actor<N>>,
-) -> Result<Vec<Actor<N>>, Memory>
+    jobs: &mut Vec<Actor<N>>,
+) -> Result<(), Memory>
     requires routers { kept.old.routers ≡ replicate (length net.now.platform.routers) true }
     requires memories { kept.old.memories ≡ replicate (length net.now.platform.memories) true }
-    requires numbered { AreNumbered number_of jobs.items }
-    requires count { length jobs.items ≡ length net.now.platform.initiators }
-    ensures numbered { IfOk result (λ jobs. AreNumbered number_of jobs.items) }
-    ensures count { IfOk result (λ jobs. length net.now.platform.initiators ≤ length jobs.items) }
+    requires numbered { AreNumbered number_of jobs.old.items }
+    requires count { length jobs.old.items ≡ length net.now.platform.initiators }
+    ensures numbered { OnOk result (AreNumbered number_of jobs.new.items) }
+    ensures count { OnOk result (length net.now.platform.initiators ≤ length jobs.new.items) }
 {
     let (initiators, routers) = counts_of(net);
-    let jobs = begin_routers(alloc, net, kept, jobs, initiators)?;
+    begin_routers(alloc, net, kept, jobs, initiators)?;
     begin_memories(alloc, net, kept, jobs, routers)
 }
 
@@ -242,10 +242,10 @@ pub fn begin_jobs<N: Naming<Plan, TlmLaw>>(
     ensures numbered { IfOk result (λ jobs. AreNumbered number_of jobs.items) }
     ensures count { IfOk result (λ jobs. length net.now.platform.initiators ≤ length jobs.items) }
 {
-    let jobs = begin_initiators(alloc, net, kept)?;
-    if has_fourphase(net) {
-        begin_nodes(alloc, net, kept, jobs)
-    } else {
-        Ok(jobs)
+    let mut jobs = begin_initiators(alloc, net, kept)?;
+    if !has_fourphase(net) {
+        return Ok(jobs);
     }
+    begin_nodes(alloc, net, kept, &mut jobs)?;
+    Ok(jobs)
 }
