@@ -5,13 +5,14 @@ ghost use Rattle.plat_build.specs.Kept.{all_waiting};
 ghost use Rattle.plat_net.specs.Objects.{frame_of};
 ghost use Rattle.run_outcome.specs.Outcome.{IsWhole};
 ghost use Rattle.run_jobs.specs.Actors.{is_done, number_of};
+ghost use Rattle.run_end.specs.End.{AreFinished};
 ghost use Rattle.run_end.specs.Entries.{entries_read};
 ghost use Rattle.run_end.specs.Run.{IsCoreRun};
 
 use crate::ending::{HandedIn, hand_in};
 use crate::workers::{work_all, work_alone};
 use outside::Pace;
-use plat_build::{Built, Opened, build};
+use plat_build::{Built, Kept, Opened, build};
 use plat_end::take_apart;
 use plat_net::{Net, NetParts, TlmLaw};
 use route_plan::Plan;
@@ -45,11 +46,44 @@ pub fn run<N: Naming<Plan, TlmLaw> + Send + Sync, P: Pace + Sync, R: Threads + W
     ensures world { IfOk result (λ r. (r.1.table ≡ N.table) × (r.1.world ≡ built.net)) }
 {
     let Built { mut net, mut kept } = built;
-    let jobs = begin_jobs(alloc, &net, &mut kept)?;
+    let handed = finish_all(rt, alloc, &mut net, &mut kept, workers, pace)?;
+    end_run(rt, alloc, net, handed)
+}
+
+// Gives turns to the jobs of a net that was just built by so many workers, until all initiators have finished, and gathers what
+// these leave. Its only error is want of memory.
+fn finish_all<N: Naming<Plan, TlmLaw> + Send + Sync, P: Pace + Sync, R: Threads + Wait + Sync>(
+    rt: &R,
+    alloc: Global,
+    net: &mut Net<N>,
+    kept: &mut Kept<N>,
+    workers: u32,
+    pace: &P,
+) -> Result<HandedIn, Memory>
+    requires kept { kept.old ≡ all_waiting net.old.platform }
+    ensures { IfOk result (λ h. AreFinished N.table N.tokens N.frame.world (length N.frame.world.platform.initiators) h.ends.items h.wallets.items h.notes.items) }
+{
+    let jobs = begin_jobs(alloc, net, kept)?;
     let count = net.plan().platform().initiators.as_slice().len() as u32;
     let board = begin_board(rt, alloc, &jobs, count)?;
-    let jobs = finish_jobs(rt, alloc, &mut net, &board, pace, jobs, count, workers)?;
-    let handed = hand_in(alloc, jobs)?;
+    let jobs = finish_jobs(rt, alloc, net, &board, pace, jobs, count, workers)?;
+    hand_in(alloc, jobs)
+}
+
+// Takes the net apart whose initiators have left this, and makes the outcome of it. Its only error is want of memory.
+fn end_run<N: Naming<Plan, TlmLaw>, R: Wait>(
+    rt: &R,
+    alloc: Global,
+    net: Net<N>,
+    handed: HandedIn,
+) -> Result<(Outcome, PlatSealed), Memory>
+    requires { AreFinished N.table N.tokens N.frame.world (length N.frame.world.platform.initiators) handed.ends.items handed.wallets.items handed.notes.items }
+    ensures whole { IfOk result (λ r. IsWhole net r.0) }
+    ensures core { IfOk result (λ r. IsCoreRun net r.0.history.entries) }
+    ensures sealed { IfOk result (λ r. entries_read net.platform r.1.entries ≡ r.0.history.entries) }
+    ensures world { IfOk result (λ r. (r.1.table ≡ N.table) × (r.1.world ≡ net)) }
+{
+    let _ = net.plan().platform();
     let HandedIn {
         ends,
         mut wallets,

@@ -5,30 +5,29 @@ use Rattle.plat_end.specs.Apart.{left_by}
 use Rattle.plat_build.specs.Kept.{HasNoOthers}
 use Rattle.run_end.specs.End.{AreFinished}
 use Rattle.run_end.proofs.WholeLemmas.{wallets_no_others, wallets_of}
-use Rattle.plat_run.proofs.running.run.Goals as goal
+use Rattle.plat_run.proofs.running.end_run.Goals as goal
 
 pub take_apart-requires-clause-of : goal.take_apart-requires-clause-of
 take_apart-requires-clause-of g c =
     let n = g.N.Naming in
-    let in_all = c.in_ok-handed.handed in
-    subst (All (IsOf n.tokens)) (sym c.deref_mut.ensures.value) (wallets_of n.table n.tokens n.frame.world (length c.in_ok-jobs-2.jobs.items) in_all.ends.items in_all.wallets.items in_all.notes.items c.in_ok-handed.ensures)
+    let in_all = c.args.handed in
+    subst (All (IsOf n.tokens)) (sym c.deref_mut.ensures.value) (wallets_of n.table n.tokens n.frame.world (length n.frame.world.platform.initiators) in_all.ends.items in_all.wallets.items in_all.notes.items c.requires)
 
 pub take_apart-requires-clause-no_others : goal.take_apart-requires-clause-no_others
 take_apart-requires-clause-no_others g c =
     let n = g.N.Naming in
-    let in_all = c.in_ok-handed.handed in
-    subst (All (HasNoOthers n.frame.world.platform)) (sym c.deref_mut.ensures.value) (wallets_no_others n.table n.tokens n.frame.world (length c.in_ok-jobs-2.jobs.items) in_all.ends.items in_all.wallets.items in_all.notes.items c.in_ok-handed.ensures)
+    let in_all = c.args.handed in
+    subst (All (HasNoOthers n.frame.world.platform)) (sym c.deref_mut.ensures.value) (wallets_no_others n.table n.tokens n.frame.world (length n.frame.world.platform.initiators) in_all.ends.items in_all.wallets.items in_all.notes.items c.requires)
 
 pub seal-requires-clause-left : goal.seal-requires-clause-left
 seal-requires-clause-left g c =
     let n = g.N.Naming in
-    let in_all = c.in_ok-handed.handed in
+    let in_all = c.args.handed in
     let apart = c.in_ok-apart in
     let value : c.deref_mut.result.now ≡ in_all.wallets.items = c.deref_mut.ensures.value in
-    let count : length c.in_ok-jobs-2.jobs.items ≡ length n.frame.world.platform.initiators = search rules in
     record {
       wallets = in_all.wallets.items;
-      finished = subst (λ (k : ℕ). AreFinished n.table n.tokens n.frame.world k in_all.ends.items in_all.wallets.items in_all.notes.items) count c.in_ok-handed.ensures;
+      finished = c.requires;
       left = apart.ensures.left;
       logs_left = apart.ensures.logs;
       stores_are = apart.ensures.stores;
