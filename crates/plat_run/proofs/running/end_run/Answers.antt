@@ -1,9 +1,8 @@
-use Rattle.std.proofs.Common.{◌≡◌, ℕ, All, List, length, sym, subst, rules}
+use Rattle.std.proofs.Common.{◌≡◌, All, List, length, sym, subst}
 use Rattle.token_book.specs.Purse.{IsOf, Purse}
 use Rattle.net_end.specs.Closed.{AreHandedBack}
 use Rattle.plat_end.specs.Apart.{left_by}
 use Rattle.plat_build.specs.Kept.{HasNoOthers}
-use Rattle.run_end.specs.End.{AreFinished}
 use Rattle.run_end.proofs.WholeLemmas.{wallets_no_others, wallets_of}
 use Rattle.plat_run.proofs.running.end_run.Goals as goal
 
