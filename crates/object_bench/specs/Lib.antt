@@ -1,3 +1,1 @@
-pub mod Rights
-pub mod Counter
 pub mod Gates

@@ -1,7 +1,5 @@
-// Grants of a memory: why they are denied, and how one is used and ends.
-ghost use Rattle.std.specs.Prelude.{◌≡◌, length};
-ghost use Rattle.region_object.specs.Call.{Fits, IsCloseFit, IsReadOrWrite, TellsGrant};
-ghost use Rattle.region_object.specs.Region.{after_call, reply_of};
+// Grants of a memory: why they are denied.
+ghost use Rattle.region_object.specs.Call.{Fits, IsReadOrWrite};
 ghost use Rattle.region_object.specs.Written.{written_from};
 
 use region_object::{Denial, Region, RegionCall, RegionReply};
@@ -33,8 +31,6 @@ fn blank(rt: &impl Abort, alloc: Global, dmi: bool, writable: bool) -> Region {
 // Makes a call.
 fn make(rt: &impl Abort, region: &mut Region, call: RegionCall) -> RegionReply
     requires fit { Fits (written_from 0 region.old.log.entries) call }
-    ensures memory { region.new ≡ after_call region.old (length region.old.log.entries) call }
-    ensures reply { result ≡ reply_of region.old call }
 {
     let position = region.log().len();
     assert!(rt; position < region.log().room() && call.cost() <= region.log().room_bytes());
@@ -44,51 +40,11 @@ fn make(rt: &impl Abort, region: &mut Region, call: RegionCall) -> RegionReply
 // Wishes for a grant.
 fn ask(rt: &impl Abort, region: &mut Region, command: Command) -> RegionReply
     requires command { IsReadOrWrite command }
-    ensures told { TellsGrant (written_from 0 region.new.log.entries) result }
 {
     let call = RegionCall::Grant {
         txn: TXN,
         time: 10,
         command,
-    };
-    make(rt, region, call)
-}
-
-// Takes a grant, and answers its gate.
-fn take(rt: &impl Abort, region: &mut Region) -> u32
-    ensures given { IsCloseFit (written_from 0 region.new.log.entries) result }
-{
-    match ask(rt, region, Command::Read) {
-        RegionReply::Granted { gate, .. } => gate,
-        _ => panic!(rt; "no grant"),
-    }
-}
-
-// The least gate whose grant overlaps this byte and was given before this position.
-fn open_at(rt: &impl Abort, region: &mut Region, byte: u64, before: u64) -> Option<u32>
-    ensures same { region.new ≡ region.old }
-{
-    let call = RegionCall::Overlapping {
-        from: 0,
-        first: byte,
-        last: byte,
-        before,
-    };
-    match make(rt, region, call) {
-        RegionReply::Overlapping(gate) => gate,
-        _ => panic!(rt; "no answer"),
-    }
-}
-
-// Closes a gate.
-fn close(rt: &impl Abort, region: &mut Region, gate: u32) -> RegionReply
-    requires given { IsCloseFit (written_from 0 region.old.log.entries) gate }
-    ensures given { IsCloseFit (written_from 0 region.new.log.entries) gate }
-{
-    let call = RegionCall::Close {
-        txn: TXN,
-        time: 20,
-        gate,
     };
     make(rt, region, call)
 }
@@ -126,17 +82,4 @@ fn grants_are_denied_in_order(rt: HostRuntime) {
         )
     );
     assert!(rt; region.log().len() == 1);
-}
-
-#[test]
-fn a_gate_is_open_until_it_is_closed(rt: HostRuntime) {
-    let mut region = blank(&rt, rt.alloc(), true, true);
-    let gate = take(&rt, &mut region);
-    assert!(rt; open_at(&rt, &mut region, 7, 1) == Some(gate));
-    assert!(rt;
-        open_at(&rt, &mut region, 8, 1).is_none() && open_at(&rt, &mut region, 7, 0).is_none()
-    );
-    assert!(rt; matches!(close(&rt, &mut region, gate), RegionReply::Closed));
-    assert!(rt; matches!(close(&rt, &mut region, gate), RegionReply::AlreadyClosed));
-    assert!(rt; open_at(&rt, &mut region, 7, 1).is_none() && region.log().len() == 2);
 }
