@@ -1,37 +1,6 @@
 // The quantum keeper.
 use quantum_keeper::QuantumKeeper;
 
-// The time after a step of 30 ps, whether a sync is needed then, and the next point after it.
-static STEPS: [(u64, bool, u64); 7] = [
-    (30, false, 100),
-    (60, false, 100),
-    (90, false, 100),
-    (120, true, 200),
-    (150, false, 200),
-    (180, false, 200),
-    (210, true, 300),
-];
-
-// Whether a step of 30 ps, and the sync that it needs, come to this.
-fn steps(keeper: &mut QuantumKeeper, time: u64, needed: bool, next: u64) -> bool {
-    keeper.inc(30);
-    if keeper.current() != time || keeper.need_sync() != needed {
-        return false;
-    }
-    if needed {
-        keeper.sync();
-    }
-    keeper.current() == time && keeper.next_point() == next && (!needed || keeper.local() == 0)
-}
-
-#[test]
-fn seven_steps_of_30_sync_at_120_and_210(rt: HostRuntime) {
-    let mut keeper = QuantumKeeper::new(100);
-    for &(time, needed, next) in &STEPS {
-        assert!(rt; steps(&mut keeper, time, needed, next), "at {time}");
-    }
-}
-
 const GREATEST: u64 = u64::MAX;
 
 // The quantum, the offsets before and after a sync, the current time, whether a sync is needed, and the next

@@ -2,7 +2,7 @@
 ghost use Rattle.std.specs.Prelude.{◌≡◌, ◌==◌, IfOk};
 ghost use Rattle.run_queue.specs.Queue.{AreNumbered};
 
-use run_queue::{Job, Jobs, RunQueue, Taken};
+use run_queue::{Job, RunQueue, Taken};
 use std::alloc::Global;
 use std::process::Abort;
 use std::sync::Wait;
@@ -70,29 +70,6 @@ fn told(taken: Taken<Countdown>) -> i64 {
     }
 }
 
-// What three takes in a row tell.
-fn three_taken(jobs: &mut Jobs<Countdown>) -> (i64, i64, i64) {
-    (told(jobs.take()), told(jobs.take()), told(jobs.take()))
-}
-
-#[test]
-fn jobs_are_taken_first_in_first_out(rt: HostRuntime) {
-    let jobs = jobs_of(&rt, rt.alloc(), 3, 1);
-    let mut jobs = Jobs::new(rt.alloc(), jobs, 1).expect(&rt, "memory");
-    assert!(rt; three_taken(&mut jobs) == (0, 1, 2));
-    assert!(rt; told(jobs.take()) == -1);
-    jobs.give_back(waiting(1));
-    jobs.give_back(waiting(0));
-    // A job whose number isn't out is dropped.
-    for number in [1, 3] {
-        jobs.give_back(waiting(number));
-        jobs.finish(finished(number));
-    }
-    assert!(rt; three_taken(&mut jobs) == (1, 0, -1));
-    jobs.finish(finished(2));
-    assert!(rt; told(jobs.take()) == -2);
-}
-
 // Whether so many takes in a row all tell this.
 fn all_tell<R: Wait>(rt: &R, queue: &RunQueue<Countdown>, count: u32, number: i64) -> bool {
     for _ in 0..count {
@@ -116,59 +93,98 @@ fn one_job_serves_four_takers(rt: HostRuntime) {
     assert!(rt; queue.into_jobs(&rt).len() == 1);
 }
 
-// A job that is handed in waits, or has finished, before the next one is taken.
-#[test]
-fn who_hands_in_takes_the_next(rt: HostRuntime) {
-    let jobs = jobs_of(&rt, rt.alloc(), 2, 1);
-    let queue = RunQueue::new(rt.alloc(), jobs, 2).expect(&rt, "memory");
-    assert!(rt; told(queue.take(&rt)) == 0);
-    assert!(rt; told(queue.give_back_and_take(&rt, waiting(0), 0).0) == 1);
-    assert!(rt; told(queue.give_back_and_take(&rt, waiting(1), 0).0) == 0);
-    assert!(rt; told(queue.take(&rt)) == 1);
-    assert!(rt; told(queue.give_back_and_take(&rt, waiting(1), 0).0) == 1);
-    assert!(rt; told(queue.give_back_and_take(&rt, waiting(0), 0).0) == 0);
-    assert!(rt; told(queue.finish_and_take(&rt, finished(1), 0).0) == -1);
-    assert!(rt; told(queue.finish_and_take(&rt, finished(0), 0).0) == -2);
+// A call that answers the next job: it is just taken, or another one is handed in first, with the round that was told or
+// that it waits for; or that job rests, having seen so many moves, or has moved.
+#[derive(Clone, Copy)]
+enum Call {
+    Take,
+    GiveBack(u32, u64),
+    Finish(u32, u64),
+    Park(u32, u64),
+    Rest(u32, u64, bool),
+    Move(u32),
 }
 
-// A parked job comes back into line once a later round was told, and at once where that was told before.
-#[test]
-fn a_parked_job_waits_for_its_round(rt: HostRuntime) {
-    let jobs = jobs_of(&rt, rt.alloc(), 3, 1);
-    let queue = RunQueue::new(rt.alloc(), jobs, 3).expect(&rt, "memory");
-    assert!(rt; told(queue.take(&rt)) == 0);
-    assert!(rt; told(queue.park_and_take(&rt, waiting(0), 4).0) == 1);
-    assert!(rt; told(queue.park_and_take(&rt, waiting(1), 4).0) == 2);
-    // Round 4 was told with the jobs themselves: it brings back nobody.
-    assert!(rt; told(queue.give_back_and_take(&rt, waiting(2), 4).0) == 2);
-    assert!(rt; told(queue.give_back_and_take(&rt, waiting(2), 5).0) == 0);
-    assert!(rt; told(queue.take(&rt)) == 1);
-    assert!(rt; told(queue.park_and_take(&rt, waiting(0), 4).0) == 2);
-    assert!(rt; told(queue.finish_and_take(&rt, finished(2), 5).0) == 0);
-    assert!(rt; told(queue.park_and_take(&rt, waiting(0), 5).0) == -1);
-    assert!(rt; told(queue.finish_and_take(&rt, finished(1), 6).0) == 0);
+// The number of the job that a call answers.
+fn answer<R: Wait>(rt: &R, queue: &RunQueue<Countdown>, call: Call) -> i64 {
+    let taken = match call {
+        Call::Take => queue.take(rt),
+        Call::GiveBack(number, round) => queue.give_back_and_take(rt, waiting(number), round).0,
+        Call::Finish(number, round) => queue.finish_and_take(rt, finished(number), round).0,
+        Call::Park(number, round) => queue.park_and_take(rt, waiting(number), round).0,
+        Call::Rest(number, seen, moved) => queue.rest_and_take(rt, waiting(number), seen, moved).0,
+        Call::Move(number) => queue.move_and_take(rt, waiting(number)).0,
+    };
+    told(taken)
 }
+
+// So many jobs, which are taken by these calls.
+fn expect_answers<R: Wait + Abort>(rt: &R, alloc: Global, count: u32, rows: &[(Call, i64)]) {
+    let jobs = jobs_of(rt, alloc, count, 1);
+    let queue = RunQueue::new(alloc, jobs, count).expect(rt, "memory");
+    for &(call, number) in rows {
+        assert!(rt; answer(rt, &queue, call) == number);
+    }
+}
+
+// A job that is handed in waits, or has finished, before the next one is taken.
+static HANDED_IN: [(Call, i64); 8] = [
+    (Call::Take, 0),
+    (Call::GiveBack(0, 0), 1),
+    (Call::GiveBack(1, 0), 0),
+    (Call::Take, 1),
+    (Call::GiveBack(1, 0), 1),
+    (Call::GiveBack(0, 0), 0),
+    (Call::Finish(1, 0), -1),
+    (Call::Finish(0, 0), -2),
+];
+
+// A parked job comes back into line once a later round was told, and at once where that was told before. Round 4 was
+// told with the jobs themselves: it brings back nobody.
+static PARKED: [(Call, i64); 10] = [
+    (Call::Take, 0),
+    (Call::Park(0, 4), 1),
+    (Call::Park(1, 4), 2),
+    (Call::GiveBack(2, 4), 2),
+    (Call::GiveBack(2, 5), 0),
+    (Call::Take, 1),
+    (Call::Park(0, 4), 2),
+    (Call::Finish(2, 5), 0),
+    (Call::Park(0, 5), -1),
+    (Call::Finish(1, 6), 0),
+];
 
 // A job that found nothing to do rests until another one has moved since it was taken. Where nothing else can go on,
-// those that rest are taken once more.
+// those that rest are taken once more. While nobody has moved, 0 rests, and 1 comes back alone; 1 has moved, and 0 stands in line
+// before it. 0 has moved as well: it rests, and so does 1, which was taken after that. A move since 1 was taken was told: it
+// comes back at once, and so does who moved.
+static RESTING: [(Call, i64); 8] = [
+    (Call::Take, 0),
+    (Call::Rest(0, 0, false), 1),
+    (Call::GiveBack(1, 0), 1),
+    (Call::Move(1), 0),
+    (Call::Rest(0, 1, true), 1),
+    (Call::Rest(1, 2, false), 0),
+    (Call::Take, 1),
+    (Call::Rest(1, 2, false), 1),
+];
+
 #[test]
-fn a_resting_job_waits_for_a_move(rt: HostRuntime) {
-    let jobs = jobs_of(&rt, rt.alloc(), 2, 1);
-    let queue = RunQueue::new(rt.alloc(), jobs, 2).expect(&rt, "memory");
+fn who_hands_in_takes_the_next(rt: HostRuntime) {
+    expect_answers(&rt, rt.alloc(), 2, &HANDED_IN);
+    expect_answers(&rt, rt.alloc(), 3, &PARKED);
+    expect_answers(&rt, rt.alloc(), 2, &RESTING);
+}
+
+// Nobody has moved before the first look.
+#[test]
+fn who_takes_may_look(rt: HostRuntime) {
+    let jobs = jobs_of(&rt, rt.alloc(), 1, 1);
+    let queue = RunQueue::new(rt.alloc(), jobs, 1).expect(&rt, "memory");
     let (first, seen) = queue.take_and_look(&rt);
     assert!(rt; told(first) == 0 && seen == 0);
-    // Nobody has moved: 0 rests, and 1 comes back alone.
-    assert!(rt; told(queue.rest_and_take(&rt, waiting(0), 0, false).0) == 1);
-    assert!(rt; told(queue.give_back_and_take(&rt, waiting(1), 0).0) == 1);
-    // 1 has moved: 0 stands in line before it.
-    let (woken, seen) = queue.move_and_take(&rt, waiting(1));
+    let (woken, seen) = queue.move_and_take(&rt, waiting(0));
     assert!(rt; told(woken) == 0 && seen == 1);
-    // 0 has moved as well: it rests, and so does 1, which was taken after that.
-    assert!(rt; told(queue.rest_and_take(&rt, waiting(0), 1, true).0) == 1);
-    assert!(rt; told(queue.rest_and_take(&rt, waiting(1), 2, false).0) == 0);
-    // A move since it was taken was told: it comes back at once, and so does who moved.
-    assert!(rt; told(queue.take(&rt)) == 1);
-    assert!(rt; told(queue.rest_and_take(&rt, waiting(1), 2, false).0) == 1);
 }
 
 // Takes jobs and gives each a turn, until enough have finished. Answers how many turns it gave.
