@@ -124,23 +124,6 @@ fn is_the_write(log: &Log) -> bool {
     }
 }
 
-// Whether each part of the write is read by its own call.
-fn has_its_parts(log: &Log) -> bool {
-    if log.is_empty() {
-        return false;
-    }
-    match log.facts(0) {
-        Some(facts) if facts.command == Command::Write => {
-            log.head(0) == WRITE_HEAD
-                && log.what(0).is_none()
-                && log.sent(0) == SENT
-                && log.enables(0) == ENABLES
-                && log.got(0).is_empty()
-        }
-        _ => false,
-    }
-}
-
 fn is_request(what: What) -> bool {
     matches!(
         what,
@@ -174,6 +157,5 @@ fn a_log_reads_back_what_was_pushed(rt: HostRuntime) {
     assert!(rt; written.is_ok() && log.push(CALL_HEAD, BEGUN).is_ok());
     assert!(rt; log.len() == 2);
     assert!(rt; is_the_write(&log));
-    assert!(rt; has_its_parts(&log));
     assert!(rt; is_the_call(&log));
 }
