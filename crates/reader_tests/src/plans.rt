@@ -134,14 +134,6 @@ fn buses_with(rt: &impl Abort, alloc: Global, style: &str) -> String {
         .expect(rt, "memory")
 }
 
-#[test]
-fn initiators_have_every_style(rt: HostRuntime) {
-    for style in ["'blocking'", "'direct'", "'fourphase'"] {
-        let text = buses_with(&rt, rt.alloc(), style);
-        assert!(rt; shape_answer(&rt, rt.alloc(), text.as_str()).as_str() == "ok");
-    }
-}
-
 // Two scripts.
 fn two_scripts(rt: &impl Abort, alloc: Global, first: &str, second: &str) -> Vec<Script>
     ensures { length result.items ≡ 2 }

@@ -3,7 +3,7 @@ use std::alloc::Global;
 use std::process::Abort;
 use tlm_model::Operation;
 use tlm_types::Memory;
-use traffic_script::{Cursor, Piece, Script, ScriptCode, ScriptFault, read_script};
+use traffic_script::{Cursor, Piece, Script, read_script};
 
 // How a script is answered: how many operations it has, or its refusal.
 fn answer(rt: &impl Abort, alloc: Global, text: &str) -> String {
@@ -54,20 +54,6 @@ fn scripts_are_read_or_refused(rt: HostRuntime) {
             "{text:?}"
         );
     }
-}
-
-// Whether the bytes are refused with this code.
-fn is_refused(alloc: Global, bytes: &[u8], wanted: ScriptCode) -> bool {
-    match read_script(alloc, bytes, 1) {
-        Err(ScriptFault::Refused { line: _, code }) => code == wanted,
-        Ok(_) | Err(ScriptFault::Memory) => false,
-    }
-}
-
-#[test]
-fn scripts_have_at_most_ten_thousand_lines(rt: HostRuntime) {
-    let long = vec![in rt.alloc(); b'\n'; 10_001].expect(&rt, "memory");
-    assert!(rt; is_refused(rt.alloc(), &long, ScriptCode::TooManyLines));
 }
 
 fn script_of(rt: &impl Abort, alloc: Global, text: &str) -> Script {
