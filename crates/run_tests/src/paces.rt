@@ -157,3 +157,23 @@ impl Pace for InTurn {
         }
     }
 }
+
+/// Any of these, or none. Runs are compiled once for all of them.
+#[derive(Clone, Copy)]
+pub(crate) enum Pacing<'a> {
+    Free,
+    Holding(&'a Holding),
+    Watching(&'a Watching),
+    InTurn(&'a InTurn),
+}
+
+impl Pace for Pacing<'_> {
+    fn before(&self, initiator: u32, seq: u64) {
+        match self {
+            Pacing::Free => {}
+            Pacing::Holding(pace) => pace.before(initiator, seq),
+            Pacing::Watching(pace) => pace.before(initiator, seq),
+            Pacing::InTurn(pace) => pace.before(initiator, seq),
+        }
+    }
+}

@@ -1,35 +1,11 @@
 // Runs of four-phase initiators by worker threads.
-use crate::bench::plan_of;
+use crate::paces::Pacing;
 use crate::runs::run_of;
-use outside::NoPace;
+use net_bench::plan_of;
 use std::alloc::Global;
 use std::process::Abort;
 use std::sync::Wait;
 use std::thread::Threads;
-
-/// One initiator at a memory of 10 ps, with each reply of the memory and each response of the initiator that are told apart.
-const ACCEPT: &str = "version = 1\n\
-                      [[initiator]]\nname = 'dma'\nstyle = 'fourphase'\nscript = 'a'\nbind = 'ram'\n\
-                      [[memory]]\nname = 'ram'\nsize = 16\nlatency = 10\n";
-
-const COMPLETE: &str = "version = 1\n\
-                        [[initiator]]\nname = 'dma'\nstyle = 'fourphase'\nscript = 'a'\nbind = 'ram'\n\
-                        [[memory]]\nname = 'ram'\nsize = 16\nlatency = 10\nreply = 'complete'\n";
-
-const BEGIN_RESP: &str = "version = 1\n\
-                          [[initiator]]\nname = 'dma'\nstyle = 'fourphase'\nscript = 'a'\nbind = 'ram'\n\
-                          [[memory]]\nname = 'ram'\nsize = 16\nlatency = 10\nreply = 'begin_resp'\n";
-
-const END_REQ: &str = "version = 1\n\
-                       [[initiator]]\nname = 'dma'\nstyle = 'fourphase'\nresponse = 'end_resp'\nscript = 'a'\nbind = 'ram'\n\
-                       [[memory]]\nname = 'ram'\nsize = 16\nlatency = 10\nreply = 'end_req'\n";
-
-/// One initiator with one slot before two routers.
-const DEEP: &str = "version = 1\n\
-                    [[initiator]]\nname = 'dma'\nstyle = 'fourphase'\npool = 1\nscript = 'a'\nbind = 'one'\n\
-                    [[router]]\nname = 'one'\n[[router.window]]\nfirst = 0\nlast = 0xff\nto = 'two'\n\
-                    [[router]]\nname = 'two'\n[[router.window]]\nfirst = 0\nlast = 0xff\nto = 'ram'\n\
-                    [[memory]]\nname = 'ram'\nsize = 16\n";
 
 /// Two four-phase initiators and two blocking ones before a router with two memories.
 const MIXED: &str = "version = 1\nquantum = 50\n\
@@ -54,8 +30,10 @@ fn entries_of<R: Threads + Wait + Abort + Sync>(
     scripts: &[&str],
     workers: u32,
 ) -> u64 {
-    let plan = plan_of(rt, alloc, platform, scripts);
-    run_of(rt, alloc, &plan, workers, &NoPace).history.len()
+    let plan = plan_of(alloc, platform, scripts).expect(rt, "a plan");
+    run_of(rt, alloc, &plan, workers, Pacing::Free)
+        .history
+        .len()
 }
 
 // By 1, 2, 4 and 16 workers there are so many entries.
@@ -69,23 +47,6 @@ fn expect_entries<R: Threads + Wait + Abort + Sync>(
     for workers in [1, 2, 4, 16] {
         assert!(rt; entries_of(rt, alloc, platform, scripts, workers) == count);
     }
-}
-
-// One access: four entries of the pool, one of the memory, and the calls of its hop.
-#[test]
-fn each_reply_of_a_memory(rt: HostRuntime) {
-    let write = "write 0x0 aa\n";
-    expect_entries(&rt, rt.alloc(), ACCEPT, &[write], 9);
-    expect_entries(&rt, rt.alloc(), COMPLETE, &[write], 6);
-    expect_entries(&rt, rt.alloc(), BEGIN_RESP, &[write], 7);
-    expect_entries(&rt, rt.alloc(), END_REQ, &[write], 7);
-}
-
-// Two accesses over three hops, of which each has a slot, three references and four calls a hop.
-#[test]
-fn two_routers(rt: HostRuntime) {
-    let writes = "write 0x0 aa\nwrite 0x1 bb\n";
-    expect_entries(&rt, rt.alloc(), DEEP, &[writes], 42);
 }
 
 // A four-phase initiator behind the router makes 15 entries for each access with a window, seven for the one without, whose request

@@ -1,7 +1,6 @@
 // Runs by worker threads.
-use crate::bench::plan_of;
-use crate::paces::{Holding, InTurn, Watching};
-use outside::{NoPace, Pace};
+use crate::paces::{Holding, InTurn, Pacing, Watching};
+use net_bench::plan_of;
 use plat_run::run_plan;
 use route_plan::Plan;
 use run_outcome::{MergedLog, Outcome};
@@ -28,14 +27,14 @@ const ONE: &str = "write 0x0 aabb\ncopy 0x0 0x100 2\nread 0x200 2\ndebug 0x100 2
 const TWO: &str = "add 0x8 1\nwait 40\nsync\n";
 
 // What came of a run by so many workers, which is complete; the sealed history has just its entries.
-pub(crate) fn run_of<P: Pace + Sync, R: Threads + Wait + Abort + Sync>(
+pub(crate) fn run_of<R: Threads + Wait + Abort + Sync>(
     rt: &R,
     alloc: Global,
     plan: &Plan,
     workers: u32,
-    pace: &P,
+    pace: Pacing<'_>,
 ) -> Outcome {
-    let (outcome, sealed) = run_plan(rt, alloc, plan, workers, pace).expect(rt, "a run");
+    let (outcome, sealed) = run_plan(rt, alloc, plan, workers, &pace).expect(rt, "a run");
     assert!(rt; outcome.complete);
     assert!(rt; sealed.len() == outcome.history.len());
     outcome
@@ -57,9 +56,9 @@ fn expect_bus(rt: &impl Abort, outcome: &Outcome) {
 
 #[test]
 fn workers_run_two_initiators(rt: HostRuntime) {
-    let plan = plan_of(&rt, rt.alloc(), BUS, &[ONE, TWO]);
+    let plan = plan_of(rt.alloc(), BUS, &[ONE, TWO]).expect(&rt, "a plan");
     for workers in 1..4 {
-        let outcome = run_of(&rt, rt.alloc(), &plan, workers, &NoPace);
+        let outcome = run_of(&rt, rt.alloc(), &plan, workers, Pacing::Free);
         expect_bus(&rt, &outcome);
     }
 }
@@ -78,9 +77,9 @@ const ACCESSES: u64 = 4 + 4 + 4 + 6 + 2;
 // invalidation: those are last, since each takes a number of its own.
 #[test]
 fn the_pace_is_told_of_every_access(rt: HostRuntime) {
-    let plan = plan_of(&rt, rt.alloc(), BUS, &[EVERYTHING, EVERYTHING]);
+    let plan = plan_of(rt.alloc(), BUS, &[EVERYTHING, EVERYTHING]).expect(&rt, "a plan");
     let pace = InTurn::of(2);
-    let _ = run_of(&rt, rt.alloc(), &plan, 1, &pace);
+    let _ = run_of(&rt, rt.alloc(), &plan, 1, Pacing::InTurn(&pace));
     assert!(rt; pace.told() == 2 * ACCESSES && pace.wrong() == 0);
 }
 
@@ -117,11 +116,11 @@ fn expect_first<R: Threads + Wait + Abort + Sync>(
     scripts: &[&str],
     free: u32,
 ) {
-    let plan = plan_of(rt, alloc, platform, scripts);
+    let plan = plan_of(alloc, platform, scripts).expect(rt, "a plan");
     assert!(rt; scripts.len() <= 4);
     let count = scripts.len() as u32;
     let pace = Holding::all_but(free);
-    let outcome = run_of(rt, alloc, &plan, count, &pace);
+    let outcome = run_of(rt, alloc, &plan, count, Pacing::Holding(&pace));
     assert!(rt; pace.gave_up() == 0);
     assert!(rt; outcome.history.len() == 2 * u64::from(count));
     assert!(rt; first_of(rt, alloc, &outcome.history) == free);
@@ -165,12 +164,12 @@ fn expect_held<R: Threads + Wait + Abort + Sync>(
     platform: &str,
     scripts: &[&str],
 ) {
-    let plan = plan_of(rt, alloc, platform, scripts);
+    let plan = plan_of(alloc, platform, scripts).expect(rt, "a plan");
     assert!(rt; scripts.len() <= 4);
     let count = scripts.len() as u32;
     let others = u64::from(count.saturating_sub(1));
     let pace = Watching::others(others);
-    let outcome = run_of(rt, alloc, &plan, count, &pace);
+    let outcome = run_of(rt, alloc, &plan, count, Pacing::Watching(&pace));
     assert!(rt; pace.released());
     assert!(rt; pace.early() == 0 && pace.second() == others);
     assert!(rt; outcome.history.len() == 4 * u64::from(count));
@@ -184,9 +183,9 @@ fn rounds_hold(rt: HostRuntime) {
 
 // Runs two initiators in step, which make four accesses in all, by one worker and by two.
 fn expect_four<R: Threads + Wait + Abort + Sync>(rt: &R, alloc: Global, scripts: &[&str]) {
-    let plan = plan_of(rt, alloc, TWO_IN_STEP, scripts);
+    let plan = plan_of(alloc, TWO_IN_STEP, scripts).expect(rt, "a plan");
     for workers in 1..3 {
-        let outcome = run_of(rt, alloc, &plan, workers, &NoPace);
+        let outcome = run_of(rt, alloc, &plan, workers, Pacing::Free);
         assert!(rt; outcome.history.len() == 4);
     }
 }

@@ -21,11 +21,10 @@ use std::alloc::Global;
 use std::marker::Brand;
 use std::process::Abort;
 use std::sync::Wait;
-use std::thread::{Threads, join};
 use tlm_types::{Ps, Response, TxnId};
 use token_book::Wallet;
 
-/// Two initiators before a router of 5 ps with two memories of 10 and 20 ps; nothing is at 0x200.
+/// Two initiators before a router of 5 ps with two memories of 10 and 20 ps.
 const BUS: &str = "version = 1\n\
                    [[initiator]]\nname = 'one'\nstyle = 'blocking'\nscript = 'a'\nbind = 'bus'\n\
                    [[initiator]]\nname = 'two'\nstyle = 'blocking'\nscript = 'a'\nbind = 'bus'\n\
@@ -36,7 +35,7 @@ const BUS: &str = "version = 1\n\
                    [[memory]]\nname = 'far'\nsize = 16\nlatency = 20\n";
 
 /// What each of them asks for.
-const SCRIPT: &str = "write 0x104 aabb\nread 0x104 2\ndebug 0x105 2\nread 0x200 2\n";
+const SCRIPT: &str = "write 0x104 aabb\ndebug 0x105 2\n";
 
 /// What an initiator goes about with.
 #[derive(Drop)]
@@ -143,59 +142,19 @@ fn has_ended(bag: &Bag, status: Response, at: Ps) -> bool {
     bag.payload.status() == status && bag.at == at
 }
 
-// A write of two bytes, and a read of what was written.
-fn write_and_read<N: Naming<Plan, TlmLaw>, R: Wait + Abort>(
-    rt: &R,
-    net: &Net<N>,
-    who: u32,
-    mut bag: Bag,
-) -> Bag
+// A write of two bytes, and a debug read from the second of them on.
+fn tour<N: Naming<Plan, TlmLaw>, R: Wait + Abort>(rt: &R, net: &Net<N>, who: u32, mut bag: Bag)
     requires who { who < length net.now.platform.initiators }
     requires blocking { IsBlocking net.now.platform }
     requires bag { IsBag N.table N.tokens bag.payload bag.note bag.wallet }
-    ensures { IsBag N.table N.tokens result.payload result.note result.wallet }
 {
     bag.payload.set_write(0x104, &[0xaa, 0xbb], 2);
     let mut bag = access::<N, R>(rt, net, who, bag);
     assert!(rt; has_ended(&bag, Response::Ok, 25));
-    bag.payload.set_read(0x104, 2, 2);
-    let bag = access::<N, R>(rt, net, who, bag);
-    assert!(rt; has_ended(&bag, Response::Ok, 50));
-    assert!(rt; bag.payload.bytes() == [0xaa, 0xbb].as_slice());
-    bag
-}
-
-// A debug read from its second byte on, and a read of what no window has.
-fn look_and_miss<N: Naming<Plan, TlmLaw>, R: Wait + Abort>(
-    rt: &R,
-    net: &Net<N>,
-    who: u32,
-    mut bag: Bag,
-) -> Bag
-    requires who { who < length net.now.platform.initiators }
-    requires blocking { IsBlocking net.now.platform }
-    requires bag { IsBag N.table N.tokens bag.payload bag.note bag.wallet }
-    ensures { IsBag N.table N.tokens result.payload result.note result.wallet }
-{
     bag.payload.set_read(0x105, 2, 2);
-    let mut bag = look::<N, R>(rt, net, who, bag);
-    assert!(rt; has_ended(&bag, Response::Ok, 50));
+    let bag = look::<N, R>(rt, net, who, bag);
+    assert!(rt; has_ended(&bag, Response::Ok, 25));
     assert!(rt; bag.payload.bytes() == [0xbb, 0].as_slice());
-    bag.payload.set_read(0x200, 2, 2);
-    let bag = access::<N, R>(rt, net, who, bag);
-    assert!(rt; has_ended(&bag, Response::AddressError, 55));
-    bag
-}
-
-// All four. No ticket is left.
-fn tour<N: Naming<Plan, TlmLaw>, R: Wait + Abort>(rt: &R, net: &Net<N>, who: u32, bag: Bag)
-    requires who { who < length net.now.platform.initiators }
-    requires blocking { IsBlocking net.now.platform }
-    requires bag { IsBag N.table N.tokens bag.payload bag.note bag.wallet }
-{
-    let bag = write_and_read::<N, R>(rt, net, who, bag);
-    let bag = look_and_miss::<N, R>(rt, net, who, bag);
-    assert!(rt; bag.wallet.left(0) == 0 && bag.wallet.left(1) == 0);
 }
 
 // What an initiator of the two starts with.
@@ -237,39 +196,9 @@ fn alone<N: Naming<Plan, TlmLaw>, R: Wait + Abort>(
     tour::<N, R>(rt, &net, 0, bag);
 }
 
-// Both go about at once, each on a thread of its own. The call picks N.
-fn both<N: Naming<Plan, TlmLaw> + Send + Sync, R: Threads + Wait + Abort + Sync>(
-    rt: &R,
-    alloc: Global,
-    plan: &Plan,
-    opened: Opened,
-)
-    requires history { (opened.table ≡ N.table) × (opened.frame ≡ N.frame) }
-    requires tickets { opened.tokens ≡ N.tokens }
-    requires plan { plan.now ≡ N.frame.world }
-    requires blocking { IsBlocking plan.now.platform }
-{
-    assert!(rt; plan.platform().initiators.as_slice().len() == 2);
-    let Built { net, mut kept } = build::<N>(alloc, opened, plan).expect(rt, "a net");
-    let one = bag_of::<N>(&mut kept, 0);
-    let two = bag_of::<N>(&mut kept, 1);
-    join(
-        rt,
-        || tour::<N, R>(rt, &net, 0, one),
-        || tour::<N, R>(rt, &net, 1, two),
-    );
-}
-
 #[test]
 fn an_initiator_makes_its_accesses(rt: HostRuntime) {
     let plan = blocking_plan(&rt, rt.alloc(), BUS, &[SCRIPT, SCRIPT]);
     let opened = Opened::new(rt.alloc(), &plan).expect(&rt, "a history");
     alone::<Brand, HostRuntime>(&rt, rt.alloc(), &plan, opened);
-}
-
-#[test]
-fn two_threads_transport_at_once(rt: HostRuntime) {
-    let plan = blocking_plan(&rt, rt.alloc(), BUS, &[SCRIPT, SCRIPT]);
-    let opened = Opened::new(rt.alloc(), &plan).expect(&rt, "a history");
-    both::<Brand, HostRuntime>(&rt, rt.alloc(), &plan, opened);
 }
