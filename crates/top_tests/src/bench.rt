@@ -1,5 +1,6 @@
 // Calls of the top call over files and sinks in memory.
-use outside::{FailingWrite, MapLibrary, NamedFile, NoPace, Pace, VecSink};
+use crate::paces::Pacing;
+use outside::{FailingWrite, MapLibrary, NamedFile, VecSink};
 use std::alloc::Global;
 use std::process::Abort;
 use std::sync::Wait;
@@ -59,17 +60,17 @@ pub fn library(
 }
 
 /// A call with these words over a library and two sinks.
-pub fn call_over<R: AllocGlobal + Threads + Wait + Abort + Sync, P: Pace + Sync>(
+pub fn call_over<R: AllocGlobal + Threads + Wait + Abort + Sync>(
     rt: &R,
     words: &str,
     mut lib: MapLibrary,
     mut out: VecSink,
     mut diag: VecSink,
-    pace: &P,
+    pace: Pacing<'_>,
 ) -> Came {
     let alloc = rt.alloc();
     let words = words_of(rt, alloc, words);
-    let exit = run(rt, alloc, &words, &mut lib, &mut out, &mut diag, pace);
+    let exit = run(rt, alloc, &words, &mut lib, &mut out, &mut diag, &pace);
     Came {
         number: exit.number(),
         loads: lib.loads(),
@@ -79,12 +80,12 @@ pub fn call_over<R: AllocGlobal + Threads + Wait + Abort + Sync, P: Pace + Sync>
 }
 
 /// The same, where these writes of the report fail, and none of the line.
-pub fn call<R: AllocGlobal + Threads + Wait + Abort + Sync, P: Pace + Sync>(
+pub fn call<R: AllocGlobal + Threads + Wait + Abort + Sync>(
     rt: &R,
     words: &str,
     lib: MapLibrary,
     failing: Vec<FailingWrite>,
-    pace: &P,
+    pace: Pacing<'_>,
 ) -> Came {
     let alloc = rt.alloc();
     let out = VecSink::new(alloc, failing);
@@ -99,7 +100,7 @@ pub fn calm<R: AllocGlobal + Threads + Wait + Abort + Sync>(
     files: &[(&str, &str)],
 ) -> Came {
     let lib = library(rt, rt.alloc(), files, &[]);
-    call(rt, words, lib, Vec::new(rt.alloc()), &NoPace)
+    call(rt, words, lib, Vec::new(rt.alloc()), Pacing::Free)
 }
 
 /// A sink whose write of this number fails after it took some bytes.
@@ -115,15 +116,16 @@ pub fn check(rt: &impl Abort, came: &Came, number: u8, out: &str, diag: &str) {
     assert!(rt; came.diag.bytes() == diag.as_bytes());
 }
 
-/// Where the load of this number fails, the answer has this line, and nothing is loaded after it.
+/// Where the load of this number fails, the answer to these words has this line, and nothing is loaded after it.
 pub fn fails_at_load<R: AllocGlobal + Threads + Wait + Abort + Sync>(
     rt: &R,
+    words: &str,
     files: &[(&str, &str)],
     load: u64,
     line: &str,
 ) {
     let lib = library(rt, rt.alloc(), files, &[load]);
-    let came = call(rt, "run p.toml", lib, Vec::new(rt.alloc()), &NoPace);
+    let came = call(rt, words, lib, Vec::new(rt.alloc()), Pacing::Free);
     check(rt, &came, 4, "", line);
     assert!(rt; came.loads == load.saturating_add(1));
 }

@@ -33,17 +33,8 @@ memory ram 256
 end 4
 ";
 
-// A grant is of the whole memory, and an access by it takes the latency of the whole way.
-#[test]
-fn accesses_go_by_a_grant(rt: HostRuntime) {
-    let script = "write 0x100 aa\nread 0x100 1\nread 0x17f 1\n";
-    let files = [("p.toml", BUS), ("d.txt", script)];
-    answer(&rt, "run p.toml --workers 1", &files, 0, BUS_REPORT, "");
-    answer(&rt, "run p.toml --workers 4", &files, 0, BUS_REPORT, "");
-}
-
 /// A direct initiator on a memory that gives two grants.
-const LONE: &str = "version = 1
+pub const LONE: &str = "version = 1
 [[initiator]]
 name = 'd'
 style = 'direct'
@@ -56,14 +47,9 @@ latency = 10
 gates = 2
 ";
 
-/// Its script, of two grants with an invalidation between them, as a file beside the platform's.
-pub static LONE_FILES: [(&str, &str); 2] = [
-    ("p.toml", LONE),
-    (
-        "d.txt",
-        "write 0x0 aa\nread 0x0 1\ninvalidate 0x80 0x80\nread 0x0 1\nread 0x0 1\n",
-    ),
-];
+/// Its script, of two grants with an invalidation between them.
+pub const LONE_SCRIPT: &str =
+    "write 0x0 aa\nread 0x0 1\ninvalidate 0x80 0x80\nread 0x0 1\nread 0x0 1\n";
 
 /// The report of its run.
 pub const LONE_REPORT: &str = "tlm-report 1
@@ -80,15 +66,6 @@ memory ram 256
 00000000 aa000000000000000000000000000000
 end 8
 ";
-
-// An invalidation ends a grant that it overlaps, which is then found stale.
-#[test]
-fn an_invalidation_ends_a_grant(rt: HostRuntime) {
-    let words = "run p.toml --workers 1";
-    answer(&rt, words, &LONE_FILES, 0, LONE_REPORT, "");
-    let words = "run p.toml --workers 4";
-    answer(&rt, words, &LONE_FILES, 0, LONE_REPORT, "");
-}
 
 /// A direct initiator on a memory that has no grants, and on one that has one, of reads alone.
 const DENIED: &str = "version = 1
@@ -140,13 +117,40 @@ memory rom 16
 end 9
 ";
 
+// Words, a platform, the scripts of `d` and of `e`, and the report of the run. A grant is of the whole memory, and an
+// access by it takes the latency of the whole way. An invalidation ends a grant that it overlaps, which is then found stale.
 // Where a memory gives no grants, or none of this kind, or none any more, and where an access isn't plain, it goes by
 // transport. The gates of all memories have numbers of their own.
+static RUNS: [(&str, &str, &str, &str, &str); 5] = [
+    (
+        "run p.toml --workers 1",
+        BUS,
+        "write 0x100 aa\nread 0x100 1\nread 0x17f 1\n",
+        "",
+        BUS_REPORT,
+    ),
+    (
+        "run p.toml --workers 4",
+        BUS,
+        "write 0x100 aa\nread 0x100 1\nread 0x17f 1\n",
+        "",
+        BUS_REPORT,
+    ),
+    ("run p.toml --workers 1", LONE, LONE_SCRIPT, "", LONE_REPORT),
+    ("run p.toml --workers 4", LONE, LONE_SCRIPT, "", LONE_REPORT),
+    (
+        "run p.toml --workers 1",
+        DENIED,
+        "read 0x0 1\nread 0x0 1\nread 0x10 1\nread 0x11 1\nread 0x11 1 be=ff\nwrite 0x11 aa\n",
+        "wait 0\nwait 0\nwait 0\nwait 0\nwait 0\nwait 0\nread 0x10 1\nread 0x10 1\n",
+        DENIED_REPORT,
+    ),
+];
+
 #[test]
-fn accesses_without_a_grant_go_by_transport(rt: HostRuntime) {
-    let first =
-        "read 0x0 1\nread 0x0 1\nread 0x10 1\nread 0x11 1\nread 0x11 1 be=ff\nwrite 0x11 aa\n";
-    let second = "wait 0\nwait 0\nwait 0\nwait 0\nwait 0\nwait 0\nread 0x10 1\nread 0x10 1\n";
-    let files = [("p.toml", DENIED), ("d.txt", first), ("e.txt", second)];
-    answer(&rt, "run p.toml --workers 1", &files, 0, DENIED_REPORT, "");
+fn accesses_go_by_grants_that_hold(rt: HostRuntime) {
+    for &(words, platform, first, second, report) in &RUNS {
+        let files = [("p.toml", platform), ("d.txt", first), ("e.txt", second)];
+        answer(&rt, words, &files, 0, report, "");
+    }
 }

@@ -1,17 +1,18 @@
 // Words, loads and writes that fail.
-use crate::bench::{
-    Came, answer, call, call_over, calm, check, failing_sink, fails_at_load, library,
-};
-use crate::direct::{LONE_FILES, LONE_REPORT};
-use outside::{FailingWrite, NoPace, VecSink};
+use crate::bench::{Came, answer, call, call_over, check, failing_sink, fails_at_load, library};
+use crate::direct::{LONE, LONE_REPORT, LONE_SCRIPT};
+use crate::paces::Pacing;
+use outside::{FailingWrite, VecSink};
 use std::process::Abort;
 use std::sync::Wait;
 use std::thread::Threads;
 
-static FILES: [(&str, &str); 3] = [
+static FILES: [(&str, &str); 5] = [
     ("a.txt", "write 0x10 deadbeef\nread 0x10 4\n"),
     ("b.txt", "syncs\n"),
     ("q.toml", ""),
+    ("p.toml", LONE),
+    ("d.txt", LONE_SCRIPT),
 ];
 
 const USAGE: &str =
@@ -33,18 +34,12 @@ fn other_words_are_refused(rt: HostRuntime) {
     }
 }
 
-#[test]
-fn loads_may_fail(rt: HostRuntime) {
-    let lib = library(&rt, rt.alloc(), &FILES, &[0]);
-    let came = call(&rt, "script a.txt", lib, Vec::new(rt.alloc()), &NoPace);
-    check(&rt, &came, 4, "", "read fault: a.txt\n");
-}
-
-// The platform of a direct initiator, and then its script.
+// A script; and the platform of a direct initiator, and then its script.
 #[test]
 fn each_load_may_fail(rt: HostRuntime) {
-    fails_at_load(&rt, &LONE_FILES, 0, "read fault: p.toml\n");
-    fails_at_load(&rt, &LONE_FILES, 1, "read fault: d.txt\n");
+    fails_at_load(&rt, "script a.txt", &FILES, 0, "read fault: a.txt\n");
+    fails_at_load(&rt, "run p.toml", &FILES, 0, "read fault: p.toml\n");
+    fails_at_load(&rt, "run p.toml", &FILES, 1, "read fault: d.txt\n");
 }
 
 #[test]
@@ -52,7 +47,7 @@ fn writes_may_fail(rt: HostRuntime) {
     let third = FailingWrite { write: 2, takes: 0 };
     let failing = vec![in rt.alloc(); third].expect(&rt, "room");
     let lib = library(&rt, rt.alloc(), &FILES, &[]);
-    let came = call(&rt, "script a.txt", lib, failing, &NoPace);
+    let came = call(&rt, "script a.txt", lib, failing, Pacing::Free);
     let lines = "tlm-report 1\n0 0 cpu.0 ram blocking write 0x10 4 be=- sw=4 deadbeef ok\n";
     check(&rt, &came, 5, lines, "write fault\n");
 }
@@ -63,8 +58,8 @@ fn run_lone<R: AllocGlobal + Threads + Wait + Abort + Sync>(
     out: VecSink,
     diag: VecSink,
 ) -> Came {
-    let lib = library(rt, rt.alloc(), &LONE_FILES, &[]);
-    call_over(rt, "run p.toml", lib, out, diag, &NoPace)
+    let lib = library(rt, rt.alloc(), &FILES, &[]);
+    call_over(rt, "run p.toml", lib, out, diag, Pacing::Free)
 }
 
 // Where the write of this number fails after it took some bytes, just these bytes of the report are taken.
@@ -94,16 +89,8 @@ fn each_write_may_fail(rt: HostRuntime) {
     assert!(rt; before == LONE_REPORT.len());
 }
 
-// There are as many writes as lines.
-#[test]
-fn a_report_is_written_line_by_line(rt: HostRuntime) {
-    let came = calm(&rt, "run p.toml", &LONE_FILES);
-    check(&rt, &came, 0, LONE_REPORT, "");
-    assert!(rt; came.out.writes() == LONE_REPORT.lines().count() as u64);
-}
-
-// Words, the number of their answer, and its line.
-static LINES: [(&str, u8, &str); 5] = [
+// Words, the number of their answer where their report can't be written, and its line.
+static LINES: [(&str, u8, &str); 6] = [
     ("", 1, USAGE),
     (
         "run q.toml",
@@ -117,18 +104,10 @@ static LINES: [(&str, u8, &str); 5] = [
     ),
     ("run none", 4, "read fault: none\n"),
     ("script none", 4, "read fault: none\n"),
+    ("run p.toml", 5, "write fault\n"),
 ];
 
-// What came is this number and nothing of a report, and the line is cut short.
-fn check_cut(rt: &impl Abort, came: &Came, number: u8, line: &str) {
-    assert!(rt; came.number == number, "not the answer {number}: {line}");
-    assert!(rt; came.out.bytes().is_empty());
-    let taken = came.diag.bytes();
-    assert!(rt; taken.len() < line.len() && line.as_bytes().starts_with(taken));
-    assert!(rt; came.diag.faults() == 1);
-}
-
-// Where a write of the line fails, the answer is still this one.
+// Where a write of the line fails, the answer is still this one. A report, where there is one, is lost.
 fn expect_cut<R: AllocGlobal + Threads + Wait + Abort + Sync>(
     rt: &R,
     words: &str,
@@ -138,34 +117,20 @@ fn expect_cut<R: AllocGlobal + Threads + Wait + Abort + Sync>(
 ) {
     let alloc = rt.alloc();
     let lib = library(rt, alloc, &FILES, &[]);
-    let out = VecSink::new(alloc, Vec::new(alloc));
+    let out = failing_sink(rt, alloc, 0, 0);
     let diag = failing_sink(rt, alloc, 0, takes);
-    let came = call_over(rt, words, lib, out, diag, &NoPace);
-    check_cut(rt, &came, number, line);
-    assert!(rt; came.diag.bytes().len() == takes);
+    let came = call_over(rt, words, lib, out, diag, Pacing::Free);
+    let taken = line.get(..takes).expect(rt, "a prefix");
+    check(rt, &came, number, "", taken);
+    assert!(rt; came.diag.faults() == 1);
 }
 
 #[test]
 fn a_lost_line_changes_no_answer(rt: HostRuntime) {
     for &(words, number, line) in &LINES {
-        expect_cut(&rt, words, number, line, 0);
-        expect_cut(&rt, words, number, line, 1);
-    }
-}
-
-// A report that is cut short, and then its line too: that is still a write fault.
-fn expect_both_cut<R: AllocGlobal + Threads + Wait + Abort + Sync>(rt: &R, takes: usize) {
-    let alloc = rt.alloc();
-    let out = failing_sink(rt, alloc, 0, 0);
-    let came = run_lone(rt, out, failing_sink(rt, alloc, 0, takes));
-    check_cut(rt, &came, 5, "write fault\n");
-    assert!(rt; came.diag.bytes().len() == takes);
-}
-
-#[test]
-fn a_lost_line_changes_no_write_fault(rt: HostRuntime) {
-    for &takes in &[0, 1, 11] {
-        expect_both_cut(&rt, takes);
+        for takes in [0, 1, 11] {
+            expect_cut(&rt, words, number, line, takes);
+        }
     }
 }
 

@@ -19,6 +19,8 @@ mod limits;
 #[cfg(test)]
 mod loads;
 #[cfg(test)]
+mod paces;
+#[cfg(test)]
 mod platforms;
 #[cfg(test)]
 mod refusals;

@@ -1,9 +1,5 @@
 // Runs at the limits of a platform and its scripts.
 use crate::bench::{answer, text_of};
-use std::alloc::Global;
-use std::process::Abort;
-use std::sync::Wait;
-use std::thread::Threads;
 
 // Ten initiators that read a memory of 10 ps, far ahead of one another. Their accesses are all that a history holds.
 const TEN: &str = "version = 1
@@ -43,28 +39,6 @@ end 1000000
 ";
 
 const READS: &str = "repeat 100000\nread 0x0 1\nend\n";
-
-#[test]
-fn a_million_accesses_are_made(rt: HostRuntime) {
-    let files = [("p.toml", TEN), ("a.txt", READS)];
-    answer(&rt, "run p.toml --trace none", &files, 0, TEN_REPORT, "");
-}
-
-// One access more is one too many.
-#[test]
-fn no_more_accesses_are_planned(rt: HostRuntime) {
-    let more = "{ name = 'one', style = 'blocking', script = 'b.txt', bind = 'ram' },";
-    let text = TEN
-        .replacen(rt.alloc(), "#more", more, 1)
-        .expect(&rt, "room");
-    let files = [
-        ("p.toml", text.as_str()),
-        ("a.txt", READS),
-        ("b.txt", "read 0x0 1\n"),
-    ];
-    let line = "platform refused: too_many_entries platform -\n";
-    answer(&rt, "run p.toml --trace none", &files, 2, "", line);
-}
 
 // Four memories that have all bytes that a platform may have.
 const FULL: &str = "version = 1
@@ -107,29 +81,89 @@ memory m3 16777216
 end 1
 ";
 
-#[test]
-fn memories_may_have_so_many_bytes(rt: HostRuntime) {
-    let files = [("p.toml", FULL), ("a.txt", "write 0x3ffffff aa\n")];
-    answer(&rt, "run p.toml", &files, 0, FULL_REPORT, "");
+// One initiator more, and one window more with what stands behind it.
+const ONE_MORE: &str = "{ name = 'one', style = 'blocking', script = 'b.txt', bind = 'ram' },";
+
+const WINDOW: &str = "{ first = 0x4000000, last = 0x4000000, to = 'm4' },";
+
+const ONE_BYTE: &str = "[[memory]]\nname = 'm4'\nsize = 1\n";
+
+// Words, a platform, what is put in the place of what there, what stands behind it, a script, and the number, the report and
+// the line of the answer.
+struct Run {
+    words: &'static str,
+    platform: &'static str,
+    old: &'static str,
+    new: &'static str,
+    more: &'static str,
+    script: &'static str,
+    number: u8,
+    out: &'static str,
+    diag: &'static str,
 }
 
-// The same with a fifth memory, of one byte, to which a window leads.
-fn with_one_byte(rt: &impl Abort, alloc: Global) -> String {
-    let window = "{ first = 0x4000000, last = 0x4000000, to = 'm4' },";
-    let text = FULL
-        .replacen(alloc, "#window", window, 1)
-        .expect(rt, "room");
-    text_of(
-        rt,
-        alloc,
-        &[text.as_str(), "[[memory]]\nname = 'm4'\nsize = 1\n"],
-    )
-}
+// Each limit is reached, and then passed by one.
+static RUNS: [Run; 4] = [
+    Run {
+        words: "run p.toml --trace none",
+        platform: TEN,
+        old: "#more",
+        new: "",
+        more: "",
+        script: READS,
+        number: 0,
+        out: TEN_REPORT,
+        diag: "",
+    },
+    Run {
+        words: "run p.toml --trace none",
+        platform: TEN,
+        old: "#more",
+        new: ONE_MORE,
+        more: "",
+        script: READS,
+        number: 2,
+        out: "",
+        diag: "platform refused: too_many_entries platform -\n",
+    },
+    Run {
+        words: "run p.toml",
+        platform: FULL,
+        old: "#window",
+        new: "",
+        more: "",
+        script: "write 0x3ffffff aa\n",
+        number: 0,
+        out: FULL_REPORT,
+        diag: "",
+    },
+    Run {
+        words: "run p.toml",
+        platform: FULL,
+        old: "#window",
+        new: WINDOW,
+        more: ONE_BYTE,
+        script: "",
+        number: 2,
+        out: "",
+        diag: "platform refused: too_much_memory platform memory\n",
+    },
+];
 
 #[test]
-fn one_byte_more_is_refused(rt: HostRuntime) {
-    let text = with_one_byte(&rt, rt.alloc());
-    let files = [("p.toml", text.as_str()), ("a.txt", "")];
-    let line = "platform refused: too_much_memory platform memory\n";
-    answer(&rt, "run p.toml", &files, 2, "", line);
+fn limits_are_reached_and_not_passed(rt: HostRuntime) {
+    let alloc = rt.alloc();
+    for run in &RUNS {
+        let text = run
+            .platform
+            .replacen(alloc, run.old, run.new, 1)
+            .expect(&rt, "room");
+        let file = text_of(&rt, alloc, &[text.as_str(), run.more]);
+        let files = [
+            ("p.toml", file.as_str()),
+            ("a.txt", run.script),
+            ("b.txt", "read 0x0 1\n"),
+        ];
+        answer(&rt, run.words, &files, run.number, run.out, run.diag);
+    }
 }

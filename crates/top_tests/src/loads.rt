@@ -52,7 +52,7 @@ fn each_file_is_loaded_as_often_as_it_is_named(rt: HostRuntime) {
 #[test]
 fn files_are_loaded_in_order(rt: HostRuntime) {
     for (load, line) in FAULTS.iter().enumerate() {
-        fails_at_load(&rt, &FILES, load as u64, line);
+        fails_at_load(&rt, "run p.toml", &FILES, load as u64, line);
     }
 }
 

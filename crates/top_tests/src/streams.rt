@@ -2,8 +2,8 @@
 ghost use Rattle.std.specs.Prelude.{false};
 
 use crate::bench::{library, words_of};
-use outside::{MapLibrary, NoPace, Stream, StreamSink};
-use std::alloc::Global;
+use crate::paces::Pacing;
+use outside::{MapLibrary, Stream, StreamSink};
 use std::io;
 use std::io::Write;
 use std::process::Abort;
@@ -29,7 +29,15 @@ fn serve_over<R: AllocGlobal + Threads + Wait + Abort + Sync, O: Stream + Drop>(
     let words = words_of(rt, alloc, words);
     let mut out = StreamSink::new(alloc, out).expect(rt, "room");
     let mut diag = StreamSink::new(alloc, Vec::new(alloc)).expect(rt, "room");
-    let exit = serve(rt, alloc, &words, &mut lib, &mut out, &mut diag, &NoPace);
+    let exit = serve(
+        rt,
+        alloc,
+        &words,
+        &mut lib,
+        &mut out,
+        &mut diag,
+        &Pacing::Free,
+    );
     Served {
         number: exit.number(),
         out: out.into_inner(),
@@ -111,20 +119,6 @@ fn streams_hold_the_report_or_the_line(rt: HostRuntime) {
     for &(words, number, out, diag) in &ANSWERS {
         expect_streams(&rt, &FILES, words, number, out, diag);
     }
-}
-
-#[test]
-fn a_file_too_long_is_told_on_the_stream(rt: HostRuntime) {
-    let feeds = vec![in rt.alloc(); b'\n'; 4_194_305].expect(&rt, "room");
-    let text = str::from_utf8(&feeds).expect(&rt, "a text");
-    expect_streams(
-        &rt,
-        &[("a.txt", text)],
-        "script a.txt",
-        7,
-        "",
-        "too long: a.txt\n",
-    );
 }
 
 // A stream that takes all, and whose flush fails.

@@ -1,10 +1,9 @@
 // Runs by two worker threads.
 use crate::bench::{Came, call, calm, library, text_of};
-use outside::Pace;
+use crate::paces::{Holding, Pacing};
 use std::alloc::Global;
 use std::process::Abort;
 use std::sync::Wait;
-use std::sync::atomic::{AtomicU64, Ordering};
 use std::thread::Threads;
 
 // Two initiators that raise one counter far ahead of one another.
@@ -70,106 +69,27 @@ fn two_initiators_raise_one_counter(rt: HostRuntime) {
     expect_counter(&rt, str::from_utf8(came.out.bytes()).expect(&rt, "a text"));
 }
 
-// How often a held initiator looks whether it may go on.
-const LOOKS: u32 = 1_000_000_000;
-
-// Holds an initiator before its first access until the other one has announced its second.
-#[derive(Drop)]
-struct Holding {
-    held: u32,
-    announced: AtomicU64,
-    gave_up: AtomicU64,
-}
-
-impl Holding {
-    fn of(held: u32) -> Holding {
-        Holding {
-            held,
-            announced: AtomicU64::new(0),
-            gave_up: AtomicU64::new(0),
-        }
-    }
-
-    fn hold(&self) {
-        for _look in 0..LOOKS {
-            if self.announced.load(Ordering::SeqCst) == 1 {
-                return;
-            }
-        }
-        self.gave_up.store(1, Ordering::SeqCst);
-    }
-}
-
-impl Pace for Holding {
-    fn before(&self, initiator: u32, seq: u64) {
-        if initiator != self.held && seq == 1 {
-            self.announced.store(1, Ordering::SeqCst);
-        }
-        if initiator == self.held && seq == 0 {
-            self.hold();
-        }
-    }
-}
-
-// Two initiators on one memory that run far ahead of one another.
-const TWO: &str = "version = 1
-quantum = 1000000
-[[initiator]]
-name = 'one'
-style = 'blocking'
-script = 'one.txt'
-bind = 'ram'
-[[initiator]]
-name = 'two'
-style = 'blocking'
-script = 'two.txt'
-bind = 'ram'
-[[memory]]
-name = 'ram'
-size = 16
-";
-
-static TWO_FILES: [(&str, &str); 3] = [
-    ("p.toml", TWO),
-    ("one.txt", "write 0x0 aa\nfence\nread 0x1 1\n"),
-    ("two.txt", "write 0x1 bb\nfence\nread 0x0 1\n"),
-];
-
-// What comes of two workers with this initiator held, which isn't held in vain.
+// What comes of two workers with this initiator held until the other one is at this access. It isn't held in vain.
 fn held_run<R: AllocGlobal + Threads + Wait + Abort + Sync>(
     rt: &R,
     files: &[(&str, &str)],
     held: u32,
+    enough: u64,
 ) -> Came {
-    let pace = Holding::of(held);
+    let pace = Holding::of(held, enough);
     let lib = library(rt, rt.alloc(), files, &[]);
     let came = call(
         rt,
         "run p.toml --workers 2",
         lib,
         Vec::new(rt.alloc()),
-        &pace,
+        Pacing::Holding(&pace),
     );
-    assert!(rt; came.number == 0 && pace.gave_up.load(Ordering::SeqCst) == 0);
+    assert!(rt; came.number == 0 && pace.gave_up() == 0);
     came
 }
 
-// With this initiator held, the other one's first access comes first, and there are four.
-fn expect_first<R: AllocGlobal + Threads + Wait + Abort + Sync>(rt: &R, held: u32, entry: &str) {
-    let came = held_run(rt, &TWO_FILES, held);
-    let report = str::from_utf8(came.out.bytes()).expect(rt, "a text");
-    assert!(rt; report.lines().nth(1) == Some(entry));
-    assert!(rt; report.ends_with("\nend 4\n"));
-}
-
-// With two workers, each initiator can be held while the other one goes on.
-#[test]
-fn two_at_once(rt: HostRuntime) {
-    expect_first(&rt, 0, "0 0 two.0 ram blocking write 0x1 1 be=- sw=1 bb ok");
-    expect_first(&rt, 1, "0 0 one.0 ram blocking write 0x0 1 be=- sw=1 aa ok");
-}
-
-// The same two, of which the second has this style.
+// Two initiators on one memory that run far ahead of one another. The second has this style.
 fn mixed(rt: &impl Abort, alloc: Global, style: &str) -> String {
     let parts = [
         "version = 1\nquantum = 1000000\n",
@@ -195,7 +115,7 @@ fn expect_accesses<R: AllocGlobal + Threads + Wait + Abort + Sync>(
         ("one.txt", "write 0x0 aa\nfence\nread 0x1 1\n"),
         ("two.txt", "write 0x1 bb\nfence\nread 0x0 1\n"),
     ];
-    let came = held_run(rt, &files, held);
+    let came = held_run(rt, &files, held, 1);
     let report = str::from_utf8(came.out.bytes()).expect(rt, "a text");
     let mut lines = report.lines();
     for text in texts {
@@ -222,4 +142,46 @@ fn two_styles_at_once(rt: HostRuntime) {
         expect_accesses(&rt, platform.as_str(), 0, [other, blocking], end);
         expect_accesses(&rt, platform.as_str(), 1, [blocking, other], end);
     }
+}
+
+// A direct initiator that reads by a grant, and one that invalidates it, far ahead of one another.
+const GRANTED: &str = "version = 1
+quantum = 1000000
+[[initiator]]
+name = 'user'
+style = 'direct'
+script = 'user.txt'
+bind = 'ram'
+[[initiator]]
+name = 'ender'
+style = 'blocking'
+script = 'ender.txt'
+bind = 'ram'
+[[memory]]
+name = 'ram'
+size = 16
+gates = 1
+";
+
+// Direct accesses come before the closing of their gate, and none after it.
+fn expect_closing(rt: &impl Abort, report: &str) {
+    let mut lines = report.lines();
+    assert!(rt; lines.any(|line| line.contains(" direct:0 ")));
+    assert!(rt; lines.any(|line| line.ends_with(" closed 0")));
+    assert!(rt; lines.all(|line| !line.contains(" direct:0 ")));
+}
+
+// One worker makes direct accesses while another one invalidates. Beside all accesses there are the grant, the
+// invalidation and the closing.
+#[test]
+fn no_direct_access_comes_after_a_closing(rt: HostRuntime) {
+    let files = [
+        ("p.toml", GRANTED),
+        ("user.txt", "repeat 2000\nread 0x0 4\nend\n"),
+        ("ender.txt", "read 0x8 1\ninvalidate 0xf 1\n"),
+    ];
+    let came = held_run(&rt, &files, 1, 50);
+    let report = str::from_utf8(came.out.bytes()).expect(&rt, "a text");
+    expect_closing(&rt, report);
+    assert!(rt; report.ends_with("\nend 2004\n"));
 }
