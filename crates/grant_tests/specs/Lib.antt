@@ -1,2 +1,0 @@
-pub mod Bag
-pub mod Seats
