@@ -1,7 +1,7 @@
 // A payload, and what it asks of a memory.
 ghost use Rattle.std.specs.Prelude.{◌≡◌, ◌≢◌, ◌↔◌, ◌+◌, ◌<◌, ◌≤◌, [], ◌++◌, length, take, drop, IsTrue, IfOk, true, false, vec_len, vec_capacity};
 ghost use Rattle.std.specs.List.{list_all};
-ghost use Rattle.generic_payload.specs.Payload.{PayloadView, new_payload, access_of, moved_by, HasPlaces, HasWord};
+ghost use Rattle.generic_payload.specs.Payload.{PayloadView, new_payload, viewed, access_of, moved_by, HasPlaces, HasWord};
 ghost use Rattle.tlm_types.specs.Enables.{is_enable};
 ghost use Rattle.tlm_model.specs.Numbers.{le_bytes};
 ghost use Rattle.tlm_model.specs.Store.{zeros, span_of, is_allowed, checked, status_by, stored_by, got_by};
@@ -29,6 +29,28 @@ struct Attributes {
     status: Response,
     hint: bool,
     room: u32,
+}
+
+impl Attributes {
+    // Makes them those of this command, without data and enables.
+    #[inline(always)]
+    fn begin(&mut self, command: Command, address: u64, width: u64)
+        ensures view { viewed self.new ≡ record (new_payload self.old.room) {
+          command = command;
+          address = address;
+          width = width;
+        } }
+        ensures bytes { vec_capacity self.old.bytes ≤ vec_capacity self.new.bytes }
+        ensures enables { vec_capacity self.old.enables ≤ vec_capacity self.new.enables }
+    {
+        self.command = command;
+        self.address = address;
+        self.bytes.clear();
+        self.enables.clear();
+        self.width = width;
+        self.status = Response::Incomplete;
+        self.hint = false;
+    }
 }
 
 impl Model for Payload {
@@ -98,11 +120,13 @@ impl Payload {
           width = width;
         } }
     {
-        self.begin(Command::Write, address, width);
-        append(&mut self.attributes.bytes, bytes);
+        let attributes = &mut *self.attributes;
+        attributes.begin(Command::Write, address, width);
+        append(&mut attributes.bytes, bytes);
     }
 
     /// Makes it a read of 1 to `room` bytes into a buffer of zeros, without byte enables.
+    #[inline(always)]
     pub fn set_read(&mut self, address: u64, length: u32, width: u64)
         requires some { 0 < length }
         requires roomy { length ≤ self.old.room }
@@ -113,8 +137,9 @@ impl Payload {
           width = width;
         } }
     {
-        self.begin(Command::Read, address, width);
-        fill(&mut self.attributes.bytes, length as usize);
+        let attributes = &mut *self.attributes;
+        attributes.begin(Command::Read, address, width);
+        fill(&mut attributes.bytes, length as usize);
     }
 
     /// Makes it a fetch_add of this operand: an access of four bytes, without byte enables, whose data
@@ -148,13 +173,7 @@ impl Payload {
           width = width;
         } }
     {
-        self.attributes.command = command;
-        self.set_address(address);
-        self.attributes.bytes.clear();
-        self.attributes.enables.clear();
-        self.attributes.width = width;
-        self.attributes.status = Response::Incomplete;
-        self.attributes.hint = false;
+        self.attributes.begin(command, address, width);
     }
 
     /// Sets the byte enables, at most `room` of them, each 0x00 or 0xff. With m of them element

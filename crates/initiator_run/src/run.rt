@@ -290,7 +290,22 @@ impl InitiatorRun {
     {
         let initiator = self.engine.initiator();
         match plan.route(initiator, transfer.address) {
-            Some(route) => Move::Reached(NextAccess { transfer, route }),
+            Some(route) => {
+                // Moved field by field, it stays in registers where this is inlined.
+                let Transfer {
+                    seq,
+                    address,
+                    length,
+                    kind,
+                } = transfer;
+                let transfer = Transfer {
+                    seq,
+                    address,
+                    length,
+                    kind,
+                };
+                Move::Reached(NextAccess { transfer, route })
+            }
             None => {
                 let latency = plan.latency(initiator, transfer.address);
                 self.refuse(transfer, latency, payload);

@@ -6,7 +6,7 @@ ghost use Rattle.atomic_table.specs.Seated.{TableId};
 ghost use Rattle.token_book.specs.Account.{amount_of, out_of};
 ghost use Rattle.token_book.specs.Ticket.{entry_right, entry_rights, bytes_rights, IsTicket};
 ghost use Rattle.token_book.specs.Pocket.{Pocket, tickets_in, bytes_in, with_token};
-ghost use Rattle.token_book.specs.Purse.{empty_purse, left_of, bytes_of, HasPlace, HasRoom, HasRoomForAll, IsOf, with_more, with_pocket, pocket_of, pulled, pulled_many, put_in};
+ghost use Rattle.token_book.specs.Purse.{empty_purse, left_of, bytes_of, HasPlace, HasRoom, HasRoomForAll, IsOf, with_more, with_pocket, pocket_of, pulled, pulled_many, put_in, AreApart};
 
 use crate::place::ObjectRights;
 use crate::ticket::Ticket;
@@ -35,11 +35,16 @@ impl Model for Places {
     ghost invariant = { λ w. IsPurse w.most w.places };
 }
 
-// The place of an object.
+// The place of an object. Often that of an object stands at its own number.
 fn index_of(places: &[ObjectRights], object: u32) -> Option<usize>
+    requires apart { AreApart places.now }
     ensures found { IfSome result (λ i. (p : Pocket) × (slice_get places.now i ≡ Some (object, p)) × (map.find nat_cmp object places.now ≡ Some p)) }
     ensures none { IfNone result (map.find nat_cmp object places.now ≡ None) }
 {
+    let guess = object as usize;
+    if guess < places.len() && places[guess].object() == object {
+        return Some(guess);
+    }
     for i in 0..places.len() {
         if places[i].object() == object {
             return Some(i);
