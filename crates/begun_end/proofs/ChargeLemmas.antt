@@ -15,7 +15,7 @@ use Rattle.tlm_model.specs.declared.platform.Style.{Style}
 use Rattle.tlm_model.specs.declared.platform.Style.TheVariants.{FourPhase}
 use Rattle.tlm_model.specs.Plan.{Plan, Initiator, initiators_of}
 use Rattle.tlm_model.specs.Route.{hops_of, route_of}
-use Rattle.hop_model.specs.Calls.{is_of}
+use Rattle.flow_model.specs.Calls.{is_of}
 use Rattle.flow_model.specs.World.{IsWorld, Passage, hop_at, hop_count}
 use Rattle.flow_model.specs.Platform.{accessed, addresses_of, passage_by, passage_of, passage_to, world_of}
 use Rattle.flow_law.specs.Counting.{own_count}

@@ -22,9 +22,9 @@ use Rattle.tlm_model.specs.History.{IsNumberedFrom, entries_at, is_object}
 use Rattle.tlm_model.specs.Log.{IsLog}
 use Rattle.tlm_model.specs.Plan.{Plan, initiators_of}
 use Rattle.tlm_model.specs.Route.{greatest_time}
-use Rattle.hop_model.specs.Calls.{has_open_request}
-use Rattle.hop_model.specs.Board.{Reaches, Rules, start}
-use Rattle.hop_model.specs.Protocol.{BeginsOnce}
+use Rattle.flow_model.specs.Calls.{has_open_request}
+use Rattle.flow_model.specs.Board.{Reaches, Rules, start}
+use Rattle.flow_model.specs.Protocol.{BeginsOnce}
 use Rattle.flow_model.specs.Backed.{IsBacked}
 use Rattle.flow_model.specs.Events.{Among, Event, at, entries, hop_log}
 use Rattle.flow_model.specs.Platform.{world_of}

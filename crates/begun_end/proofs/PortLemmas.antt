@@ -24,8 +24,8 @@ use Rattle.flow_model.specs.Events.{Among, Event, entries}
 use Rattle.flow_model.specs.Platform.{passage_of, world_of}
 use Rattle.flow_law.specs.Counting.{own_count}
 use Rattle.flow_law.proofs.More.{end_more}
-use Rattle.flow_plan.specs.Valid.{HasNoCycle}
-use Rattle.flow_plan.proofs.Ways.{world_law}
+use Rattle.flow_law.specs.Valid.{HasNoCycle}
+use Rattle.flow_law.proofs.Ways.{world_law}
 use Rattle.route_plan.specs.Counted.{share_at}
 use Rattle.joined_traffic.specs.Accesses.{numbers_by, sum_below, txn_of}
 use Rattle.joined_traffic.specs.Issued.{Before, EndsBefore, HasWaited, IsIssued, IsMadeFor, issued_at}

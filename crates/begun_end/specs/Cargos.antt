@@ -11,7 +11,7 @@ use Rattle.tlm_types.specs.declared.words.TxnId.{TxnId}
 use Rattle.tlm_model.specs.declared.platform.Style.TheVariants.{FourPhase}
 use Rattle.tlm_model.specs.Plan.{Initiator, Plan}
 use Rattle.tlm_model.specs.Route.{Route}
-use Rattle.hop_model.specs.Answers.{response_answer}
+use Rattle.flow_model.specs.Answers.{response_answer}
 use Rattle.flow_model.specs.World.{Passage, World, hop_at, hop_count, row_of}
 use Rattle.flow_model.specs.Events.{Among, Event, Finds, IsCall, IsReleased}
 use Rattle.flow_model.specs.Numbers.{IsEnder}

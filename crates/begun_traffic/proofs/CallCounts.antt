@@ -19,9 +19,9 @@ use Rattle.tlm_types.specs.declared.words.RespMode.TheVariants as Resp
 use Rattle.base_phases.specs.Sequences.{Call, IsBegun, IsSequence, sequences}
 use Rattle.base_phases.specs.Walks.{is_begin}
 use Rattle.base_phases.proofs.WalkLemmas.{begins-append, begins-cons}
-use Rattle.hop_model.specs.Calls.{calls_in, calls_of, is_of}
-use Rattle.hop_model.specs.Protocol.{BeginsOnce}
-use Rattle.hop_model.specs.Table.{sequences_of}
+use Rattle.flow_model.specs.Calls.{calls_in, calls_of, is_of}
+use Rattle.flow_model.specs.Protocol.{BeginsOnce}
+use Rattle.flow_model.specs.Table.{sequences_of}
 use Rattle.flow_model.specs.Events.{Among, Event, hop_log}
 use Rattle.flow_model.specs.World.{Passage, World, hop_at, row_of}
 use Rattle.flow_model.specs.Called.{HasCalled}

@@ -8,15 +8,15 @@ use Rattle.tlm_types.specs.declared.words.TxnId.{TxnId}
 use Rattle.tlm_types.specs.declared.entry.Entry.{Entry}
 use Rattle.tlm_model.specs.declared.platform.MemoryRow.{MemoryRow}
 use Rattle.tlm_model.specs.Plan.{Plan, Initiator, initiators_of}
-use Rattle.hop_model.specs.Board.{start}
+use Rattle.flow_model.specs.Board.{start}
 use Rattle.flow_model.specs.World.{Passage, hop_at, hop_count}
 use Rattle.flow_model.specs.Events.{Among, Event, Finds, IsAcquire, IsReleased, IsTake, at}
 use Rattle.flow_model.specs.Platform.{passage_of, world_of}
 use Rattle.flow_model.specs.Traffic.{slots_of}
 use Rattle.flow_law.proofs.Lives.{AcquireOf, ReleaseOf}
 use Rattle.flow_law.proofs.Splits.{from_at}
-use Rattle.flow_plan.specs.Valid.{HasNoCycle}
-use Rattle.flow_plan.proofs.Ways.{world_law}
+use Rattle.flow_law.specs.Valid.{HasNoCycle}
+use Rattle.flow_law.proofs.Ways.{world_law}
 use Rattle.joined_runs.specs.Joined.{IsLogOf}
 use Rattle.route_plan.specs.Counted.{share_at}
 use Rattle.joined_traffic.specs.Accesses.{numbers_by, pool_entries, sum_below, txn_of}

@@ -5,7 +5,7 @@ use Rattle.std.proofs.lemmas.Option.{slice_get_within}
 use Rattle.tlm_model.specs.declared.platform.Style.TheVariants.{FourPhase}
 use Rattle.tlm_model.specs.Plan.{Initiator, initiators_of}
 use Rattle.flow_model.specs.Events.{entries}
-use Rattle.flow_plan.proofs.Backed.{issue_law, traffic_law}
+use Rattle.flow_law.proofs.Backed.{issue_law, traffic_law}
 use Rattle.grant_model.proofs.Ungranted.{nothing_is_closed, ungranted_keeps_grants}
 use Rattle.joined_runs.specs.Counting.{IsRising}
 use Rattle.joined_grants.proofs.Wholes.{parts_keep_grants}

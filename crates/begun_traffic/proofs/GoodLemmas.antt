@@ -19,7 +19,7 @@ use Rattle.tlm_model.specs.Plan.{Plan, Initiator, initiators_of}
 use Rattle.tlm_model.specs.Requests.{Request, Transport, got_in, requests_of}
 use Rattle.tlm_model.specs.Scripts.{HasWay, OfRequest, comes_first}
 use Rattle.base_phases.specs.Sequences.{IsSequence}
-use Rattle.hop_model.specs.Calls.{calls_of}
+use Rattle.flow_model.specs.Calls.{calls_of}
 use Rattle.flow_model.specs.World.{Passage, hop_at}
 use Rattle.flow_model.specs.Events.{Among, Event, entries, hop_log}
 use Rattle.flow_model.specs.Issue.{issue_by, issue_time}

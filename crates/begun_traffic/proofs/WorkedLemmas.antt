@@ -14,7 +14,7 @@ use Rattle.tlm_model.specs.declared.platform.Target.TheVariants.{Memory as Memor
 use Rattle.tlm_model.specs.Plan.{Initiator, initiators_of}
 use Rattle.tlm_model.specs.History.{entries_at}
 use Rattle.tlm_model.specs.Route.{greatest_time}
-use Rattle.hop_model.specs.Board.{start}
+use Rattle.flow_model.specs.Board.{start}
 use Rattle.flow_model.specs.World.{Passage}
 use Rattle.flow_model.specs.Events.{Among, Event, at, entries}
 use Rattle.flow_model.specs.Platform.{passage_of, world_of}

@@ -10,8 +10,8 @@ use Rattle.flow_model.specs.Events.{Event, entries}
 use Rattle.flow_model.specs.Platform.{world_of}
 use Rattle.flow_model.specs.Traffic.{slots_of}
 use Rattle.flow_law.specs.Law.{Premises}
-use Rattle.flow_plan.specs.Plans.{KeepsTraffic}
-use Rattle.flow_plan.specs.Valid.{HasNoCycle}
+use Rattle.flow_law.specs.Plans.{KeepsTraffic}
+use Rattle.flow_law.specs.Valid.{HasNoCycle}
 use Rattle.grant_model.specs.Kept.{KeepsGrants}
 use Rattle.grant_model.specs.Laws.{HasNoDirect, HasNoInvalidation}
 use Rattle.good_history.specs.Good.{IsSound}

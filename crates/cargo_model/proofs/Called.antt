@@ -11,8 +11,8 @@ use Rattle.tlm_types.specs.declared.words.RespMode.{RespMode}
 use Rattle.tlm_types.specs.declared.words.RespMode.TheVariants as Resp
 use Rattle.tlm_types.specs.declared.words.TxnId.{TxnId}
 use Rattle.base_phases.specs.Sequences.{Call}
-use Rattle.hop_model.specs.Answers.{response_answer}
-use Rattle.hop_model.specs.Table.{ending, sequences_of}
+use Rattle.flow_model.specs.Answers.{response_answer}
+use Rattle.flow_model.specs.Table.{ending, sequences_of}
 use Rattle.flow_model.specs.World.{Passage, World, hop_at, row_of}
 use Rattle.flow_model.specs.Events.{Among, Event, Finds, IsCall}
 use Rattle.flow_model.specs.Numbers.{EndIs, IsEnder, IsEnding, IsResponding, IsResponse, UpIs}

@@ -4,8 +4,8 @@ use Rattle.tlm_types.specs.declared.words.Phase.TheVariants.{BeginReq, EndReq, B
 use Rattle.tlm_types.specs.declared.entry.Entry.{Entry}
 use Rattle.tlm_types.specs.declared.entry.What.{What}
 use Rattle.tlm_types.specs.declared.entry.What.TheVariants as Whats
-use Rattle.hop_model.specs.Answers.{is_responding}
-use Rattle.hop_model.specs.Board.{Board, Reaches, Rules, StepsBy, any_in, start}
+use Rattle.flow_model.specs.Answers.{is_responding}
+use Rattle.flow_model.specs.Board.{Board, Reaches, Rules, StepsBy, any_in, start}
 use Rattle.flow_model.specs.Events.{Among}
 use Rattle.cargo_model.specs.Modes.{AreByModes, IsByMode}
 

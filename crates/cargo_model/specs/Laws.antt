@@ -18,7 +18,7 @@ use Rattle.tlm_model.specs.Route.{Route}
 use Rattle.generic_payload.specs.Payload.{PayloadView, access_of}
 use Rattle.token_book.specs.Account.{Slip}
 use Rattle.token_book.specs.Purse.{Purse, left_of, bytes_of}
-use Rattle.hop_model.specs.Answers.{request_answer, response_answer}
+use Rattle.flow_model.specs.Answers.{request_answer, response_answer}
 use Rattle.flow_model.specs.World.{Passage, World, hop_at, hop_count, row_by, row_of}
 use Rattle.flow_model.specs.Events.{Event, Finds, FindsAt, IsAccess, IsAcquire, IsCall, IsOwn, IsPhase, IsReleased, IsTake}
 use Rattle.flow_model.specs.Numbers.{ArrIs, EndIs, IsEnder, IsResponse, NumberOf, ReqIs, UpIs, released_hop, served_hop}

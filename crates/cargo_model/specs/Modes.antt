@@ -4,8 +4,8 @@ use Rattle.tlm_types.specs.declared.words.Phase.TheVariants.{BeginReq, BeginResp
 use Rattle.tlm_types.specs.declared.entry.Entry.{Entry}
 use Rattle.tlm_types.specs.declared.entry.What.{What}
 use Rattle.tlm_types.specs.declared.entry.What.TheVariants.{Call as Called}
-use Rattle.hop_model.specs.Answers.{request_answer, response_answer}
-use Rattle.hop_model.specs.Board.{Board, Reaches, Rules, start}
+use Rattle.flow_model.specs.Answers.{request_answer, response_answer}
+use Rattle.flow_model.specs.Board.{Board, Reaches, Rules, start}
 use Rattle.flow_model.specs.Events.{Among}
 
 -- a BEGIN_REQ and a BEGIN_RESP have the answers of the hop's modes

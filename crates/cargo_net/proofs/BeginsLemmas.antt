@@ -24,7 +24,7 @@ use Rattle.token_book.specs.declared.ticket.Ticket.{Ticket}
 use Rattle.shared_object.specs.Standing.{AreVouched}
 use Rattle.shared_object.specs.Steps.{unspent}
 use Rattle.shared_object.specs.Written.{placed, wrote}
-use Rattle.hop_model.specs.Answers.{request_answer}
+use Rattle.flow_model.specs.Answers.{request_answer}
 use Rattle.flow_model.specs.World.{Passage, World, hop_at, is_refused, row_of}
 use Rattle.flow_model.specs.Events.{Among, Event, FindsAt, IsCall}
 use Rattle.flow_model.specs.Backed.{EndsRequest}

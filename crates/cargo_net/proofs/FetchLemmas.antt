@@ -26,7 +26,7 @@ use Rattle.base_phases.specs.Phases.{next_state}
 use Rattle.token_book.specs.Account.{Slip}
 use Rattle.shared_object.specs.Standing.{AreVouched}
 use Rattle.shared_object.specs.Written.{placed}
-use Rattle.hop_model.specs.Answers.{request_answer, response_answer}
+use Rattle.flow_model.specs.Answers.{request_answer, response_answer}
 use Rattle.flow_model.specs.World.{Passage, hop_at, is_refused, row_of}
 use Rattle.flow_model.specs.Events.{Among, Event, FindsAt, IsCall, entries}
 use Rattle.flow_model.specs.Platform.{world_of}

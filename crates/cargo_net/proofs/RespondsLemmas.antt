@@ -19,7 +19,7 @@ use Rattle.token_book.specs.Account.{Slip}
 use Rattle.token_book.specs.Purse.{HasRoom, Purse, left_of}
 use Rattle.shared_object.specs.Standing.{AreVouched, IsBuiltFor, place}
 use Rattle.shared_object.specs.Written.{placed, wrote}
-use Rattle.hop_model.specs.Answers.{response_answer}
+use Rattle.flow_model.specs.Answers.{response_answer}
 use Rattle.flow_model.specs.World.{hop_at, row_of}
 use Rattle.flow_model.specs.Events.{Among, Event, FindsAt, IsCall, IsOwn}
 use Rattle.flow_model.specs.Backed.{EndsResponse}

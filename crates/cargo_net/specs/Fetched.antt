@@ -14,7 +14,7 @@ use Rattle.tlm_model.specs.Plan.{Plan}
 use Rattle.base_phases.specs.declared.phases.LaneState.TheVariants.{Free, Requested, Waiting, Responding}
 use Rattle.base_phases.specs.Phases.{next_state}
 use Rattle.token_book.specs.Account.{Slip}
-use Rattle.hop_model.specs.Answers.{response_answer}
+use Rattle.flow_model.specs.Answers.{response_answer}
 use Rattle.flow_model.specs.World.{Passage, hop_at, row_of}
 use Rattle.flow_model.specs.Events.{Among, FindsAt, IsCall}
 use Rattle.flow_model.specs.Platform.{world_of}

@@ -13,7 +13,7 @@ use Rattle.tlm_model.specs.Plan.{Plan}
 use Rattle.base_phases.specs.declared.phases.LaneState.{LaneState}
 use Rattle.base_phases.specs.declared.phases.LaneState.TheVariants.{Requested, Waiting}
 use Rattle.token_book.specs.Account.{Slip}
-use Rattle.hop_model.specs.Answers.{response_answer}
+use Rattle.flow_model.specs.Answers.{response_answer}
 use Rattle.flow_model.specs.World.{Passage, hop_at, hop_count, row_of}
 use Rattle.flow_model.specs.Events.{Finds, FindsAt, IsCall}
 use Rattle.flow_model.specs.Numbers.{UpIs}

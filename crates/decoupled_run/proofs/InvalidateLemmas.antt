@@ -27,7 +27,7 @@ use Rattle.tlm_model.specs.Route.{Route as RouteOfModel, route_of}
 use Rattle.tlm_model.specs.Scripts.{HasWay, IsEntryOf, IsInOrder, IsPlaced, is_answer}
 use Rattle.tlm_model.specs.Times.{HasTime, decoupled_time}
 use Rattle.tlm_model.proofs.HistoryLemmas.{AllByRecursion-push}
-use Rattle.flow_plan.specs.Plans.{IsDecoupled}
+use Rattle.flow_law.specs.Plans.{IsDecoupled}
 use Rattle.good_history.specs.Laws.{AllDecoupled}
 use Rattle.grant_model.specs.Grants.{asks, is_grant, last_of}
 use Rattle.joined_runs.specs.Counting.{IsRising}

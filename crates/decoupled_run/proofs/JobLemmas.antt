@@ -15,7 +15,7 @@ use Rattle.tlm_types.specs.declared.words.ObjectNo.TheVariants.{Memory}
 use Rattle.tlm_model.specs.History.{entries_at, is_object}
 use Rattle.tlm_model.specs.Plan.{Plan, Initiator, initiators_of}
 use Rattle.tlm_model.proofs.HistoryLemmas.{AllByRecursion-push}
-use Rattle.flow_plan.specs.Plans.{IsDecoupled}
+use Rattle.flow_law.specs.Plans.{IsDecoupled}
 use Rattle.grant_model.specs.Grants.{asks, is_grant, last_of}
 use Rattle.joined_runs.proofs.CountLemmas.{IsRising-push}
 use Rattle.joined_runs.specs.Joined.{KeepsOwn}

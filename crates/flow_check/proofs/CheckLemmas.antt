@@ -7,7 +7,7 @@ use Rattle.tlm_types.specs.declared.words.Phase.TheVariants.{BeginReq, EndReq, B
 use Rattle.tlm_types.specs.declared.words.TlmSync.{TlmSync}
 use Rattle.tlm_types.specs.declared.words.TlmSync.TheVariants.{Accepted, Updated, Completed}
 use Rattle.base_phases.specs.Sequences.{Call, sequences}
-use Rattle.hop_model.specs.Table.{IsBegunIn, sequences_of}
+use Rattle.flow_model.specs.Table.{IsBegunIn, sequences_of}
 use Rattle.flow_model.specs.Ends.{is_same_phase}
 use Rattle.flow_check.specs.Checks.{RowsAreFound, WholesAreFound, begins_one, is_prefix, is_same_answer, is_same_call, is_sequence}
 

@@ -12,7 +12,7 @@ use Rattle.tlm_types.specs.declared.words.ReqMode.TheVariants.{Accept, Short}
 use Rattle.tlm_types.specs.declared.entry.What.{What}
 use Rattle.tlm_types.specs.declared.entry.What.TheVariants.{Access as Accessed, Call, Take, Acquire, Release}
 use Rattle.tlm_model.specs.Route.{later}
-use Rattle.hop_model.specs.Board.{ends_response}
+use Rattle.flow_model.specs.Board.{ends_response}
 use Rattle.flow_model.specs.World.{World, Passage, hop_at, hop_count, row_of}
 use Rattle.flow_model.specs.Events.{Event, Among, Finds, FindsAt, IsCall, IsPhase, IsOwn, IsTake, IsAcquire, IsAccess}
 use Rattle.flow_model.specs.Numbers.{ArrIs, EndIs, BringsResponse, IsByReturn, IsEnder, IsEnding, IsResponding, IsResponse, NumberOf, Past, ReqIs, RspFrom, UpFrom, released_hop, served_hop}

@@ -13,8 +13,8 @@ use Rattle.tlm_types.specs.declared.entry.What.TheVariants.{Call as Called, Take
 use Rattle.base_phases.specs.declared.phases.LaneState.{LaneState}
 use Rattle.base_phases.specs.declared.phases.LaneState.TheVariants.{Free}
 use Rattle.base_phases.specs.Phases.{next_state}
-use Rattle.hop_model.specs.Answers.{is_requested, is_responding, request_answer, response_answer}
-use Rattle.hop_model.specs.Board.{Begins, Board, InTurn, Moves, Open, Reaches, Rules, StepsBy, any_in, fresh_lane, lane_after, request_end_after, response_end_after, start}
+use Rattle.flow_model.specs.Answers.{is_requested, is_responding, request_answer, response_answer}
+use Rattle.flow_model.specs.Board.{Begins, Board, InTurn, Moves, Open, Reaches, Rules, StepsBy, any_in, fresh_lane, lane_after, request_end_after, response_end_after, start}
 use Rattle.flow_model.specs.World.{World}
 use Rattle.flow_model.specs.Events.{Event, Among, hop_log}
 use Rattle.flow_model.specs.Pools.{IsLive, IsPoolLog, Life, PoolStepBy, Slots, slots_after}

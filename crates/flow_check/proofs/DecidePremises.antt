@@ -14,9 +14,9 @@ use Rattle.tlm_model.specs.Each.{AtEach}
 use Rattle.tlm_model.specs.History.{is_object}
 use Rattle.tlm_model.specs.Route.{greatest_time}
 use Rattle.base_phases.specs.Walks.{is_begin}
-use Rattle.hop_model.specs.Board.{Reaches, start}
-use Rattle.hop_model.specs.Calls.{calls_in, calls_of, has_open_request}
-use Rattle.hop_model.specs.Protocol.{BeginsOnce}
+use Rattle.flow_model.specs.Board.{Reaches, start}
+use Rattle.flow_model.specs.Calls.{calls_in, calls_of, has_open_request}
+use Rattle.flow_model.specs.Protocol.{BeginsOnce}
 use Rattle.flow_model.specs.World.{IsWorld, Passage, World}
 use Rattle.flow_model.specs.Events.{Event, Among, Finds, IsAccess, IsTake, IsTakeOf, at, entries, hop_log}
 use Rattle.flow_model.specs.Backed.{IsBacked}

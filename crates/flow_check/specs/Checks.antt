@@ -7,7 +7,7 @@ use Rattle.tlm_types.specs.declared.words.ReqMode.{ReqMode}
 use Rattle.tlm_types.specs.declared.words.RespMode.{RespMode}
 use Rattle.tlm_types.specs.declared.words.RespMode.TheVariants as Resp
 use Rattle.base_phases.specs.Sequences.{Call, IsSequence, sequences}
-use Rattle.hop_model.specs.Table.{IsBegunIn, ending, sequences_of}
+use Rattle.flow_model.specs.Table.{IsBegunIn, ending, sequences_of}
 use Rattle.flow_model.specs.Ends.{is_same_phase}
 
 abbrev pub is_same_answer : TlmSync → TlmSync → Bool

@@ -12,8 +12,8 @@ use Rattle.tlm_types.specs.declared.entry.Entry.{Entry}
 use Rattle.tlm_types.specs.declared.entry.What.TheVariants.{Call}
 use Rattle.tlm_model.specs.Each.{AtEach}
 use Rattle.tlm_model.specs.Requests.{is_txn}
-use Rattle.hop_model.specs.Calls.{has_open_request}
-use Rattle.hop_model.specs.Protocol.{BeginsOnce}
+use Rattle.flow_model.specs.Calls.{has_open_request}
+use Rattle.flow_model.specs.Protocol.{BeginsOnce}
 use Rattle.flow_model.specs.World.{HopEnds, Passage, World}
 use Rattle.flow_model.specs.Events.{Event, Among, Finds, IsAccess, IsTake, at, entries, hop_log}
 use Rattle.flow_model.specs.Backed.{IsBacked}

@@ -4,9 +4,9 @@ ghost use Rattle.tlm_types.specs.declared.words.Phase.TheVariants.{BeginReq, End
 ghost use Rattle.tlm_types.specs.declared.words.TlmSync.TheVariants.{Accepted, Updated, Completed};
 ghost use Rattle.tlm_types.specs.declared.words.RespMode.TheVariants as Resp;
 ghost use Rattle.tlm_model.specs.Route.{later};
-ghost use Rattle.hop_model.specs.Board.{ends_response};
-ghost use Rattle.hop_model.specs.ByRules.{response_end, response_end_by};
-ghost use Rattle.hop_model.specs.Table.{ending};
+ghost use Rattle.flow_model.specs.Board.{ends_response};
+ghost use Rattle.flow_model.specs.ByRules.{response_end, response_end_by};
+ghost use Rattle.flow_model.specs.Table.{ending};
 ghost use Rattle.flow_model.specs.World.{row_by};
 ghost use Rattle.flow_check.specs.Checks.{RowsAreFound, WholesAreFound, begins_row, is_ending, is_prefix, is_whole};
 

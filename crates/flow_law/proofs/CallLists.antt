@@ -14,8 +14,8 @@ use Rattle.tlm_types.specs.declared.entry.What.{What}
 use Rattle.tlm_types.specs.declared.entry.What.TheVariants.{Call as Called}
 use Rattle.tlm_model.specs.History.{is_object, entries_at}
 use Rattle.base_phases.specs.Sequences.{Call, IsBegun, IsSequence, sequences}
-use Rattle.hop_model.specs.Calls.{calls_in, calls_of}
-use Rattle.hop_model.specs.Table.{IsBegunIn, sequences_of}
+use Rattle.flow_model.specs.Calls.{calls_in, calls_of}
+use Rattle.flow_model.specs.Table.{IsBegunIn, sequences_of}
 use Rattle.flow_model.specs.Events.{Event, Among, at, entries, hop_log}
 use Rattle.flow_law.proofs.Forms.{Saying, says, said_by, sayings, is_txn, eleven, rows, IsPrefix, IsPrefixOf, IsOneOf}
 use Rattle.flow_law.proofs.Splits.{from_at}

@@ -15,8 +15,8 @@ use Rattle.tlm_types.specs.declared.entry.What.{What}
 use Rattle.tlm_types.specs.declared.entry.What.TheVariants.{Access as Accessed, Granted, Invalidated, Closed, Call, Take, Acquire, Release}
 use Rattle.tlm_model.specs.History.{entries_at}
 use Rattle.tlm_model.specs.Route.{later}
-use Rattle.hop_model.specs.ByRules.{last_time}
-use Rattle.hop_model.specs.Calls.{calls_of, is_of}
+use Rattle.flow_model.specs.ByRules.{last_time}
+use Rattle.flow_model.specs.Calls.{calls_of, is_of}
 use Rattle.flow_model.specs.World.{World, Passage, hop_at, hop_count}
 use Rattle.flow_model.specs.Events.{Event, Among, Finds, FindsAt, IsCall, IsPhase, IsOwn, at, entries}
 use Rattle.flow_model.specs.Numbers.{EndIs, IsEnder, Past, RspFrom, UpFrom}

@@ -12,7 +12,7 @@ use Rattle.flow_model.specs.Events.{Event, Among, Finds, IsPhase, IsAcquire, IsR
 use Rattle.flow_model.specs.Numbers.{IsEnding, IsEnder, UpFrom, UpIs, RspIs, EndIs, released_hop}
 use Rattle.flow_model.specs.Points.{IsFreed}
 use Rattle.base_phases.specs.Sequences.{Call, IsSequence}
-use Rattle.hop_model.specs.Calls.{calls_of}
+use Rattle.flow_model.specs.Calls.{calls_of}
 use Rattle.std.proofs.lemmas.List.Elements.{filter_map-append}
 use Rattle.flow_model.specs.World.{World, Passage, hop_count, hop_at, row_of}
 use Rattle.flow_law.specs.Ending.{IsDone}

@@ -18,9 +18,9 @@ use Rattle.tlm_types.specs.declared.words.RespMode.TheVariants.{Accept as Accept
 use Rattle.tlm_types.specs.declared.entry.What.{What}
 use Rattle.tlm_types.specs.declared.entry.What.TheVariants.{Call, Acquire}
 use Rattle.tlm_model.specs.Route.{greatest_time}
-use Rattle.hop_model.specs.Answers.{response_answer}
-use Rattle.hop_model.specs.ByRules.{request_end as hop_request_end}
-use Rattle.hop_model.specs.Calls.{has_open_request}
+use Rattle.flow_model.specs.Answers.{response_answer}
+use Rattle.flow_model.specs.ByRules.{request_end as hop_request_end}
+use Rattle.flow_model.specs.Calls.{has_open_request}
 use Rattle.flow_model.specs.World.{World, Passage, IsWorld}
 use Rattle.flow_model.specs.Events.{Event, Among, Finds, IsCall, IsPhase, IsOwn, IsTake, IsTakeOf, IsAccess, at, entries, hop_log}
 use Rattle.flow_model.specs.Backed.{IsBacked, EndsResponse}

@@ -18,16 +18,16 @@ use Rattle.tlm_types.specs.declared.entry.What.TheVariants.{Call as Called, Acce
 use Rattle.tlm_model.proofs.EachLemmas.{AtEach-at}
 use Rattle.tlm_model.specs.Each.{AtEach}
 use Rattle.base_phases.specs.Sequences.{IsBegun}
-use Rattle.hop_model.specs.Answers.{request_answer, response_answer}
-use Rattle.hop_model.specs.Board.{Board, Reaches, start, ends_response}
-use Rattle.hop_model.specs.Board.{ends_request as hop_ends_request}
-use Rattle.hop_model.specs.ByRules.{IsCallBy, IsInTime, KeepsRules, any_response, last_time, request_end_by, response_end, response_end_by}
-use Rattle.hop_model.specs.ByRules.{request_end as hop_request_end, request_end_from as hop_request_end_from}
-use Rattle.hop_model.specs.Calls.{begins_request, has_open_request, is_of, request_by}
-use Rattle.hop_model.specs.Protocol.{BeginsOnce as HopBeginsOnce, KeepsRequest}
-use Rattle.hop_model.proofs.CallLemmas.{follows}
-use Rattle.hop_model.proofs.ExclusionLemmas.{exclusive}
-use Rattle.hop_model.proofs.RuleLemmas.{keeps_rules}
+use Rattle.flow_model.specs.Answers.{request_answer, response_answer}
+use Rattle.flow_model.specs.Board.{Board, Reaches, start, ends_response}
+use Rattle.flow_model.specs.Board.{ends_request as hop_ends_request}
+use Rattle.flow_model.specs.ByRules.{IsCallBy, IsInTime, KeepsRules, any_response, last_time, request_end_by, response_end, response_end_by}
+use Rattle.flow_model.specs.ByRules.{request_end as hop_request_end, request_end_from as hop_request_end_from}
+use Rattle.flow_model.specs.Calls.{begins_request, has_open_request, is_of, request_by}
+use Rattle.flow_model.specs.Protocol.{BeginsOnce as HopBeginsOnce, KeepsRequest}
+use Rattle.flow_model.proofs.CallLemmas.{follows}
+use Rattle.flow_model.proofs.ExclusionLemmas.{exclusive}
+use Rattle.flow_model.proofs.RuleLemmas.{keeps_rules}
 use Rattle.flow_model.specs.World.{World}
 use Rattle.flow_model.specs.Events.{Event, Among, IsCall, IsOwn, entries}
 use Rattle.flow_model.specs.Backed.{EndsResponse}

@@ -26,3 +26,9 @@ pub mod BeginsOnce
 pub mod AllFreed
 pub mod OtherLaws
 pub mod EndTimes
+pub mod Beginnings
+pub mod Decoupled
+pub mod PoolCounts
+pub mod Backed
+pub mod Ways
+pub mod Ended

@@ -8,7 +8,7 @@ use Rattle.tlm_types.specs.declared.words.ReqMode.{ReqMode}
 use Rattle.tlm_types.specs.declared.words.ReqMode.TheVariants.{Accept, Short, EndReq as AtOnce, BeginResp as WithResponse, Complete}
 use Rattle.tlm_types.specs.declared.words.RespMode.{RespMode}
 use Rattle.tlm_types.specs.declared.words.RespMode.TheVariants.{Accept as Accepts, EndResp as Ends, Complete as Completes}
-use Rattle.hop_model.specs.Answers.{response_answer}
+use Rattle.flow_model.specs.Answers.{response_answer}
 use Rattle.flow_law.proofs.Forms.{Saying, says, IsPrefix, IsPrefixOf, eleven, completed, with_response, at_once, accepted, short, rows}
 use Rattle.flow_law.proofs.Sayings.{In}
 

@@ -8,7 +8,7 @@ use Rattle.tlm_types.specs.declared.words.TxnId.{TxnId}
 use Rattle.tlm_types.specs.declared.entry.Entry.{Entry}
 use Rattle.base_phases.specs.Sequences.{Call, IsSequence}
 use Rattle.base_phases.specs.Walks.{is_begin}
-use Rattle.hop_model.specs.Calls.{calls_of, is_of}
+use Rattle.flow_model.specs.Calls.{calls_of, is_of}
 use Rattle.flow_model.specs.Events.{Event, Among, at, entries, hop_log}
 use Rattle.flow_law.specs.Ending.{EndingLaw, NumbersLaw, CountLaw, AllFreedLaw}
 use Rattle.flow_law.specs.Counting.{CountingLaw, BeginsOnceLaw}

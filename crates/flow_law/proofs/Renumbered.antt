@@ -13,8 +13,8 @@ use Rattle.tlm_types.specs.declared.entry.What.TheVariants.{Access as Accessed, 
 use Rattle.tlm_model.specs.Each.{EachFrom}
 use Rattle.tlm_model.specs.History.{entries_at}
 use Rattle.base_phases.specs.Sequences.{IsSequence}
-use Rattle.hop_model.specs.ByRules.{request_end}
-use Rattle.hop_model.specs.Calls.{calls_of}
+use Rattle.flow_model.specs.ByRules.{request_end}
+use Rattle.flow_model.specs.Calls.{calls_of}
 use Rattle.flow_model.specs.World.{World, Passage, hop_count, hop_at}
 use Rattle.flow_model.specs.Events.{Event, Among, Finds, IsAcquire, IsOwn, IsPhase, acquires, entries, hop_log, number_in, numbered, numbered_from}
 use Rattle.flow_model.specs.Backed.{AcquireAfter, EndsResponse}

@@ -6,13 +6,13 @@ use Rattle.tlm_types.specs.declared.words.TxnId.{TxnId}
 use Rattle.tlm_types.specs.declared.entry.Entry.{Entry}
 use Rattle.tlm_model.specs.History.{entries_at, is_object}
 use Rattle.base_phases.specs.Sequences.{Call}
-use Rattle.hop_model.specs.Board.{Reaches, start}
-use Rattle.hop_model.specs.ByRules.{request_end as hop_request_end}
-use Rattle.hop_model.specs.Calls.{calls_of}
-use Rattle.hop_model.specs.Protocol.{BeginsOnce as HopBeginsOnce}
-use Rattle.hop_model.specs.Table.{IsBegunIn}
-use Rattle.hop_model.proofs.ExclusionLemmas.{exclusive}
-use Rattle.hop_model.proofs.RuleLemmas.{keeps_rules}
+use Rattle.flow_model.specs.Board.{Reaches, start}
+use Rattle.flow_model.specs.ByRules.{request_end as hop_request_end}
+use Rattle.flow_model.specs.Calls.{calls_of}
+use Rattle.flow_model.specs.Protocol.{BeginsOnce as HopBeginsOnce}
+use Rattle.flow_model.specs.Table.{IsBegunIn}
+use Rattle.flow_model.proofs.ExclusionLemmas.{exclusive}
+use Rattle.flow_model.proofs.RuleLemmas.{keeps_rules}
 use Rattle.flow_model.specs.World.{World, hop_at, row_of}
 use Rattle.flow_model.specs.Events.{Event, Among, IsAcquire, at, entries, hop_log}
 use Rattle.flow_model.specs.Events.{acquires as entry_acquires}
@@ -28,7 +28,7 @@ use Rattle.flow_law.proofs.OneNumber.{counts}
 use Rattle.flow_law.proofs.Orders.{orders}
 use Rattle.flow_law.proofs.Renumbered.{orders as numbered_orders, freed_last as numbered_freed_last, in_turn as numbered_in_turn, times as numbered_times}
 use Rattle.flow_law.proofs.Splits.{at-split, from_at}
-use Rattle.hop_model.specs.Calls.{has_open_request}
+use Rattle.flow_model.specs.Calls.{has_open_request}
 use Rattle.flow_law.proofs.Table.{table}
 use Rattle.flow_law.proofs.Times.{times}
 

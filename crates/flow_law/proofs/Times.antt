@@ -14,13 +14,13 @@ use Rattle.tlm_types.specs.declared.entry.What.{What}
 use Rattle.tlm_types.specs.declared.entry.What.TheVariants.{Access as Accessed, Call, Take, Acquire, Release}
 use Rattle.tlm_types.specs.declared.words.ReqMode.TheVariants.{Accept, Short, EndReq as AtOnce, BeginResp as WithResponse, Complete}
 use Rattle.tlm_model.specs.Route.{later, greatest_time}
-use Rattle.hop_model.specs.ByRules.{request_end as hop_request_end}
+use Rattle.flow_model.specs.ByRules.{request_end as hop_request_end}
 use Rattle.flow_model.specs.Backed.{TimeBacked, BackedBy, EndsRequestBy as EndsRequestMarked}
 use Rattle.flow_model.specs.Events.{Event, Among, Finds, IsCall, IsPhase, IsOwn, at, hop_log}
 use Rattle.flow_model.specs.Numbers.{ReqIs, UpFrom, RspFrom, NumberOf, released_hop, IsByReturn, served_hop, BringsResponse}
 use Rattle.flow_model.specs.Points.{CallTimed, TimedBy, IsTimed}
 use Rattle.flow_model.specs.World.{World, Passage, hop_count, hop_at, row_by, row_of, is_refused}
-use Rattle.hop_model.specs.Calls.{request_by}
+use Rattle.flow_model.specs.Calls.{request_by}
 use Rattle.std.specs.List.{fold}
 use Rattle.flow_law.proofs.CallLists.{calls, calls_at, call_of}
 use Rattle.flow_law.proofs.Each.{each_from}

@@ -4,8 +4,8 @@ use Rattle.std.specs.Prelude.{ℕ, ◌≡◌, ◌≢◌, ◌≤◌, List, length
 use Rattle.tlm_types.specs.declared.words.TxnId.{TxnId}
 use Rattle.tlm_types.specs.declared.entry.Entry.{Entry}
 use Rattle.base_phases.specs.Sequences.{Call, IsSequence}
-use Rattle.hop_model.specs.Calls.{calls_of, is_of}
-use Rattle.hop_model.specs.Protocol.{BeginsOnce}
+use Rattle.flow_model.specs.Calls.{calls_of, is_of}
+use Rattle.flow_model.specs.Protocol.{BeginsOnce}
 use Rattle.flow_model.specs.Events.{Event, Among, hop_log}
 
 -- how many entries of the log are of x

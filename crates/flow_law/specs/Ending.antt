@@ -5,8 +5,8 @@ use Rattle.tlm_types.specs.declared.entry.Entry.{Entry}
 use Rattle.tlm_types.specs.declared.words.TxnId.{TxnId}
 use Rattle.tlm_model.specs.Each.{AtEach}
 use Rattle.tlm_model.specs.History.{entries_at}
-use Rattle.hop_model.specs.Calls.{calls_of}
-use Rattle.hop_model.specs.Table.{sequences_of}
+use Rattle.flow_model.specs.Calls.{calls_of}
+use Rattle.flow_model.specs.Table.{sequences_of}
 use Rattle.flow_model.specs.World.{World, Passage, hop_count, hop_at, row_of}
 use Rattle.flow_model.specs.Events.{Event, Among, Finds, IsAcquire, IsAccess, IsFreedOf, IsReleased, IsTakeOf, acquires, entries, hop_log}
 use Rattle.flow_model.specs.Numbers.{ReqIs, ArrIs, UpIs, RspIs, EndIs, released_hop}

@@ -9,9 +9,9 @@ use Rattle.tlm_types.specs.declared.entry.What.TheVariants.{Call as Called}
 use Rattle.tlm_model.specs.Each.{AtEach}
 use Rattle.tlm_model.specs.History.{entries_at}
 use Rattle.tlm_model.specs.Route.{greatest_time}
-use Rattle.hop_model.specs.Board.{Board, Reaches, start}
-use Rattle.hop_model.specs.Calls.{has_open_request}
-use Rattle.hop_model.specs.Protocol.{BeginsOnce, IsExclusive}
+use Rattle.flow_model.specs.Board.{Board, Reaches, start}
+use Rattle.flow_model.specs.Calls.{has_open_request}
+use Rattle.flow_model.specs.Protocol.{BeginsOnce, IsExclusive}
 use Rattle.flow_model.specs.World.{World, Passage, IsWorld}
 use Rattle.flow_model.specs.Events.{Event, Among, Finds, at, entries, hop_log, numbered, IsTake, IsAccess}
 use Rattle.flow_model.specs.Backed.{IsBacked}

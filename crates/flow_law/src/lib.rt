@@ -1,19 +1,24 @@
 //! Laws of four-phase traffic over whole histories: what single components know of each entry that they make
 //! gives what the whole history keeps, for any platform, any number of hops on a way, and any order of the
-//! entries (IEEE 1666-2011, clause 15.2).
+//! entries (IEEE 1666-2011, clause 15.2). And laws of the traffic of a plan: its points hold of each beginning of a
+//! history that has them, of each history that single components made as they may, and of each history without
+//! four-phase traffic.
 //!
 //! - `specs/Law` has the premises, which hops, pools and single entries give, and the conclusions: the
 //!   orders of the entries of each access, the sequences of the table, exclusion on each hop, the times.
 //! - `specs/Ending` says what holds of an access whose payload is back in its pool.
 //! - `specs/Counting` has what the end of a run needs: that known entries are all, and that no
 //!   transaction begins twice.
+//! - `specs/Plans` has the laws of a plan, `specs/Valid` what a platform has to keep that they hold for it.
 //!
-//! The words are those of `flow_model` and `hop_model`. Nothing here runs: each function carries a law.
+//! The words are those of `flow_model`. Nothing here runs: each function carries a law.
 #![tactic(auto)]
 
 ghost use Rattle.flow_law.specs.Counting.{BeginsOnceLaw, CountingLaw};
 ghost use Rattle.flow_law.specs.Ending.{AllFreedLaw, CountLaw, EndingLaw, NumbersLaw};
 ghost use Rattle.flow_law.specs.Law.{Law, Monotone};
+ghost use Rattle.flow_law.specs.Plans.{DecoupledTraffic, EndedLaw, HasTrafficBeginnings, IssueLaw, TrafficLaw};
+ghost use Rattle.flow_law.specs.Valid.{WorldLaw};
 
 /// Where each entry is backed by those before it and each hop and pool made its log, the orders, the table,
 /// exclusion and the times hold of the whole history.
@@ -57,4 +62,38 @@ pub fn begins_once_law()
 /// Where no slot of a pool is live, each transaction that was taken has its freed Release.
 pub fn all_freed_law()
     ensures { AllFreedLaw }
+{}
+
+/// Each beginning of a history that has the points has them.
+pub fn beginnings_keep_traffic()
+    ensures { HasTrafficBeginnings }
+{}
+
+/// A history of accesses, grants, invalidations and closings alone has the points, for a plan without four-phase
+/// initiators.
+pub fn decoupled_histories_keep_traffic()
+    ensures { DecoupledTraffic }
+{}
+
+/// A history whose entries are backed by those before them, on hops and pools that made their logs, has the
+/// points, but for the times at which requests are issued.
+pub fn backed_histories_keep_traffic()
+    ensures { TrafficLaw }
+{}
+
+/// Where debug reads, invalidations and closings have the current time of their initiator too, and it waits for its
+/// accesses, the history has all the points.
+pub fn timely_histories_keep_traffic()
+    ensures { IssueLaw }
+{}
+
+/// On a platform without a cycle no access passes a hop twice.
+pub fn platforms_without_cycles_are_worlds()
+    ensures { WorldLaw }
+{}
+
+/// Where each access is back in its pool, each has a whole sequence on each of its hops, one Take, an Acquire for
+/// each hop and one Release more, at the times at which it ended on its hops.
+pub fn freed_accesses_have_ended()
+    ensures { EndedLaw }
 {}

@@ -10,7 +10,7 @@ use Rattle.tlm_types.specs.declared.words.TxnId.{TxnId}
 use Rattle.tlm_types.specs.declared.words.ReqMode.TheVariants.{Accept}
 use Rattle.tlm_types.specs.declared.entry.What.{What}
 use Rattle.tlm_types.specs.declared.entry.What.TheVariants.{Access as Accessed, Call, Take, Acquire, Release}
-use Rattle.hop_model.specs.Board.{ends_response}
+use Rattle.flow_model.specs.Board.{ends_response}
 use Rattle.flow_model.specs.World.{World, Passage, hop_count, hop_at, row_of}
 use Rattle.flow_model.specs.Events.{Event, Finds, FindsAt, IsCall, IsPhase, IsOwn, IsTake, IsAcquire, IsAccess}
 use Rattle.flow_model.specs.Numbers.{IsEnder, IsResponse, NumberOf, ReqIs, ArrIs, EndIs, released_hop}

@@ -5,7 +5,7 @@ use Rattle.tlm_types.specs.declared.words.Phase.TheVariants.{EndResp}
 use Rattle.tlm_types.specs.declared.words.TlmSync.{TlmSync}
 use Rattle.tlm_types.specs.declared.words.TxnId.{TxnId}
 use Rattle.base_phases.specs.Sequences.{Call}
-use Rattle.hop_model.specs.Table.{sequences_of}
+use Rattle.flow_model.specs.Table.{sequences_of}
 use Rattle.flow_model.specs.World.{Passage, World, hop_at, row_of}
 use Rattle.flow_model.specs.Events.{Among, Event, Finds, IsCall}
 

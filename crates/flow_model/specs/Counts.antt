@@ -7,7 +7,7 @@ use Rattle.tlm_types.specs.declared.entry.Entry.{Entry}
 use Rattle.tlm_types.specs.declared.entry.What.{What}
 use Rattle.tlm_types.specs.declared.entry.What.TheVariants.{Take, Acquire, Release}
 use Rattle.tlm_model.specs.Each.{AtEach}
-use Rattle.hop_model.specs.Calls.{is_of}
+use Rattle.flow_model.specs.Calls.{is_of}
 use Rattle.flow_model.specs.Slots.{SlotsOf, TakesLeast, no_slots, put}
 
 pub record Counted : Type 0 where

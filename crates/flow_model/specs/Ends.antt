@@ -11,8 +11,8 @@ use Rattle.tlm_types.specs.declared.entry.What.TheVariants.{Call as Called}
 use Rattle.tlm_model.specs.History.{entries_at}
 use Rattle.tlm_model.specs.Route.{later}
 use Rattle.base_phases.specs.Sequences.{Call}
-use Rattle.hop_model.specs.ByRules.{last_time}
-use Rattle.hop_model.specs.Calls.{calls_of, is_of}
+use Rattle.flow_model.specs.ByRules.{last_time}
+use Rattle.flow_model.specs.Calls.{calls_of, is_of}
 use Rattle.flow_model.specs.World.{World, Passage}
 
 abbrev pub is_same_phase : Phase → Phase → Bool

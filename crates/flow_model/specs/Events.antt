@@ -13,7 +13,7 @@ use Rattle.tlm_types.specs.declared.entry.Entry.{Entry}
 use Rattle.tlm_types.specs.declared.entry.What.{What}
 use Rattle.tlm_types.specs.declared.entry.What.TheVariants.{Access as Accessed, Call, Take, Acquire, Release}
 use Rattle.tlm_model.specs.History.{is_object, entries_at}
-use Rattle.hop_model.specs.Calls.{is_of}
+use Rattle.flow_model.specs.Calls.{is_of}
 
 -- An entry, and the number of the reference that it acquires or releases: the number of a hop among those of its access,
 -- or 15 for the reference of the initiator.

@@ -1,3 +1,12 @@
+pub mod Answers
+pub mod Table
+pub mod Board
+pub mod Calls
+pub mod Protocol
+pub mod ByRules
+pub mod Lives
+pub mod Laws
+pub mod Worked
 pub mod World
 pub mod Events
 pub mod Numbers

@@ -4,8 +4,8 @@ use Rattle.tlm_types.specs.declared.words.Phase.TheVariants.{BeginResp}
 use Rattle.tlm_types.specs.declared.entry.What.{What}
 use Rattle.tlm_types.specs.declared.entry.What.TheVariants.{Call as Called}
 use Rattle.base_phases.specs.declared.phases.LaneState.{LaneState}
-use Rattle.hop_model.specs.Answers.{is_requested}
-use Rattle.hop_model.specs.Board.{Board, Reaches, Rules, StepsBy}
+use Rattle.flow_model.specs.Answers.{is_requested}
+use Rattle.flow_model.specs.Board.{Board, Reaches, Rules, StepsBy}
 use Rattle.flow_model.specs.Events.{Event, entries}
 
 -- the mark of a BEGIN_RESP on a lane in this state

@@ -11,9 +11,9 @@ use Rattle.tlm_types.specs.declared.entry.What.TheVariants.{Access as Accessed, 
 use Rattle.tlm_model.specs.Each.{AtEach}
 use Rattle.tlm_model.specs.History.{entries_at}
 use Rattle.base_phases.specs.Sequences.{IsSequence}
-use Rattle.hop_model.specs.ByRules.{KeepsRules, request_end}
-use Rattle.hop_model.specs.Calls.{calls_of}
-use Rattle.hop_model.specs.Table.{IsBegunIn, sequences_of}
+use Rattle.flow_model.specs.ByRules.{KeepsRules, request_end}
+use Rattle.flow_model.specs.Calls.{calls_of}
+use Rattle.flow_model.specs.Table.{IsBegunIn, sequences_of}
 use Rattle.flow_model.specs.World.{World, Passage, hop_count, hop_at, row_of}
 use Rattle.flow_model.specs.Events.{Event, Among, Finds, FindsAt, IsPhase, IsOwn, IsRelease, IsAccess, entries, hop_log}
 use Rattle.flow_model.specs.Numbers.{NumberOf, ReqIs, ArrIs, EndIs, IsEnder}

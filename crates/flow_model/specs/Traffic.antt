@@ -18,9 +18,9 @@ use Rattle.tlm_model.specs.Plan.{Plan, Initiator}
 use Rattle.tlm_model.specs.Requests.{Request, requests_of}
 use Rattle.tlm_model.specs.Scripts.{OfRequest, comes_first}
 use Rattle.base_phases.specs.Sequences.{IsSequence}
-use Rattle.hop_model.specs.Calls.{calls_of}
-use Rattle.hop_model.specs.Protocol.{IsExclusive as IsExclusiveHop}
-use Rattle.hop_model.specs.Table.{sequences_of}
+use Rattle.flow_model.specs.Calls.{calls_of}
+use Rattle.flow_model.specs.Protocol.{IsExclusive as IsExclusiveHop}
+use Rattle.flow_model.specs.Table.{sequences_of}
 use Rattle.flow_model.specs.World.{Passage, hop_at, hop_count, row_of}
 use Rattle.flow_model.specs.Events.{Among, Finds, acquires, numbered}
 use Rattle.flow_model.specs.Points.{EndsInTurn, HasTable, IsFreed, IsFreedLast, IsInOrder, IsTimed, KeepsModes}

@@ -3,7 +3,7 @@ use Rattle.std.specs.Prelude.{ℕ, ◌≡◌, ◌+◌, ◌<◌, List, length, ge
 use Rattle.tlm_types.specs.declared.words.ReqMode.{ReqMode}
 use Rattle.tlm_types.specs.declared.words.ReqMode.TheVariants.{Accept, Short}
 use Rattle.tlm_types.specs.declared.words.TxnId.{TxnId}
-use Rattle.hop_model.specs.Board.{Rules}
+use Rattle.flow_model.specs.Board.{Rules}
 
 -- a hop: how it is made, whether it leads to a memory, and the latency of the component that it leads to
 pub record HopEnds : Type 0 where

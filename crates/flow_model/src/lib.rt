@@ -1,7 +1,18 @@
-//! What four-phase traffic is over a whole history: which components stand at the ends of each hop, which
-//! hops each access passes, and what its calls, its references and its access at the memory have to stand
-//! after, at which times (IEEE 1666-2011, clauses 14.5 and 15.2).
+//! What four-phase traffic is: the log of one hop, and whole histories (IEEE 1666-2011, clauses 14.5 and 15.2).
 //!
+//! **A hop** is one binding of an upstream socket to a downstream component; its log has the calls of non-blocking
+//! transport on it.
+//! - `specs/Answers` and `specs/Table` say which answers and which sequences the modes of the two ends make.
+//! - `specs/Board` says which calls a hop takes, at which times and with which answers: the board has the transactions
+//!   that have begun and not ended, and a log is a list of steps from board to board. It is a relation of the log and
+//!   no function of it: where a transaction begins twice, the log doesn't say on which of its lanes a later call is.
+//! - `specs/Protocol` and `specs/ByRules` say what the log has to keep, without a board: `FollowsPhases`, `IsExclusive`
+//!   and `KeepsRules`, which has the answers and the times.
+//! - `specs/Lives` has the calls of one lane, from its BEGIN_REQ on.
+//! - `laws` says that a log of such steps keeps it, `worked` has small logs.
+//!
+//! **A whole history** tells which components stand at the ends of each hop, which hops each access passes, and what its
+//! calls, its references and its access at the memory have to stand after, at which times.
 //! - `specs/World` has what is read of a platform, `specs/Platform` reads it of a plan. `specs/Events` has
 //!   entries with the numbers of their references.
 //! - `specs/Numbers` has the times that an access's earlier entries give, `specs/Backed` which known
@@ -14,6 +25,8 @@
 //!   `KeepsPools` and `HasPhaseTimes`, and those of the end, `HasWholeSequences`, `HasFreedPayloads` and
 //!   `HasReleaseTimes`.
 //!
-//! There are definitions alone here. That histories whose entries are backed keep the points is said and
-//! proved in the crates above.
+//! That histories whose entries are backed keep the points is said and proved in the crates above.
 #![tactic(auto)]
+
+pub mod laws;
+pub mod worked;

@@ -11,7 +11,7 @@ use Rattle.tlm_types.specs.declared.words.ObjectNo.TheVariants.{Hop}
 use Rattle.tlm_types.specs.declared.words.Phase.TheVariants.{BeginResp, EndResp}
 use Rattle.tlm_types.specs.declared.words.TlmSync.TheVariants.{Completed}
 use Rattle.tlm_types.specs.declared.words.TxnId.{TxnId}
-use Rattle.hop_model.specs.Answers.{response_answer}
+use Rattle.flow_model.specs.Answers.{response_answer}
 use Rattle.tlm_model.specs.Plan.{Plan, initiators_of}
 use Rattle.base_phases.specs.declared.phases.LaneState.TheVariants.{Responding}
 use Rattle.token_book.specs.Account.{Slip}

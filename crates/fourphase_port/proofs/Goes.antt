@@ -17,7 +17,7 @@ use Rattle.tlm_types.specs.declared.words.RespMode.{RespMode}
 use Rattle.tlm_types.specs.declared.words.RespMode.TheVariants as Modes
 use Rattle.tlm_types.specs.declared.words.TxnId.{TxnId}
 use Rattle.tlm_types.specs.declared.words.Way.TheVariants.{FourPhase}
-use Rattle.hop_model.specs.Answers.{response_answer}
+use Rattle.flow_model.specs.Answers.{response_answer}
 use Rattle.generic_payload.specs.Payload.{PayloadView}
 use Rattle.tlm_model.specs.Plan.{Plan, Initiator}
 use Rattle.tlm_model.specs.Route.{Route}

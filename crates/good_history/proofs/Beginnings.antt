@@ -1,6 +1,6 @@
 -- Each beginning of a sound history is sound.
 use Rattle.tlm_model.proofs.HistoryLemmas.{KeepsRequests-front}
-use Rattle.flow_plan.proofs.Beginnings.{beginnings}
+use Rattle.flow_law.proofs.Beginnings.{beginnings}
 use Rattle.grant_model.proofs.Beginnings.{grant_beginnings}
 use Rattle.good_history.specs.Laws.{HasSoundBeginnings}
 

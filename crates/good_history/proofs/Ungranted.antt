@@ -4,7 +4,7 @@ use Rattle.tlm_types.specs.declared.entry.Entry.{Entry}
 use Rattle.tlm_model.specs.Kept.{KeepsRequests, EndsRequests}
 use Rattle.tlm_model.specs.Plan.{Plan}
 use Rattle.tlm_model.proofs.HistoryLemmas.{AllByRecursion-push}
-use Rattle.flow_plan.specs.Plans.{HasNoFourPhase, IsDecoupled}
+use Rattle.flow_law.specs.Plans.{HasNoFourPhase, IsDecoupled}
 use Rattle.grant_model.specs.Laws.{ClosesNothing, HasNoDirect, IsNoClosing}
 use Rattle.grant_model.proofs.Ungranted.{ungranted_closes_nothing, ungranted_keeps_grants}
 use Rattle.good_history.specs.Good.{IsGood, IsSound}

@@ -17,7 +17,7 @@ use Rattle.tlm_model.specs.Kept.{KeepsRequests}
 use Rattle.tlm_model.specs.Plan.{Plan, Initiator, initiators_of}
 use Rattle.tlm_model.specs.Scripts.{IsPlaced}
 use Rattle.flow_model.specs.Events.{Among, Event, entries}
-use Rattle.flow_plan.specs.Valid.{HasNoCycle}
+use Rattle.flow_law.specs.Valid.{HasNoCycle}
 use Rattle.tlm_model.proofs.InitiatorLemmas.{initiator_from}
 use Rattle.grant_model.specs.Kept.{EndsGrants, GivesGatesInOrder, IsGateInOrder, KeepsGrants}
 use Rattle.joined_grants.specs.Parts.{EndsOwnGrants, HasGrantParts, KeepsGateLog, KeepsOwnGrants}

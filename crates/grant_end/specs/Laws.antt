@@ -14,7 +14,7 @@ use Rattle.tlm_types.specs.declared.words.ObjectNo.TheVariants.{Memory}
 use Rattle.tlm_model.specs.History.{entries_at}
 use Rattle.tlm_model.specs.Plan.{Plan, initiators_of}
 use Rattle.flow_model.specs.Events.{Event, entries}
-use Rattle.flow_plan.specs.Valid.{HasNoCycle}
+use Rattle.flow_law.specs.Valid.{HasNoCycle}
 use Rattle.grant_model.specs.Kept.{EndsGrants, KeepsGrants}
 use Rattle.grant_model.specs.Grants.{closes}
 use Rattle.joined_grants.specs.Parts.{KeepsGateLog, uses_gate}

@@ -3,7 +3,7 @@ use Rattle.std.proofs.Common.{◌≡◌, suc, ◌≤◌, Bool, false, ◌||◌, 
 use Rattle.std.specs.List.{list_any}
 use Rattle.base_phases.specs.declared.phases.LaneState.{LaneState}
 use Rattle.base_phases.specs.declared.phases.LaneState.TheVariants.{Free, Requested, Waiting, Responding}
-use Rattle.hop_model.specs.Board.{Open, any_in}
+use Rattle.flow_model.specs.Board.{Open, any_in}
 use Rattle.hop_object.specs.declared.lane.Lane.{Lane}
 use Rattle.hop_object.specs.Lanes.{open_by, opens}
 

@@ -8,7 +8,7 @@ use Rattle.tlm_types.specs.declared.words.TlmSync.TheVariants.{Accepted, Updated
 use Rattle.base_phases.specs.declared.phases.LaneState.{LaneState}
 use Rattle.base_phases.specs.declared.phases.LaneState.TheVariants.{Free, Requested, Waiting, Responding}
 use Rattle.token_book.specs.Account.{Slip}
-use Rattle.hop_model.specs.Answers.{response_answer}
+use Rattle.flow_model.specs.Answers.{response_answer}
 use Rattle.flow_model.specs.Events.{Event}
 use Rattle.view_lists.specs.Lists.{Within}
 use Rattle.view_lists.proofs.Members.{has_right}

@@ -19,8 +19,8 @@ use Rattle.base_phases.specs.declared.phases.LaneState.{LaneState}
 use Rattle.base_phases.specs.declared.phases.LaneState.TheVariants.{Free, Requested, Waiting, Responding}
 use Rattle.base_phases.specs.Phases.{next_state}
 use Rattle.token_book.specs.Account.{Account, Slip, out_of, retired}
-use Rattle.hop_model.specs.Answers.{is_requested, is_responding, request_answer, response_answer}
-use Rattle.hop_model.specs.Board.{Open, Rules, Moves, InTurn, fresh_lane, lane_after, start}
+use Rattle.flow_model.specs.Answers.{is_requested, is_responding, request_answer, response_answer}
+use Rattle.flow_model.specs.Board.{Open, Rules, Moves, InTurn, fresh_lane, lane_after, start}
 use Rattle.flow_model.specs.Events.{Event}
 use Rattle.flow_model.specs.Marked.{Marks, ReachesMarked, mark_of}
 use Rattle.numbered_log.specs.Logged.{IsBefore}

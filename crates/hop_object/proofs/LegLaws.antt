@@ -12,10 +12,10 @@ use Rattle.base_phases.specs.Sequences.{IsBegun}
 use Rattle.base_phases.specs.declared.phases.LaneState.{LaneState}
 use Rattle.base_phases.specs.declared.phases.LaneState.TheVariants.{Free, Requested, Waiting, Responding}
 use Rattle.token_book.specs.Account.{Account, Slip}
-use Rattle.hop_model.specs.Board.{Open}
-use Rattle.hop_model.specs.Calls.{begins_request}
-use Rattle.hop_model.specs.Lives.{HasOneBeginAt, life_of}
-use Rattle.hop_model.proofs.LifeLemmas.{life_begun}
+use Rattle.flow_model.specs.Board.{Open}
+use Rattle.flow_model.specs.Calls.{begins_request}
+use Rattle.flow_model.specs.Lives.{HasOneBeginAt, life_of}
+use Rattle.flow_model.proofs.LifeLemmas.{life_begun}
 use Rattle.flow_model.specs.Events.{Among, Event, FindsAt, IsOwn, entries}
 use Rattle.tlm_types.specs.declared.words.Phase.TheVariants.{BeginReq, EndReq, BeginResp, EndResp}
 use Rattle.tlm_types.specs.declared.words.TlmSync.{TlmSync}

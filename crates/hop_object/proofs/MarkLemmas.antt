@@ -9,16 +9,16 @@ use Rattle.tlm_types.specs.declared.entry.What.{What}
 use Rattle.tlm_types.specs.declared.entry.What.TheVariants as Whats
 use Rattle.tlm_model.specs.Each.{AtEach, EachFrom}
 use Rattle.tlm_model.specs.Requests.{is_txn}
-use Rattle.hop_model.specs.Answers.{is_requested}
-use Rattle.hop_model.specs.Board.{Board, Open, Reaches, Rules, StepsBy, start}
-use Rattle.hop_model.specs.Calls.{calls_of, has_open_request}
-use Rattle.hop_model.specs.Lives.{of_txn}
-use Rattle.hop_model.specs.Protocol.{BeginsOnce}
-use Rattle.hop_model.proofs.CallLemmas.{agrees, few_lanes, once_before}
-use Rattle.hop_model.proofs.FlagLemmas.{open_request}
-use Rattle.hop_model.proofs.LaneLemmas.{has, held, in_place, state_in}
-use Rattle.hop_model.proofs.RuleLemmas.{same_self}
-use Rattle.hop_model.proofs.StepLemmas.{reaches_push}
+use Rattle.flow_model.specs.Answers.{is_requested}
+use Rattle.flow_model.specs.Board.{Board, Open, Reaches, Rules, StepsBy, start}
+use Rattle.flow_model.specs.Calls.{calls_of, has_open_request}
+use Rattle.flow_model.specs.Lives.{of_txn}
+use Rattle.flow_model.specs.Protocol.{BeginsOnce}
+use Rattle.flow_model.proofs.CallLemmas.{agrees, few_lanes, once_before}
+use Rattle.flow_model.proofs.FlagLemmas.{open_request}
+use Rattle.flow_model.proofs.LaneLemmas.{has, held, in_place, state_in}
+use Rattle.flow_model.proofs.RuleLemmas.{same_self}
+use Rattle.flow_model.proofs.StepLemmas.{reaches_push}
 use Rattle.flow_model.specs.Events.{Event, entries}
 use Rattle.flow_model.specs.Marked.{MarkedBy, ReachesMarked}
 

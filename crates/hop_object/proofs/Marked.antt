@@ -1,6 +1,6 @@
 -- One more entry of a log with marks.
 use Rattle.std.proofs.Common.{List, [], ◌∷◌, ◌++◌, refl, sym, subst}
-use Rattle.hop_model.specs.Board.{Board, Rules}
+use Rattle.flow_model.specs.Board.{Board, Rules}
 use Rattle.flow_model.specs.Events.{Event}
 use Rattle.flow_model.specs.Marked.{Marks, ReachesMarked}
 

@@ -10,7 +10,7 @@ use Rattle.tlm_types.specs.declared.words.TlmSync.TheVariants.{Accepted, Updated
 use Rattle.base_phases.specs.declared.phases.LaneState.{LaneState}
 use Rattle.token_book.specs.Account.{Slip}
 use Rattle.shared_object.specs.Written.{MayWrite, wrote}
-use Rattle.hop_model.specs.Answers.{response_answer}
+use Rattle.flow_model.specs.Answers.{response_answer}
 use Rattle.flow_model.specs.Events.{Event}
 use Rattle.flow_model.specs.Marked.{mark_of}
 use Rattle.numbered_log.specs.Logged.{LoggedView, with_event, written_by}

@@ -13,7 +13,7 @@ use Rattle.token_book.specs.Account.{Slip}
 use Rattle.view_lists.specs.Lists.{Has}
 use Rattle.view_lists.proofs.Members.{has_map, has_one, has_none}
 use Rattle.shared_object.specs.Written.{Written}
-use Rattle.hop_model.specs.Board.{Open}
+use Rattle.flow_model.specs.Board.{Open}
 use Rattle.flow_model.specs.Events.{Among, Event}
 use Rattle.numbered_log.specs.Logged.{written_by}
 use Rattle.hop_object.specs.declared.lane.Lane.{Lane}

@@ -10,8 +10,8 @@ use Rattle.tlm_types.specs.declared.entry.What.{What}
 use Rattle.tlm_types.specs.declared.entry.What.TheVariants as Whats
 use Rattle.base_phases.specs.declared.phases.LaneState.{LaneState}
 use Rattle.base_phases.specs.declared.phases.LaneState.TheVariants.{Free, Requested, Waiting, Responding}
-use Rattle.hop_model.specs.Answers.{is_requested}
-use Rattle.hop_model.specs.Board.{Begins, Board, Moves, Open, Rules, StepsBy, ends_response, fresh_lane, lane_after, request_end_after, response_end_after, start}
+use Rattle.flow_model.specs.Answers.{is_requested}
+use Rattle.flow_model.specs.Board.{Begins, Board, Moves, Open, Rules, StepsBy, ends_response, fresh_lane, lane_after, request_end_after, response_end_after, start}
 use Rattle.flow_model.specs.Events.{Among, Event, Finds, FindsAt, IsCall, IsOwn, IsPhase}
 use Rattle.flow_model.specs.Backed.{EndsRequest, EndsRequestBy, EndsResponse}
 use Rattle.flow_model.specs.Marked.{MarkedBy, ReachesMarked}

@@ -7,7 +7,7 @@ use Rattle.tlm_types.specs.declared.words.TlmSync.TheVariants.{Accepted, Updated
 use Rattle.base_phases.specs.declared.phases.LaneState.{LaneState}
 use Rattle.base_phases.specs.declared.phases.LaneState.TheVariants.{Free, Requested, Waiting, Responding}
 use Rattle.token_book.specs.Account.{Slip, retired}
-use Rattle.hop_model.specs.Answers.{response_answer}
+use Rattle.flow_model.specs.Answers.{response_answer}
 use Rattle.flow_model.specs.Events.{Event}
 use Rattle.flow_model.specs.Marked.{mark_of}
 use Rattle.hop_object.specs.declared.lane.Lane.{Lane}

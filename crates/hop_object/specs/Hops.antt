@@ -12,8 +12,8 @@ use Rattle.base_phases.specs.declared.phases.LaneState.TheVariants.{Free}
 use Rattle.base_phases.specs.Phases.{next_state}
 use Rattle.token_book.specs.Account.{Account, Slip, out_of, issued, retired, slip}
 use Rattle.shared_object.specs.Written.{logged, wrote}
-use Rattle.hop_model.specs.Answers.{request_answer, is_requested}
-use Rattle.hop_model.specs.Board.{Board, Rules, start, request_end_after, response_end_after, Reaches}
+use Rattle.flow_model.specs.Answers.{request_answer, is_requested}
+use Rattle.flow_model.specs.Board.{Board, Rules, start, request_end_after, response_end_after, Reaches}
 use Rattle.flow_model.specs.Events.{Among, Event, Finds, IsPhase, entries}
 use Rattle.flow_model.specs.Marked.{ReachesMarked, unmarked}
 use Rattle.numbered_log.specs.Logged.{event_of, with_event, IsBefore}

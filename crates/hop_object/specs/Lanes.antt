@@ -6,8 +6,8 @@ use Rattle.tlm_types.specs.declared.words.TxnId.{TxnId}
 use Rattle.tlm_model.specs.Requests.{is_txn}
 use Rattle.base_phases.specs.declared.phases.LaneState.{LaneState}
 use Rattle.base_phases.specs.declared.phases.LaneState.TheVariants.{Free, Requested, Waiting}
-use Rattle.hop_model.specs.Answers.{is_requested, is_responding}
-use Rattle.hop_model.specs.Board.{Open}
+use Rattle.flow_model.specs.Answers.{is_requested, is_responding}
+use Rattle.flow_model.specs.Board.{Open}
 use Rattle.hop_object.specs.declared.lane.Lane.{Lane}
 use Rattle.hop_object.specs.declared.lane.Side.{Side}
 use Rattle.hop_object.specs.declared.lane.Side.TheVariants.{Down, Up}

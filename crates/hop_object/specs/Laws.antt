@@ -8,7 +8,7 @@ use Rattle.base_phases.specs.declared.phases.LaneState.{LaneState}
 use Rattle.base_phases.specs.declared.phases.LaneState.TheVariants.{Free, Requested, Waiting, Responding}
 use Rattle.token_book.specs.Account.{Account, Slip}
 use Rattle.tlm_model.specs.Each.{AtEach}
-use Rattle.hop_model.specs.Calls.{has_open_request}
+use Rattle.flow_model.specs.Calls.{has_open_request}
 use Rattle.flow_model.specs.Events.{Among, Event, Finds, FindsAt, IsCall, IsOwn, IsPhase, entries}
 use Rattle.flow_model.specs.Backed.{EndsRequest, EndsResponse}
 use Rattle.view_lists.specs.Lists.{Has}

@@ -1,8 +1,8 @@
 // What the modes of a hop's two ends answer, and what a call ends.
 ghost use Rattle.std.specs.Prelude.{◌≡◌, false};
 ghost use Rattle.tlm_types.specs.declared.words.Phase.TheVariants.{BeginReq, BeginResp};
-ghost use Rattle.hop_model.specs.Answers.{is_requested, is_responding, request_answer, response_answer};
-ghost use Rattle.hop_model.specs.Board.{request_end_after, response_end_after};
+ghost use Rattle.flow_model.specs.Answers.{is_requested, is_responding, request_answer, response_answer};
+ghost use Rattle.flow_model.specs.Board.{request_end_after, response_end_after};
 ghost use Rattle.flow_model.specs.Marked.{mark_of};
 ghost use Rattle.hop_object.specs.States.{number_of_state, state_by, is_down};
 

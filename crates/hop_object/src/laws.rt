@@ -2,9 +2,9 @@
 ghost use Rattle.std.specs.Prelude.{◌≡◌, ℕ, ◌<◌, ◌%◌, true};
 ghost use Rattle.token_book.specs.Account.{Slip};
 ghost use Rattle.base_phases.specs.Sequences.{IsBegun};
-ghost use Rattle.hop_model.specs.Lives.{life_of};
-ghost use Rattle.hop_model.specs.Protocol.{BeginsOnce, FollowsPhases, IsExclusive};
-ghost use Rattle.hop_model.specs.ByRules.{KeepsRules};
+ghost use Rattle.flow_model.specs.Lives.{life_of};
+ghost use Rattle.flow_model.specs.Protocol.{BeginsOnce, FollowsPhases, IsExclusive};
+ghost use Rattle.flow_model.specs.ByRules.{KeepsRules};
 ghost use Rattle.flow_model.specs.Events.{entries};
 ghost use Rattle.hop_object.specs.declared.call.HopCall.{HopCall};
 ghost use Rattle.hop_object.specs.declared.call.HopReply.{HopReply};

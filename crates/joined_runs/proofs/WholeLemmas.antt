@@ -7,7 +7,7 @@ use Rattle.tlm_model.specs.Plan.{Plan, initiators_of}
 use Rattle.tlm_model.specs.Requests.{requests_of}
 use Rattle.tlm_model.specs.Scripts.{IsPlaced, RunsScripts, is_settled}
 use Rattle.tlm_model.proofs.HistoryLemmas.{AllByRecursion-weaker}
-use Rattle.flow_plan.specs.Plans.{IsDecoupled}
+use Rattle.flow_law.specs.Plans.{IsDecoupled}
 use Rattle.good_history.specs.Laws.{AllDecoupled}
 use Rattle.good_history.proofs.Ungranted.{blocking_is_good, blocking_is_sound}
 use Rattle.joined_runs.specs.Own.{own}

@@ -12,7 +12,7 @@ use Rattle.tlm_model.specs.Plan.{Plan, Initiator, initiators_of}
 use Rattle.tlm_model.specs.Requests.{Request, requests_of}
 use Rattle.tlm_model.specs.Scripts.{IsPlaced, RunsScripts}
 use Rattle.tlm_model.specs.Times.{HasDecoupledTimes}
-use Rattle.flow_plan.specs.Plans.{HasNoFourPhase}
+use Rattle.flow_law.specs.Plans.{HasNoFourPhase}
 use Rattle.grant_model.specs.Laws.{ClosesNothing, HasNoDirect}
 use Rattle.good_history.specs.Good.{IsGood, IsSound}
 use Rattle.joined_runs.specs.Own.{AsksByOwn, IsToldByOwn, own}

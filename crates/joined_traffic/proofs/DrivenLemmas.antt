@@ -15,7 +15,7 @@ use Rattle.tlm_types.specs.declared.entry.What.{What}
 use Rattle.tlm_types.specs.declared.entry.What.TheVariants.{Acquire}
 use Rattle.tlm_model.specs.Each.{AtEach}
 use Rattle.base_phases.specs.Sequences.{Call}
-use Rattle.hop_model.specs.Table.{sequences_of}
+use Rattle.flow_model.specs.Table.{sequences_of}
 use Rattle.flow_model.specs.World.{World, Passage, IsWorld, hop_at, hop_count, row_of}
 use Rattle.flow_model.specs.Backed.{IsBacked}
 use Rattle.flow_model.specs.Events.{Among, Event, Finds, IsAcquire, IsCall, IsRelease, IsTake, at}

@@ -14,9 +14,9 @@ use Rattle.tlm_types.specs.declared.entry.Entry.{Entry}
 use Rattle.tlm_types.specs.declared.entry.What.{What}
 use Rattle.tlm_types.specs.declared.entry.What.TheVariants.{Call as Called}
 use Rattle.base_phases.specs.Sequences.{Call, IsSequence}
-use Rattle.hop_model.specs.Answers.{request_answer, response_answer}
-use Rattle.hop_model.specs.Calls.{calls_of}
-use Rattle.hop_model.specs.Table.{ending, sequences_of}
+use Rattle.flow_model.specs.Answers.{request_answer, response_answer}
+use Rattle.flow_model.specs.Calls.{calls_of}
+use Rattle.flow_model.specs.Table.{ending, sequences_of}
 use Rattle.flow_model.specs.World.{World, Passage, hop_at, row_by, is_refused, row_of}
 use Rattle.flow_model.specs.Events.{Among, Event, Finds, IsCall, entries, hop_log, at}
 use Rattle.flow_model.specs.Numbers.{IsEnder, IsEnding}

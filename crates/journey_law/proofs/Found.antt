@@ -14,8 +14,8 @@ use Rattle.token_book.specs.Account.{Slip}
 use Rattle.flow_model.specs.World.{Passage, hop_at, hop_count, is_refused, row_of}
 use Rattle.flow_model.specs.Events.{Among, Event, Finds, IsCall}
 use Rattle.flow_model.specs.Platform.{passage_of, world_of}
-use Rattle.flow_plan.specs.Valid.{HasNoCycle}
-use Rattle.flow_plan.proofs.Ways.{world_law}
+use Rattle.flow_law.specs.Valid.{HasNoCycle}
+use Rattle.flow_law.proofs.Ways.{world_law}
 use Rattle.cargo_model.specs.declared.cargo.Cargo.{Cargo}
 use Rattle.cargo_model.specs.Called.{IsAnswerIn}
 use Rattle.cargo_model.specs.Counts.{owed_by}
@@ -27,7 +27,7 @@ use Rattle.cargo_net.specs.Fetched.{HasFetchedRequest, HasFetchedResponse, mode_
 use Rattle.cargo_net.specs.declared.fetches.FetchedRequest.{FetchedRequest}
 use Rattle.cargo_net.specs.declared.fetches.FetchedResponse.{FetchedResponse}
 use Rattle.begun_end.specs.Cargos.{IsRequested}
-use Rattle.hop_model.specs.Answers.{request_answer, response_answer}
+use Rattle.flow_model.specs.Answers.{request_answer, response_answer}
 use Rattle.hop_object.specs.declared.lane.Side.TheVariants.{Down as Downward, Up as Upward}
 use Rattle.cargo_model.specs.Travel.{Back as IsBackAt, GoesDown, GoesUp, IsVouched, Ready, There}
 use Rattle.plat_net.specs.HopCalls.{CanRespond}

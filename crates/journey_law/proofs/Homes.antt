@@ -18,8 +18,8 @@ use Rattle.flow_law.proofs.Each.{at_each}
 use Rattle.flow_law.proofs.More.{is_backed_more}
 use Rattle.flow_law.proofs.Reading.{backed_call}
 use Rattle.flow_law.proofs.Splits.{among_split, among_whole}
-use Rattle.flow_plan.specs.Valid.{HasNoCycle}
-use Rattle.flow_plan.proofs.Ways.{world_law}
+use Rattle.flow_law.specs.Valid.{HasNoCycle}
+use Rattle.flow_law.proofs.Ways.{world_law}
 use Rattle.joined_traffic.specs.Accesses.{sum_below, txn_of}
 use Rattle.joined_traffic.proofs.MemoryLemmas.{has_among}
 use Rattle.begun_traffic.proofs.CallCounts.{called_first}

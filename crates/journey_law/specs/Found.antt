@@ -8,12 +8,12 @@ use Rattle.tlm_types.specs.declared.words.ObjectNo.TheVariants.{Hop}
 use Rattle.tlm_types.specs.declared.words.Phase.TheVariants.{BeginReq, BeginResp}
 use Rattle.tlm_types.specs.declared.words.TxnId.{TxnId}
 use Rattle.tlm_model.specs.Plan.{Plan}
-use Rattle.hop_model.specs.Answers.{request_answer, response_answer}
+use Rattle.flow_model.specs.Answers.{request_answer, response_answer}
 use Rattle.hop_object.specs.declared.lane.Side.TheVariants.{Down as Downward, Up as Upward}
 use Rattle.flow_model.specs.World.{Passage, hop_at, hop_count}
 use Rattle.flow_model.specs.Events.{Among, Event, Finds, IsCall}
 use Rattle.flow_model.specs.Platform.{passage_of, world_of}
-use Rattle.flow_plan.specs.Valid.{HasNoCycle}
+use Rattle.flow_law.specs.Valid.{HasNoCycle}
 use Rattle.cargo_model.specs.declared.cargo.Cargo.{Cargo}
 use Rattle.cargo_model.specs.Known.{object_number, objects_of}
 use Rattle.cargo_net.specs.Carried.{IsCarried}

@@ -8,7 +8,7 @@ use Rattle.tlm_types.specs.declared.words.ObjectNo.TheVariants.{Hop}
 use Rattle.tlm_types.specs.declared.words.Phase.TheVariants.{BeginResp}
 use Rattle.tlm_types.specs.declared.words.TxnId.{TxnId}
 use Rattle.tlm_model.specs.Plan.{Plan}
-use Rattle.hop_model.specs.Answers.{response_answer}
+use Rattle.flow_model.specs.Answers.{response_answer}
 use Rattle.token_book.specs.Account.{Slip}
 use Rattle.token_book.specs.Purse.{Purse}
 use Rattle.payload_pool.specs.declared.baton.Baton.{Baton}

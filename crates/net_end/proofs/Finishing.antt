@@ -20,7 +20,7 @@ use Rattle.tlm_model.specs.Requests.{refused_of}
 use Rattle.tlm_model.specs.Route.{Route, route_of}
 use Rattle.flow_model.specs.Events.{Event, entries}
 use Rattle.flow_model.specs.Platform.{passage_of}
-use Rattle.flow_plan.specs.Valid.{HasNoCycle}
+use Rattle.flow_law.specs.Valid.{HasNoCycle}
 use Rattle.tlm_model.proofs.InitiatorLemmas.{initiator_from}
 use Rattle.report_model.specs.Ends.{IsEndOf, refused_at}
 use Rattle.report_model.specs.Laws.{IsEndByLatencies}

@@ -25,14 +25,14 @@ use Rattle.tlm_types.specs.declared.words.RespMode.{RespMode}
 use Rattle.tlm_types.specs.declared.words.Phase.TheVariants.{BeginResp}
 use Rattle.tlm_types.specs.declared.words.TlmSync.{TlmSync}
 use Rattle.tlm_types.specs.declared.entry.What.TheVariants.{Call as Called}
-use Rattle.hop_model.specs.Calls.{has_open_request}
+use Rattle.flow_model.specs.Calls.{has_open_request}
 use Rattle.payload_pool.specs.Lives.{no_takes, takes_after}
 use Rattle.tlm_model.specs.History.{IsNumberedFrom, entries_at, is_object}
 use Rattle.tlm_model.specs.Log.{IsLog}
 use Rattle.tlm_model.specs.Plan.{Plan, initiators_of}
 use Rattle.tlm_model.specs.Route.{greatest_time}
-use Rattle.hop_model.specs.Board.{Reaches, Rules, start}
-use Rattle.hop_model.specs.Protocol.{BeginsOnce}
+use Rattle.flow_model.specs.Board.{Reaches, Rules, start}
+use Rattle.flow_model.specs.Protocol.{BeginsOnce}
 use Rattle.flow_model.specs.Backed.{IsBacked}
 use Rattle.flow_model.specs.Events.{Among, Event, at, entries, hop_log}
 use Rattle.flow_model.specs.Platform.{world_of}

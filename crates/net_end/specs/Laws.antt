@@ -15,7 +15,7 @@ use Rattle.tlm_model.specs.declared.platform.Style.TheVariants.{FourPhase}
 use Rattle.tlm_model.specs.Plan.{Plan, Initiator, initiators_of}
 use Rattle.region_object.specs.Grants.{IsGrantLog}
 use Rattle.flow_model.specs.Events.{Event, entries}
-use Rattle.flow_plan.specs.Valid.{HasNoCycle}
+use Rattle.flow_law.specs.Valid.{HasNoCycle}
 use Rattle.joined_grants.specs.Parts.{EndsOwnGrants, KeepsOwnGrants}
 use Rattle.joined_runs.specs.Own.{own}
 use Rattle.joined_traffic.specs.Ended.{HaveLeft}

@@ -28,7 +28,7 @@ use Rattle.base_phases.specs.declared.phases.LaneState.{LaneState}
 use Rattle.base_phases.specs.declared.phases.LaneState.TheVariants.{Free, Requested, Waiting, Responding}
 use Rattle.base_phases.specs.Phases.{next_state}
 use Rattle.shared_object.specs.Written.{Written, placed, written}
-use Rattle.hop_model.specs.Board.{Begins, Board, Moves, Open, Rules, StepsBy, fresh_lane, lane_after, start}
+use Rattle.flow_model.specs.Board.{Begins, Board, Moves, Open, Rules, StepsBy, fresh_lane, lane_after, start}
 use Rattle.flow_model.specs.Events.{Among, Event, Finds}
 use Rattle.flow_model.specs.Marked.{ReachesMarked}
 use Rattle.flow_model.specs.Numbers.{IsEnder, IsEnding}

@@ -25,7 +25,7 @@ use Rattle.tlm_types.specs.Log.{LogView}
 use Rattle.tlm_model.specs.History.{IsNumbered, entries_at, last_store}
 use Rattle.tlm_model.specs.Plan.{Plan, initiators_of}
 use Rattle.flow_model.specs.Events.{entries}
-use Rattle.flow_plan.specs.Valid.{HasNoCycle}
+use Rattle.flow_law.specs.Valid.{HasNoCycle}
 use Rattle.grant_model.specs.Kept.{EndsGrants, KeepsGrants}
 use Rattle.good_history.specs.Good.{IsGood}
 use Rattle.joined_runs.proofs.StoreLemmas.{logs_make_last_store}

@@ -9,7 +9,7 @@ use Rattle.tlm_model.specs.declared.platform.Platform.{Platform}
 use Rattle.tlm_model.specs.declared.platform.Style.{Style}
 use Rattle.tlm_model.specs.declared.platform.Style.TheVariants.{Blocking, Direct, FourPhase}
 use Rattle.tlm_model.specs.Plan.{Plan, Initiator, initiators_from, initiators_of}
-use Rattle.flow_plan.specs.Plans.{HasNoFourPhase}
+use Rattle.flow_law.specs.Plans.{HasNoFourPhase}
 use Rattle.tlm_model.proofs.InitiatorLemmas.{initiator_from}
 use Rattle.grant_model.specs.Laws.{HasNoDirect}
 use Rattle.route_plan.specs.Shape.{IsBlocking}

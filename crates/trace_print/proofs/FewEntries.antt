@@ -29,8 +29,8 @@ use Rattle.tlm_model.specs.Scripts.{IsInOrder, IsPlaced, OfRequest, has_answer, 
 use Rattle.tlm_model.proofs.EachLemmas.{EachFrom-weaker, append_nil}
 use Rattle.tlm_model.proofs.HistoryLemmas.{AllByRecursion-weaker}
 use Rattle.base_phases.specs.Sequences.{Call as PhaseCall}
-use Rattle.hop_model.specs.Calls.{calls_in, calls_of, is_of}
-use Rattle.hop_model.specs.Table.{IsBegunIn, sequences_of}
+use Rattle.flow_model.specs.Calls.{calls_in, calls_of, is_of}
+use Rattle.flow_model.specs.Table.{IsBegunIn, sequences_of}
 use Rattle.flow_model.specs.World.{hop_at, row_of}
 use Rattle.flow_model.specs.Events.{acquire_by, acquires}
 use Rattle.flow_model.specs.Counts.{release_time_by, release_times, take_by, takes}

@@ -19,9 +19,9 @@ use Rattle.tlm_model.specs.Plan.{Plan, Initiator, initiators_of}
 use Rattle.tlm_model.specs.Requests.{Asked, Transport, DebugRead, Invalidation, Request, paused, requests_of}
 use Rattle.tlm_model.specs.Route.{route_of}
 use Rattle.tlm_model.specs.Scripts.{HasWay, IsEntryOf}
-use Rattle.hop_model.specs.Board.{ends_request}
-use Rattle.hop_model.specs.ByRules.{last_time, request_end_by, request_end_from}
-use Rattle.hop_model.specs.Calls.{calls_of, has_open_request, is_of}
+use Rattle.flow_model.specs.Board.{ends_request}
+use Rattle.flow_model.specs.ByRules.{last_time, request_end_by, request_end_from}
+use Rattle.flow_model.specs.Calls.{calls_of, has_open_request, is_of}
 use Rattle.flow_model.specs.World.{World, Passage, hop_at}
 use Rattle.flow_model.specs.Events.{Event, Among, FindsAt, IsPhase, IsTake, entries, hop_log}
 use Rattle.flow_model.specs.Numbers.{ArrIs, EndIs, NumberOf, Past, RspFrom, UpFrom, served_hop}

@@ -1,7 +1,7 @@
 use Rattle.std.proofs.Common.{◌≡◌, ℕ, drop}
 use Rattle.std.specs.List.{fold}
 use Rattle.tlm_types.specs.declared.entry.Entry.{Entry}
-use Rattle.hop_model.specs.ByRules.{response_end, response_end_by}
+use Rattle.flow_model.specs.ByRules.{response_end, response_end_by}
 use Rattle.flow_check.proofs.checks.response_end.Given as goal
 
 -- the entries from here on are still to be looked at

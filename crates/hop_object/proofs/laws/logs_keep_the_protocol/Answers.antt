@@ -1,6 +1,6 @@
-use Rattle.hop_model.proofs.CallLemmas.{follows}
-use Rattle.hop_model.proofs.ExclusionLemmas.{exclusive}
-use Rattle.hop_model.proofs.RuleLemmas.{keeps_rules}
+use Rattle.flow_model.proofs.CallLemmas.{follows}
+use Rattle.flow_model.proofs.ExclusionLemmas.{exclusive}
+use Rattle.flow_model.proofs.RuleLemmas.{keeps_rules}
 use Rattle.flow_model.specs.Events.{entries}
 use Rattle.hop_object.specs.Hops.{board_of, reached_of, rules_of}
 use Rattle.hop_object.proofs.laws.logs_keep_the_protocol.Goals as goal

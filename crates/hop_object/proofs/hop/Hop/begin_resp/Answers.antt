@@ -1,7 +1,7 @@
 use Rattle.std.proofs.Common.{◌≡◌, Option, sym, subst, ap, true, ◌∙◌}
 use Rattle.std.specs.Option.{IsSome}
 use Rattle.tlm_types.specs.declared.words.TxnId.{TxnId}
-use Rattle.hop_model.specs.Answers.{is_responding}
+use Rattle.flow_model.specs.Answers.{is_responding}
 use Rattle.hop_object.specs.declared.lane.Lane.{Lane}
 use Rattle.hop_object.specs.Lanes.{any_responding, responder}
 use Rattle.hop_object.proofs.Places.{finds}

@@ -2,7 +2,7 @@ use Rattle.std.proofs.Common.{◌≡◌, ◌≤◌, true, not, Some, sym, subst,
 use Rattle.tlm_types.specs.declared.words.Phase.TheVariants.{BeginReq}
 use Rattle.base_phases.specs.declared.phases.LaneState.TheVariants.{Free}
 use Rattle.base_phases.specs.Phases.{next_state}
-use Rattle.hop_model.specs.Answers.{request_answer}
+use Rattle.flow_model.specs.Answers.{request_answer}
 use Rattle.hop_object.specs.View.{HopView}
 use Rattle.hop_object.specs.Inside.{view_of}
 use Rattle.hop_object.specs.Lanes.{any_responding}

@@ -1,5 +1,0 @@
-use Rattle.hop_model.proofs.LifeLemmas.{life_begun}
-use Rattle.hop_model.proofs.laws.lives_follow_phases.Goals as goal
-
-pub returns : goal.returns
-returns c = life_begun

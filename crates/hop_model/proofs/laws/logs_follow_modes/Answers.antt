@@ -1,5 +1,0 @@
-use Rattle.hop_model.proofs.TableLemmas.{follows_modes}
-use Rattle.hop_model.proofs.laws.logs_follow_modes.Goals as goal
-
-pub returns : goal.returns
-returns c = follows_modes

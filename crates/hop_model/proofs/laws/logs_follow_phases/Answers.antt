@@ -1,5 +1,0 @@
-use Rattle.hop_model.proofs.CallLemmas.{follows}
-use Rattle.hop_model.proofs.laws.logs_follow_phases.Goals as goal
-
-pub returns : goal.returns
-returns c = follows

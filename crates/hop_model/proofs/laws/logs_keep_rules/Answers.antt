@@ -1,5 +1,0 @@
-use Rattle.hop_model.proofs.RuleLemmas.{keeps_rules}
-use Rattle.hop_model.proofs.laws.logs_keep_rules.Goals as goal
-
-pub returns : goal.returns
-returns c = keeps_rules

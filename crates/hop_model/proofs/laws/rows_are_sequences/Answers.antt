@@ -1,5 +1,0 @@
-use Rattle.hop_model.proofs.WorkedLogs.{rows}
-use Rattle.hop_model.proofs.laws.rows_are_sequences.Goals as goal
-
-pub returns : goal.returns
-returns c = rows

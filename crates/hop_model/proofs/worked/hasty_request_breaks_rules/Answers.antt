@@ -1,5 +1,0 @@
-use Rattle.hop_model.proofs.WorkedLogs.{hasty_breaks_rules}
-use Rattle.hop_model.proofs.worked.hasty_request_breaks_rules.Goals as goal
-
-pub returns : goal.returns
-returns c = hasty_breaks_rules

@@ -1,5 +1,0 @@
-use Rattle.hop_model.proofs.WorkedLogs.{turns_pass}
-use Rattle.hop_model.proofs.worked.transactions_take_turns.Goals as goal
-
-pub returns : goal.returns
-returns c = turns_pass

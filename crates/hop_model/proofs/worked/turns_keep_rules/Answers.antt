@@ -1,5 +1,0 @@
-use Rattle.hop_model.proofs.WorkedLogs.{turns_by_rules}
-use Rattle.hop_model.proofs.worked.turns_keep_rules.Goals as goal
-
-pub returns-clause-rules : goal.returns-clause-rules
-returns-clause-rules c = turns_by_rules
