@@ -78,10 +78,10 @@ fn end_run<N: Naming<Plan, TlmLaw>, R: Wait>(
     handed: HandedIn,
 ) -> Result<(Outcome, PlatSealed), Memory>
     requires { AreFinished N.table N.tokens N.frame.world (length N.frame.world.platform.initiators) handed.ends.items handed.wallets.items handed.notes.items }
-    ensures whole { IfOk result (λ r. IsWhole net r.0) }
-    ensures core { IfOk result (λ r. IsCoreRun net r.0.history.entries) }
-    ensures sealed { IfOk result (λ r. entries_read net.platform r.1.entries ≡ r.0.history.entries) }
-    ensures world { IfOk result (λ r. (r.1.table ≡ N.table) × (r.1.world ≡ net)) }
+    ensures whole { IfOk result (λ r. IsWhole N.frame.world r.0) }
+    ensures core { IfOk result (λ r. IsCoreRun N.frame.world r.0.history.entries) }
+    ensures sealed { IfOk result (λ r. entries_read N.frame.world.platform r.1.entries ≡ r.0.history.entries) }
+    ensures world { IfOk result (λ r. (r.1.table ≡ N.table) × (r.1.world ≡ N.frame.world)) }
 {
     let _ = net.plan().platform();
     let HandedIn {
