@@ -1,5 +1,9 @@
 // Runs at the limits of a platform and its scripts.
 use crate::bench::{answer, text_of};
+use std::alloc::Global;
+use std::process::Abort;
+use std::sync::Wait;
+use std::thread::Threads;
 
 // Ten initiators that read a memory of 10 ps, far ahead of one another. Their accesses are all that a history holds.
 const TEN: &str = "version = 1
@@ -150,6 +154,26 @@ static RUNS: [Run; 4] = [
     },
 ];
 
+// One text behind another.
+fn joined<'a>(rt: &impl Abort, alloc: Global, first: &'a str, second: &'a str) -> String {
+    text_of(rt, alloc, &[first, second])
+}
+
+// With this platform and its script the run is answered so.
+fn expect_run<'a, R: AllocGlobal + Threads + Wait + Abort + Sync>(
+    rt: &R,
+    run: &Run,
+    platform: &'a str,
+    script: &'a str,
+) {
+    let files = [
+        ("p.toml", platform),
+        ("a.txt", script),
+        ("b.txt", "read 0x0 1\n"),
+    ];
+    answer(rt, run.words, &files, run.number, run.out, run.diag);
+}
+
 #[test]
 fn limits_are_reached_and_not_passed(rt: HostRuntime) {
     let alloc = rt.alloc();
@@ -158,12 +182,7 @@ fn limits_are_reached_and_not_passed(rt: HostRuntime) {
             .platform
             .replacen(alloc, run.old, run.new, 1)
             .expect(&rt, "room");
-        let file = text_of(&rt, alloc, &[text.as_str(), run.more]);
-        let files = [
-            ("p.toml", file.as_str()),
-            ("a.txt", run.script),
-            ("b.txt", "read 0x0 1\n"),
-        ];
-        answer(&rt, run.words, &files, run.number, run.out, run.diag);
+        let file = joined(&rt, alloc, text.as_str(), run.more);
+        expect_run(&rt, run, file.as_str(), run.script);
     }
 }

@@ -1,5 +1,8 @@
 // The operation of version 2.
 use crate::bench::{answer, text_of};
+use std::process::Abort;
+use std::sync::Wait;
+use std::thread::Threads;
 
 // What stands behind the version of a platform of one initiator on a memory of 16 bytes.
 const LONE: &str = "
@@ -94,11 +97,21 @@ static RUNS: [Run; 4] = [
     },
 ];
 
+// With this platform and its script the run is answered so.
+fn expect_run<'a, R: AllocGlobal + Threads + Wait + Abort + Sync>(
+    rt: &R,
+    run: &Run,
+    platform: &'a str,
+    script: &'a str,
+) {
+    let files = [("p.toml", platform), ("a.txt", script)];
+    answer(rt, run.words, &files, run.number, run.out, run.diag);
+}
+
 #[test]
 fn version_2_fetches_and_adds(rt: HostRuntime) {
     for run in &RUNS {
         let file = text_of(&rt, rt.alloc(), &[run.version, run.rest]);
-        let files = [("p.toml", file.as_str()), ("a.txt", run.script)];
-        answer(&rt, run.words, &files, run.number, run.out, run.diag);
+        expect_run(&rt, run, file.as_str(), run.script);
     }
 }
