@@ -1,5 +1,5 @@
-// A gate that is shut while threads go through it.
-ghost use Rattle.std.specs.Prelude.{◌≡◌, ◌+◌, ◌<◌, ◌≤◌, [], length, slice_index_or, IfOk, Some};
+// A gate that is shut: while threads go through it, while one is inside, and while nobody is.
+ghost use Rattle.std.specs.Prelude.{◌≡◌, ◌+◌, ◌<◌, ◌≤◌, [], ◌∷◌, length, slice_index_or, true, IfOk, IfSome, Some};
 ghost use Rattle.view_lists.specs.Lists.{Has};
 ghost use Rattle.one_history.specs.declared.entry.Sign.TheVariants.{Granted};
 ghost use Rattle.one_history.specs.Moves.{number_of, own_of, entry, fresh};
@@ -91,6 +91,18 @@ fn grant(past: &Past, seat: &mut Chair) -> u64
         last: 9,
     };
     past.draw::<Seven>(seat, sign)
+}
+
+// Goes inside the gate, if it isn't marked.
+fn go_inside(past: &Past, mut note: Leaf) -> Option<Leaf>
+    requires frame { IsFramed past.now.frame }
+    requires note { IsLeaf past.now note }
+    ensures inside { IfSome result (λ n. IsInsideLeaf past.now n) }
+{
+    match past.enter(&mut note, 0) {
+        Entered::Inside => Some(note),
+        Entered::Marked => None,
+    }
 }
 
 // Makes a direct access through the gate that the note is inside, and leaves. A note comes back that is
@@ -209,6 +221,32 @@ fn shut<R: Wait>(rt: &R, past: &Past, mut seat: Chair, note: Leaf, granted: u64)
     seat
 }
 
+// One thread shuts the gate while another, which is inside, makes its access and leaves.
+fn compete<R: Threads + Wait + Sync>(
+    rt: &R,
+    past: &Past,
+    keeper: (Chair, Leaf, u64),
+    visitor: (Chair, Leaf),
+) -> (Chair, Chair)
+    requires frame { IsFramed past.now.frame }
+    requires keeper { IsChair past.now 0 keeper.0 × (length (own_of keeper.0.knows) ≡ 1) }
+    requires granted { Has keeper.0.knows.known (entry keeper.2 0 (Granted 0 0 9) 7) × (keeper.2 < keeper.0.knows.seen) }
+    requires note { IsLeaf past.now keeper.1 }
+    requires visitor { IsChair past.now 1 visitor.0 × (own_of visitor.0.knows ≡ []) }
+    requires inside { IsInsideLeaf past.now visitor.1 }
+    ensures keeper { IsSeated past.now 0 result.0 }
+    ensures visitor { IsSeated past.now 1 result.1 }
+{
+    let (seat, note, granted) = keeper;
+    let (chair, leaf) = visitor;
+    let (keeper, (visitor, _leaf)) = join(
+        rt,
+        || shut(rt, past, seat, note, granted),
+        || access(past, chair, leaf),
+    );
+    (keeper, visitor)
+}
+
 // One thread shuts the gate while two others go through it.
 fn crowd<R: Threads + Wait + Sync>(
     rt: &R,
@@ -250,6 +288,31 @@ fn crowd<R: Threads + Wait + Sync>(
 }
 
 #[test]
+fn a_gate_is_shut_while_a_thread_is_inside(rt: HostRuntime) {
+    let Ok(
+        Start {
+            past,
+            mut keeper,
+            one,
+            two,
+            mut note,
+        },
+    ) = make_start(rt.alloc())
+    else {
+        panic!(rt; "memory");
+    };
+    let early = past.split(&mut note);
+    let late = past.split(&mut note);
+    let granted = grant(&past, &mut keeper);
+    let Some(early) = go_inside(&past, early) else {
+        panic!(rt; "the gate is marked too early");
+    };
+    let (keeper, one) = compete(&rt, &past, (keeper, note, granted), (one, early));
+    assert!(rt; go_inside(&past, late).is_none());
+    assert!(rt; end(rt.alloc(), past, keeper, one, two).expect(&rt, "memory") == 4);
+}
+
+#[test]
 fn a_gate_is_shut_while_threads_go_through(rt: HostRuntime) {
     let Ok(
         Start {
@@ -275,4 +338,26 @@ fn a_gate_is_shut_while_threads_go_through(rt: HostRuntime) {
     );
     let length = end(rt.alloc(), past, keeper, one, two).expect(&rt, "memory");
     assert!(rt; 3 <= length && length <= 9);
+}
+
+#[test]
+fn a_gate_that_nobody_is_in_is_shut_at_once(rt: HostRuntime) {
+    let Ok(
+        Start {
+            past,
+            mut keeper,
+            one,
+            two,
+            mut note,
+        },
+    ) = make_start(rt.alloc())
+    else {
+        panic!(rt; "memory");
+    };
+    let late = past.split(&mut note);
+    let _other = past.split(&mut note);
+    let granted = grant(&past, &mut keeper);
+    let keeper = shut(&rt, &past, keeper, note, granted);
+    assert!(rt; go_inside(&past, late).is_none());
+    assert!(rt; end(rt.alloc(), past, keeper, one, two).expect(&rt, "memory") == 3);
 }
