@@ -1,2 +1,3 @@
+mod Accesses
 mod ShortForms
 mod Stored

@@ -1,0 +1,65 @@
+-- What an access of a log reads as, with where its bytes stand.
+use Rattle.std.proofs.Common.{◌≡◌, ℕ, zero, suc, ◌≤◌, List, [], ◌∷◌, length, Option, Some, refl, ap, slice_range, slice_get, All, subst, arith}
+use Rattle.std.specs.Prelude.{◌≢◌, option_and_then, option_map}
+use Rattle.tlm_types.specs.declared.entry.Entry.{Entry}
+use Rattle.tlm_types.specs.declared.entry.Head.{Head}
+use Rattle.tlm_types.specs.declared.log.long.Event.{Event}
+use Rattle.tlm_types.specs.declared.log.long.Event.TheVariants.{Plain as Simple, Access}
+use Rattle.tlm_types.specs.declared.log.long.LongItem.{LongItem}
+use Rattle.tlm_types.specs.declared.log.long.PlacedAccess.{PlacedAccess}
+use Rattle.tlm_types.specs.declared.words.Command.{Command}
+use Rattle.tlm_types.specs.declared.words.Command.TheVariants.{Read, Write, Ignore, FetchAdd}
+use Rattle.tlm_types.specs.declared.words.Way.{Way}
+use Rattle.tlm_types.specs.Log.{enables_of, entry_at, facts_of, got_of, head_of, read_sends, sent_by, sent_of}
+use Rattle.tlm_types.specs.LogItem.{access_from, access_in, entries_of, facts_in, head_in, span_in, what_in, IsKept}
+
+-- an entry reads as this access, whose parts lie among the bytes
+pub record IsRead (bytes : List ℕ) (e : Option Entry) (a : PlacedAccess) : Type 0 where
+  pub head : option_map head_of e ≡ Some a.head
+  pub facts : option_and_then (λ (x : Entry). facts_of x.what) e ≡ Some a.facts
+  pub sent : a.facts.command ≢ Read → option_and_then (λ (x : Entry). sent_of x.what) e ≡ Some (slice_range bytes a.span.start a.span.enables_start)
+  pub reads : a.facts.command ≡ Read → option_and_then (λ (x : Entry). sent_of x.what) e ≡ Some (read_sends a.facts.way a.facts.length)
+  pub enables : option_and_then (λ (x : Entry). enables_of x.what) e ≡ Some (slice_range bytes a.span.enables_start a.span.got_start)
+  pub got : option_and_then (λ (x : Entry). got_of x.what) e ≡ Some (slice_range bytes a.span.got_start a.span.end)
+  pub sent_from : a.span.start ≤ a.span.enables_start
+  pub sent_to : a.span.enables_start ≤ length bytes
+  pub enables_from : a.span.enables_start ≤ a.span.got_start
+  pub enables_to : a.span.got_start ≤ length bytes
+  pub got_from : a.span.got_start ≤ a.span.end
+  pub got_to : a.span.end ≤ length bytes
+
+sent_by-other : (command : Command) (way : Way) (n : ℕ) (sent : List ℕ) → command ≢ Read → sent_by command way n sent ≡ sent
+sent_by-other Read way n sent other = absurd (other refl)
+sent_by-other Write way n sent other = refl
+sent_by-other Ignore way n sent other = refl
+sent_by-other FetchAdd way n sent other = refl
+
+read_event : (bytes : List ℕ) (head : Head) (start : ℕ) (event : Event) (a : PlacedAccess) → IsKept (length bytes) start event → access_from head start event ≡ Some a → IsRead bytes (Some (entry_at head (what_in bytes start event))) a
+read_event bytes head start (Simple plain) a kept is = absurd (cc)
+read_event bytes head start (Access x) a kept is =
+    let placed : PlacedAccess = record { head = head; facts = facts_in x; span = span_in start x } in
+    let same : placed ≡ a = cc in
+    let k0 : start ≤ x.enables_start = kept.0 in
+    let k1 : x.enables_start ≤ x.got_start = kept.1 in
+    let k2 : x.got_start ≤ x.end = kept.2 in
+    let k3 : x.end ≤ length bytes = kept.3 in
+    subst (λ (b : PlacedAccess). IsRead bytes (Some (entry_at head (what_in bytes start (Access x)))) b) same (record {
+      head = refl;
+      facts = refl;
+      sent = λ other. ap Some (sent_by-other x.command x.way x.length (slice_range bytes start x.enables_start) other);
+      reads = λ is_read. ap (λ (c : Command). Some (sent_by c x.way x.length (slice_range bytes start x.enables_start))) is_read;
+      enables = refl;
+      got = refl;
+      sent_from = k0;
+      sent_to = omega arith;
+      enables_from = k1;
+      enables_to = omega arith;
+      got_from = k2;
+      got_to = k3;
+    })
+
+-- the access that stands at a place
+pub read_place : (bytes : List ℕ) (items : List LongItem) (index : ℕ) (a : PlacedAccess) → All (λ i. IsKept (length bytes) i.start i.event) items → option_and_then access_in (slice_get items index) ≡ Some a → IsRead bytes (slice_get (entries_of bytes items) index) a
+read_place bytes [] index a kept is = absurd (cc)
+read_place bytes (item ∷ items) zero a kept is = read_event bytes (head_in item) item.start item.event a (kept 0 item (omega arith)) is
+read_place bytes (item ∷ items) (suc index) a kept is = read_place bytes items index a (λ k d below. kept (suc k) d (omega arith)) is
