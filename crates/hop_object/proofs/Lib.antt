@@ -12,3 +12,4 @@ pub mod MarkLemmas
 pub mod LegLaws
 pub mod ReplyLaws
 pub mod NewLemmas
+pub mod Begins

@@ -5,6 +5,7 @@ use Rattle.hop_object.specs.View.{HopView}
 use Rattle.hop_object.specs.Inside.{view_of}
 use Rattle.hop_object.proofs.Places.{at_place}
 use Rattle.hop_object.proofs.Keeps.{few_out, kept_handed}
+use Rattle.hop_object.specs.Lanes.{HasPosition}
 use Rattle.hop_object.proofs.hop.Hop.hand_out.Goals as goal
 
 pub invariant_of-self : goal.invariant_of-self
@@ -47,3 +48,9 @@ issue-leg-requires-clause-tokens g c = ap (λ (v : HopView g.row.T.Denot). v.boo
 
 pub issue-leg-requires-clause-few : goal.issue-leg-requires-clause-few
 issue-leg-requires-clause-few g c = λ n. few_out (view_of c.self.inside) c.self.invariant.kept n
+
+pub issue-leg-requires-clause-position : goal.issue-leg-requires-clause-position
+issue-leg-requires-clause-position g c =
+    let lane = c.index-lane.result.now in
+    let below = subst (λ (v : HopView g.row.T.Denot). c.args.index < length v.lanes) (sym c.self.view_is) c.requires.place in
+    subst (λ (l : Lane g.row.T.Denot). HasPosition l) (sym c.index-lane.ensures) (c.self.invariant.kept.placed c.args.index lane below)
