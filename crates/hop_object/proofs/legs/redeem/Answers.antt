@@ -1,4 +1,4 @@
-use Rattle.std.proofs.Common.{◌≡◌, ◌≤◌, ℕ, sym, ap, subst, ◌∙◌, arith}
+use Rattle.std.proofs.Common.{◌≡◌, ◌≤◌, sym, ap, subst, ◌∙◌, arith}
 use Rattle.token_book.specs.Account.{Account, Slip, out_of, retired}
 use Rattle.hop_object.proofs.LegLemmas.{leg_is_out, out_retired}
 use Rattle.hop_object.proofs.legs.redeem.Goals as goal
