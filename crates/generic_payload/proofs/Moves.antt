@@ -137,7 +137,7 @@ put_from-span p store m places spans =
     ∙ put_from-middle p 0 p.bytes (take p.address store) (take m rest) (drop m rest) begins (λ j before.
     omega (arith, long, spans, span_of-wide p places.wide, place_within j (length p.bytes) p.width places.wide (omega arith)))
 
-length-span : (p : PayloadView) (store : List ℕ) (m : ℕ) → HasPlaces (access_of p) (length store) → m ≡ span_of (access_of p) → length (take m (drop p.address store)) ≡ m
+pub length-span : (p : PayloadView) (store : List ℕ) (m : ℕ) → HasPlaces (access_of p) (length store) → m ≡ span_of (access_of p) → length (take m (drop p.address store)) ≡ m
 length-span p store m places spans =
     length-take-le m (drop p.address store) (omega (arith, spans, places.inside, length-drop p.address store))
 
