@@ -95,3 +95,7 @@ module _ (admitted : Bool) where
 pub some_of : (P : Type 0) (Q : ℕ → Type 0) (position : Option ℕ) → MatchOption position P Q → IfSome position Q
 some_of P Q None h = tt
 some_of P Q (Some p) h = h
+
+-- where a ticket is out, fewer entries stand than were planned
+pub left_planned : (n before after planned : ℕ) → n + before ≡ planned → after + 1 ≡ before → n < planned
+left_planned n before after planned all one = omega arith
