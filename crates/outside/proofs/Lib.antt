@@ -1,1 +1,2 @@
 pub mod Known
+mod Sinking
