@@ -1,4 +1,4 @@
-use Rattle.std.proofs.Common.{◌≡◌, refl, sym, ◌∙◌}
+use Rattle.std.proofs.Common.{refl, sym, ◌∙◌}
 use Rattle.shared_object.proofs.Calls.{left_planned}
 use Rattle.shared_object.proofs.locked.enter.Goals as goal
 
