@@ -1,10 +1,41 @@
-use Rattle.std.proofs.Common.{◌≡◌, ℕ, List, ◌∷◌, ◌++◌, set, ap, subst, sym, ◌∙◌, arith, length-set}
+use Rattle.std.proofs.Common.{◌≡◌, ℕ, ◌<◌, ◌≤◌, List, [], ◌∷◌, ◌++◌, set, refl, ap, subst, sym, ◌∙◌, arith, length-set}
 use Rattle.run_queue.specs.declared.jobs.JobState.{JobState}
 use Rattle.run_queue.specs.declared.jobs.JobState.TheVariants.{Waiting, Out}
-use Rattle.run_queue.specs.Queue.{Queue, job_place, waits, job_of, finished_count}
+use Rattle.run_queue.specs.declared.jobs.Taken.{Taken}
+use Rattle.run_queue.specs.declared.jobs.Taken.TheVariants.{Took, Nothing, AllDone}
+use Rattle.run_queue.specs.Queue.{IsLine, Queue, job_place, waits, job_of, finished_count}
 use Rattle.run_queue.specs.Sound.{IsSound}
 use Rattle.run_queue.proofs.Places.{first_waits, waits_within, waits_is, place_of_read, sound_taken, finished_taken}
 use Rattle.run_queue.proofs.jobs.Jobs.take.Goals as goal
+
+-- which answer it was
+module _ {J : Type 0} where
+  took_done : (job : J) (done unfinished : ℕ) → done < unfinished → (Took job ≡ AllDone → unfinished ≤ done) × (unfinished ≤ done → Took job ≡ AllDone)
+  took_done job done unfinished few = (λ e. absurd (apart e), λ enough. absurd (omega (arith, few, enough)))
+    where
+      apart : Took job ≡ AllDone → ⊥
+      apart e = cc
+
+  took_nothing : (job : J) (n : ℕ) (order rest : List ℕ) (done unfinished : ℕ) → order ≡ n ∷ rest → (Took job ≡ Nothing → (order ≡ []) × (done < unfinished)) × ((order ≡ []) × (done < unfinished) → Took job ≡ Nothing)
+  took_nothing job n order rest done unfinished first = (λ e. absurd (apart e), λ none. absurd (filled none.0))
+    where
+      apart : Took job ≡ Nothing → ⊥
+      apart e = cc
+
+      filled : order ≡ [] → ⊥
+      filled none = cc
+
+  nothing_done : (done unfinished : ℕ) → done < unfinished → (◌≡◌ {A = Taken J} Nothing AllDone → unfinished ≤ done) × (unfinished ≤ done → ◌≡◌ {A = Taken J} Nothing AllDone)
+  nothing_done done unfinished few = (λ e. absurd (apart e), λ enough. absurd (omega (arith, few, enough)))
+    where
+      apart : ◌≡◌ {A = Taken J} Nothing AllDone → ⊥
+      apart e = cc
+
+  done_nothing : (order : List ℕ) (done unfinished : ℕ) → unfinished ≤ done → (◌≡◌ {A = Taken J} AllDone Nothing → (order ≡ []) × (done < unfinished)) × ((order ≡ []) × (done < unfinished) → ◌≡◌ {A = Taken J} AllDone Nothing)
+  done_nothing order done unfinished enough = (λ e. absurd (apart e), λ none. absurd (omega (arith, enough, none.1)))
+    where
+      apart : ◌≡◌ {A = Taken J} AllDone Nothing → ⊥
+      apart e = cc
 
 pub index_mut-requires : goal.index_mut-requires
 index_mut-requires g c =
@@ -72,3 +103,44 @@ returns-clause-took g c =
           ∙ ap (λ (m : ℕ). record was { places = set places m Out; order = left }) (sym number)
           ∙ ap (λ (q : Queue g.row.J.Denot). record q { places = set q.places (g.J.Job.number_of job) Out; order = left }) seen;
     }
+
+pub returns-clause-all_done : goal.returns-clause-all_done
+returns-clause-all_done g c =
+    let few : finished_count c.args.self.now.places < c.args.self.now.unfinished = subst (λ (q : Queue g.row.J.Denot). finished_count q.places < q.unfinished) c.self.view_is (subst (λ (n : ℕ). n < c.self.inside.unfinished) c.self.invariant.1 c.if-self.false) in
+    took_done c.in-Waiting.job (finished_count c.args.self.now.places) c.args.self.now.unfinished few
+
+pub returns-clause-nothing : goal.returns-clause-nothing
+returns-clause-nothing g c =
+    took_nothing c.in-Waiting.job c.in-Some.number c.args.self.now.order c.pop_front.new.self.items (finished_count c.args.self.now.places) c.args.self.now.unfinished (ap (λ (q : Queue g.row.J.Denot). q.order) (sym c.self.view_is) ∙ c.in-Some.ensures.items)
+
+pub returns-clause-line : goal.returns-clause-line
+returns-clause-line g c = subst (λ (q : Queue g.row.J.Denot). IsLine q) c.self.view_is c.self.invariant.0.line
+
+pub returns-in_default-clause-all_done : goal.returns-in_default-clause-all_done
+returns-in_default-clause-all_done g c =
+    let few : finished_count c.args.self.now.places < c.args.self.now.unfinished = subst (λ (q : Queue g.row.J.Denot). finished_count q.places < q.unfinished) c.self.view_is (subst (λ (n : ℕ). n < c.self.inside.unfinished) c.self.invariant.1 c.if-self.false) in
+    nothing_done (finished_count c.args.self.now.places) c.args.self.now.unfinished few
+
+pub returns-in_default-clause-line : goal.returns-in_default-clause-line
+returns-in_default-clause-line g c = subst (λ (q : Queue g.row.J.Denot). IsLine q) c.self.view_is c.self.invariant.0.line
+
+pub returns-then-self-clause-all_done : goal.returns-then-self-clause-all_done
+returns-then-self-clause-all_done g c =
+    let enough : c.args.self.now.unfinished ≤ finished_count c.args.self.now.places = subst (λ (q : Queue g.row.J.Denot). q.unfinished ≤ finished_count q.places) c.self.view_is (subst (λ (n : ℕ). c.self.inside.unfinished ≤ n) c.self.invariant.1 c.if-self.true) in
+    (λ e. enough, λ is. refl)
+
+pub returns-then-self-clause-nothing : goal.returns-then-self-clause-nothing
+returns-then-self-clause-nothing g c =
+    let enough : c.args.self.now.unfinished ≤ finished_count c.args.self.now.places = subst (λ (q : Queue g.row.J.Denot). q.unfinished ≤ finished_count q.places) c.self.view_is (subst (λ (n : ℕ). c.self.inside.unfinished ≤ n) c.self.invariant.1 c.if-self.true) in
+    done_nothing c.args.self.now.order (finished_count c.args.self.now.places) c.args.self.now.unfinished enough
+
+pub returns-then-self-clause-line : goal.returns-then-self-clause-line
+returns-then-self-clause-line g c = subst (λ (q : Queue g.row.J.Denot). IsLine q) c.self.view_is c.self.invariant.0.line
+
+pub returns-then-self-clause-unchanged : goal.returns-then-self-clause-unchanged
+returns-then-self-clause-unchanged g c = refl
+
+pub returns-in_default-clause-unchanged : goal.returns-in_default-clause-unchanged
+returns-in_default-clause-unchanged g c =
+    let s = c.self.inside in
+    ap (λ (l : List ℕ). record { places = s.places.items; order = l; parked = s.parked.items; reached = s.reached; resting = s.resting.items; moves = s.moves; unfinished = s.unfinished }) (sym c.in_default.ensures.items) ∙ c.self.view_is
