@@ -10,3 +10,18 @@ use_held-requires-clause-which g c =
     let x = c.args.next.transfer in
     subst (λ (k : Command). IsSomeAnd (slice_get c.loop.grants.held c.in-Some-find.which) (λ h. IsTrue (covers x.address x.length k h))) c.command_of.ensures
     (found_passes (covers x.address x.length c.command_of.result) c.loop.grants.held c.in-Some-find.which (sym c.find.ensures ∙ c.in-Some-find.is))
+
+pub use_held-requires-clause-ready : goal.use_held-requires-clause-ready
+use_held-requires-clause-ready g c = c.loop.invariant.ready
+
+pub use_held-requires-clause-plain : goal.use_held-requires-clause-plain
+use_held-requires-clause-plain g c = c.requires.plain
+
+pub transport-requires-clause-ready : goal.transport-requires-clause-ready
+transport-requires-clause-ready g c = c.loop.invariant.ready
+
+pub transport-requires-clause-styled : goal.transport-requires-clause-styled
+transport-requires-clause-styled g c = sym c.requires.direct
+
+pub returns-in-Used : goal.returns-in-Used
+returns-in-Used g c = c.in-Used.ensures
