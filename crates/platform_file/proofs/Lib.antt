@@ -1,3 +1,4 @@
+pub mod Chains
 pub mod Loops
 pub mod KnownKeys
 pub mod NameLemmas
