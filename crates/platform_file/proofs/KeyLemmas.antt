@@ -27,7 +27,7 @@ between least most k n h =
     let q = and_parts (leb least k) (leb k most) p.0 in
     let low : least ≤ k = leb-true least k q.0 in
     let high : k ≤ most = leb-true k most q.1 in
-    (omega (arith, p.1), omega (arith, p.1))
+    (subst (λ (m : ℕ). least ≤ m) p.1 low, subst (λ (m : ℕ). m ≤ most) p.1 high)
 
 number_between : (least most : ℕ) (d : Data) (n : ℕ) → number least most d ≡ Ok n → (least ≤ n) × (n ≤ most)
 number_between least most (integer (pos k)) n h = between least most k n h
@@ -42,7 +42,7 @@ required_number least most at key o n h =
 pub optional_number : (least most default : ℕ) (at : Place) (key : List ℕ) (o : Option Data) (n : ℕ) → least ≤ default → default ≤ most → optional_value (number least most) default at key o ≡ Ok n → (least ≤ n) × (n ≤ most)
 optional_number least most default at key None n low high h =
     let same : default ≡ n = ok_same default n h in
-    (omega arith, omega arith)
+    (subst (λ (m : ℕ). least ≤ m) same low, subst (λ (m : ℕ). m ≤ most) same high)
 optional_number least most default at key (Some d) n low high h = number_between least most d n (placed_ok at key (number least most d) n h)
 
 name_is : (d : Data) (n : List ℕ) → name d ≡ Ok n → IsTrue (is_name n)
@@ -84,7 +84,7 @@ limited_between least most (Ok us) ts h =
     let low : least ≤ length us = leb-true least (length us) q.0 in
     let high : length us ≤ most = leb-true (length us) most q.1 in
     let same : length us ≡ length ts = ap length p.1 in
-    (omega arith, omega arith)
+    (subst (λ (m : ℕ). least ≤ m) same low, subst (λ (m : ℕ). m ≤ most) same high)
 limited_between least most (Err e) ts h = absurd (no_ok e ts h)
 
 tables_between : (least most : ℕ) (d : Data) (ts : List Members) → tables least most d ≡ Ok ts → (least ≤ length ts) × (length ts ≤ most)
