@@ -1,3 +1,4 @@
+pub mod Chains
 pub mod WalkLemmas
 pub mod PathLemmas
 pub mod CopyLemmas
