@@ -1,5 +1,6 @@
 pub mod Chains
 pub mod Loops
+pub mod TableLoops
 pub mod KnownKeys
 pub mod NameLemmas
 pub mod Documents
