@@ -41,12 +41,21 @@ use Rattle.plat_net.specs.Places.{LeadsTo, hop_place}
 use Rattle.plat_net.proofs.Given.{among_at}
 use Rattle.plat_net.proofs.NumberLemmas.{hop_there}
 use Rattle.plat_net.proofs.Targets.{ends_stop}
-use Rattle.target_node.specs.Items.{IsFetchedWith, IsRequest, accepts, is_accepting, row_accepts}
+use Rattle.target_node.specs.Items.{IsFetchedWith, IsOwedEnd, IsRequest, IsWaiting, accepts, is_accepting, row_accepts}
 use Rattle.target_node.specs.declared.items.Request.{Request}
 
 -- what holds of what came
 pub of_some : {A : Type 0} (P : A → Type 0) (o : Option A) (x : A) → o ≡ Some x → IfSome o P → P x
 of_some {A = A} P o x is holds = subst (λ (q : Option A). IfSome q P) is holds
+
+-- what was fetched with a ticket, and without
+pub with_ticket : (frame : Frame Plan) (tokens : TableId) (memory : ℕ) (known : List (Entry Content)) (at : ℕ) (accepting : Bool) (r : Request) (t : Ticket) → IsFetchedWith frame tokens memory known at accepting r (Some t) → (accepting ≡ true) × IsOwedEnd frame tokens memory known r × IsTicket tokens (hop_place frame.world at) t
+with_ticket frame tokens memory known at true r t f = (refl, f.1, f.2)
+with_ticket frame tokens memory known at false r t f = absurd f
+
+pub with_none : (frame : Frame Plan) (tokens : TableId) (memory : ℕ) (known : List (Entry Content)) (at : ℕ) (accepting : Bool) (r : Request) → IsFetchedWith frame tokens memory known at accepting r None → (accepting ≡ false) × IsWaiting frame tokens memory known r
+with_none frame tokens memory known at true r f = absurd f
+with_none frame tokens memory known at false r f = (refl, f.1)
 
 -- the row of a memory
 pub row_in : (rows : List MemoryRow) (m : ℕ) → m < length rows → (row : MemoryRow) × (slice_get rows m ≡ Some row)

@@ -1,5 +1,6 @@
 -- The looks of a memory at its hops.
-use Rattle.std.proofs.Common.{◌≡◌, ℕ, zero, suc, ◌+◌, ◌<◌, Bool, true, false, List, [], ◌∷◌, ◌++◌, length, take, drop, get_or, Option, Some, None, refl, sym, ap, subst, ◌∙◌, append_assoc, arith}
+use Rattle.std.proofs.Common.{◌≡◌, ℕ, zero, suc, ◌+◌, ◌<◌, ◌≤◌, Bool, true, false, List, [], ◌∷◌, ◌++◌, length, take, drop, get_or, Option, Some, None, refl, sym, ap, subst, ◌∙◌, append_assoc, arith}
+use Rattle.std.proofs.lemmas.List.{append-nil}
 use Rattle.std.specs.List.{AllByRecursion}
 use Rattle.atomic_table.specs.Seated.{TableId}
 use Rattle.view_lists.specs.Lists.{Within}
@@ -46,6 +47,13 @@ take_all p [] zero past = refl
 take_all p [] (suc i) past = refl
 take_all p (x ∷ xs) zero past = absurd (past (omega arith))
 take_all p (x ∷ xs) (suc i) past = ap (λ (l : List (ℕ × ℕ)). (hop_place p x, 1) ∷ l) (take_all p xs i (λ l. past (omega (arith, l))))
+
+-- no look yet, and one in vain at each hop
+pub none_yet : (first : List (ℕ × ℕ)) → first ≡ first ++ []
+none_yet first = sym (append-nil first)
+
+pub none_found : (p : Plan) (xs : List ℕ) (i : ℕ) (first after : List (ℕ × ℕ)) → length xs ≤ i → after ≡ first ++ vain_looks p (take i xs) → after ≡ first ++ vain_looks p xs
+none_found p xs i first after past l = l ∙ ap (λ (v : List (ℕ × ℕ)). first ++ v) (take_all p xs i (λ (b : i < length xs). omega (arith, b, past)))
 
 -- the looks so far, and one more
 pub looks_more : (p : Plan) (xs : List ℕ) (i : ℕ) (first before after : List (ℕ × ℕ)) → i < length xs → before ≡ first ++ vain_looks p (take i xs) → after ≡ before ++ (hop_place p (get_or xs i 0), 1) ∷ [] → after ≡ first ++ vain_looks p (take (i + 1) xs)

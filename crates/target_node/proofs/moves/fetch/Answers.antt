@@ -60,3 +60,39 @@ returns-clause-fetched g c =
     let of : IsTicket g.N.Naming.tokens (hop_place frame.world c.args.hop) c.pull-ticket.result = subst (λ (t : TableId). IsTicket t (hop_place frame.world c.args.hop) c.pull-ticket.result) c.tickets.ensures (subst (λ (n : ℕ). IsTicket c.tickets.result.now n c.pull-ticket.result) (c.number.ensures ∙ num) c.pull-ticket.ensures.ticket) in
     let is = owed_is frame g.N.Naming.tokens known c.args.hop c.requires.hop c.args.memory c.requires.leads row.0 row.1 r has after c.pull-ticket.result (sym c.if-not-accepts.false ∙ c.requires.mode) (pulls g c) of in
     subst (λ (b : Bool). IsFetchedWith frame g.N.Naming.tokens c.args.memory known c.args.hop b (record { hop = c.args.hop; leg = r.leg; at = r.at; cargo = with_wallet r.cargo after }) (Some c.pull-ticket.result)) (sym c.if-not-accepts.false) is
+
+pub fetch_request-fetched-requires-clause-hop : goal.fetch_request-fetched-requires-clause-hop
+fetch_request-fetched-requires-clause-hop g c = c.requires.hop
+
+pub fetch_request-fetched-requires-clause-note : goal.fetch_request-fetched-requires-clause-note
+fetch_request-fetched-requires-clause-note g c = c.requires.note
+
+pub returns-in_default-clause-note : goal.returns-in_default-clause-note
+returns-in_default-clause-note g c = c.fetch_request-fetched.ensures.note
+
+pub returns-in_default-clause-knew : goal.returns-in_default-clause-knew
+returns-in_default-clause-knew g c = c.fetch_request-fetched.ensures.knew
+
+pub returns-in_default-clause-below : goal.returns-in_default-clause-below
+returns-in_default-clause-below g c = c.fetch_request-fetched.ensures.below
+
+pub returns-in_default-clause-fetched : goal.returns-in_default-clause-fetched
+returns-in_default-clause-fetched g c = tt
+
+pub returns-then-not-accepts-clause-note : goal.returns-then-not-accepts-clause-note
+returns-then-not-accepts-clause-note g c = c.fetch_request-fetched.ensures.note
+
+pub returns-then-not-accepts-clause-knew : goal.returns-then-not-accepts-clause-knew
+returns-then-not-accepts-clause-knew g c = c.fetch_request-fetched.ensures.knew
+
+pub returns-then-not-accepts-clause-below : goal.returns-then-not-accepts-clause-below
+returns-then-not-accepts-clause-below g c = c.fetch_request-fetched.ensures.below
+
+pub returns-clause-note : goal.returns-clause-note
+returns-clause-note g c = c.fetch_request-fetched.ensures.note
+
+pub returns-clause-knew : goal.returns-clause-knew
+returns-clause-knew g c = c.fetch_request-fetched.ensures.knew
+
+pub returns-clause-below : goal.returns-clause-below
+returns-clause-below g c = c.fetch_request-fetched.ensures.below

@@ -17,3 +17,30 @@ returns-in-Busy-clause-responded g c =
     let a = c.in-Busy.ensures.responded c.requires.can in
     let txn : c.in-Busy.cargo.baton.txn ≡ c.args.response.cargo.baton.txn = ap (λ (d : Cargo). d.baton.txn) a.1 in
     (refl, a.0, refl, txn, may_again g.N.Naming.frame g.N.Naming.tokens c.args.note.knows.known c.in-Busy.note.knows.known c.args.response c.requires.can c.in-Busy.leg c.in-Busy.cargo c.in-Busy.ensures.knew a.0 txn a.3, a.4)
+
+pub backward-requires-clause-hop : goal.backward-requires-clause-hop
+backward-requires-clause-hop g c = c.requires.hop
+
+pub backward-requires-clause-note : goal.backward-requires-clause-note
+backward-requires-clause-note g c = c.requires.note
+
+pub backward-requires-clause-can : goal.backward-requires-clause-can
+backward-requires-clause-can g c = c.requires.can
+
+pub returns-in-Sent-clause-note : goal.returns-in-Sent-clause-note
+returns-in-Sent-clause-note g c = c.in-Sent.ensures.note
+
+pub returns-in-Sent-clause-knew : goal.returns-in-Sent-clause-knew
+returns-in-Sent-clause-knew g c = c.in-Sent.ensures.knew
+
+pub returns-in-Sent-clause-below : goal.returns-in-Sent-clause-below
+returns-in-Sent-clause-below g c = c.in-Sent.ensures.below
+
+pub returns-in-Busy-clause-note : goal.returns-in-Busy-clause-note
+returns-in-Busy-clause-note g c = c.in-Busy.ensures.note
+
+pub returns-in-Busy-clause-knew : goal.returns-in-Busy-clause-knew
+returns-in-Busy-clause-knew g c = c.in-Busy.ensures.knew
+
+pub returns-in-Busy-clause-below : goal.returns-in-Busy-clause-below
+returns-in-Busy-clause-below g c = c.in-Busy.ensures.below

@@ -27,3 +27,30 @@ returns-clause-served g c =
     let t = c.args.self.now in
     let first = of_some (λ (e : ℕ × Request). t.queue.entries ≡ e ∷ c.pop.new.self.entries) c.pop.result (c.in-Some-pop.field-0-0, c.in-Some-pop.request) c.in-Some-pop.is c.pop.ensures.first in
     serves_first g.N.Naming.frame g.N.Naming.tokens t c.pop.new.self (c.in-Some-pop.field-0-0, c.in-Some-pop.request) c.serve-response.result.0 c.args.note.knows c.serve-response.result.1.knows c.pop.ensures.room first c.serve-response.ensures.served c.serve-response.ensures.look
+
+pub returns-in_default-clause-note : goal.returns-in_default-clause-note
+returns-in_default-clause-note g c = c.requires.note
+
+pub returns-in_default-clause-knew : goal.returns-in_default-clause-knew
+returns-in_default-clause-knew g c = λ x has. has
+
+pub returns-in_default-clause-below : goal.returns-in_default-clause-below
+returns-in_default-clause-below g c = c.requires.below
+
+pub returns-in_default-clause-target : goal.returns-in_default-clause-target
+returns-in_default-clause-target g c = c.requires.target
+
+pub serve-response-requires-clause-memory : goal.serve-response-requires-clause-memory
+serve-response-requires-clause-memory g c = c.requires.target.memory
+
+pub serve-response-requires-clause-note : goal.serve-response-requires-clause-note
+serve-response-requires-clause-note g c = c.requires.note
+
+pub returns-clause-note : goal.returns-clause-note
+returns-clause-note g c = c.serve-response.ensures.note
+
+pub returns-clause-knew : goal.returns-clause-knew
+returns-clause-knew g c = c.serve-response.ensures.knew
+
+pub returns-clause-below : goal.returns-clause-below
+returns-clause-below g c = c.serve-response.ensures.below

@@ -1,10 +1,11 @@
-use Rattle.std.proofs.Common.{◌≡◌, ℕ, List, Option, ◌<◌, sym, subst}
+use Rattle.std.proofs.Common.{◌≡◌, ℕ, List, Option, ◌<◌, sym, subst, ◌++◌, refl, ◌∙◌, arith, inl, inr}
 use Rattle.route_plan.specs.Valid.{hop_count}
-use Rattle.target_node.specs.Node.{FindsFirst, HasLooked}
+use Rattle.target_node.specs.Node.{FindsFirst, HasLooked, IsHopTo, vain_looks}
 use Rattle.target_node.specs.declared.items.Fetched.{Fetched}
 use Rattle.target_node.proofs.Keeps.{target_more}
 use Rattle.target_node.proofs.Looks.{within_on}
 use Rattle.target_node.proofs.Steps.{taken_keeps, takes_in}
+use Rattle.std.specs.List.{AllByRecursion}
 use Rattle.target_node.proofs.node.TargetNode.take_in.Goals as goal
 
 pub returns-in_default-clause-target : goal.returns-in_default-clause-target
@@ -35,3 +36,75 @@ returns-clause-taken g c =
     takes_in frame g.N.Naming.tokens c.args.self.now c.in-Some.field-0 c.end_owed-request.result.0 c.notify.new.self c.saturating_add-at.result c.args.note.knows c.fetch_first-fetched.result.1.knows c.end_owed-request.result.1.knows (found g c)
     c.notify.ensures c.saturating_add-at.ensures here e.waits
     e.looks
+
+pub returns-then-len-room-clause-note : goal.returns-then-len-room-clause-note
+returns-then-len-room-clause-note g c = c.requires.note
+
+pub returns-then-len-room-clause-knew : goal.returns-then-len-room-clause-knew
+returns-then-len-room-clause-knew g c = λ x has. has
+
+pub returns-then-len-room-clause-below : goal.returns-then-len-room-clause-below
+returns-then-len-room-clause-below g c = c.requires.below
+
+pub returns-then-len-room-clause-target : goal.returns-then-len-room-clause-target
+returns-then-len-room-clause-target g c = c.requires.target
+
+pub returns-then-len-room-clause-taken : goal.returns-then-len-room-clause-taken
+returns-then-len-room-clause-taken g c = record { same = refl; why = inl (sym c.len.ensures.count ∙ omega (arith, c.len.ensures.within, c.if-len-room.true, c.room.ensures), refl) }
+
+pub fetch_first-fetched-requires-clause-memory : goal.fetch_first-fetched-requires-clause-memory
+fetch_first-fetched-requires-clause-memory g c = c.requires.target.memory
+
+pub fetch_first-fetched-requires-clause-hops : goal.fetch_first-fetched-requires-clause-hops
+fetch_first-fetched-requires-clause-hops g c = subst (λ (l : List ℕ). AllByRecursion (λ (h : ℕ). IsHopTo g.N.Naming.frame.world c.args.self.now.memory h) l) (sym c.as_slice.ensures.value) c.requires.target.hops
+
+pub fetch_first-fetched-requires-clause-mode : goal.fetch_first-fetched-requires-clause-mode
+fetch_first-fetched-requires-clause-mode g c = c.requires.target.accepts
+
+pub fetch_first-fetched-requires-clause-note : goal.fetch_first-fetched-requires-clause-note
+fetch_first-fetched-requires-clause-note g c = c.requires.note
+
+pub fetch_first-fetched-requires-clause-below : goal.fetch_first-fetched-requires-clause-below
+fetch_first-fetched-requires-clause-below g c = c.requires.below
+
+pub returns-in_default-clause-note : goal.returns-in_default-clause-note
+returns-in_default-clause-note g c = c.fetch_first-fetched.ensures.note
+
+pub returns-in_default-clause-knew : goal.returns-in_default-clause-knew
+returns-in_default-clause-knew g c = c.fetch_first-fetched.ensures.knew
+
+pub returns-in_default-clause-below : goal.returns-in_default-clause-below
+returns-in_default-clause-below g c = c.fetch_first-fetched.ensures.below
+
+pub returns-in_default-clause-taken : goal.returns-in_default-clause-taken
+returns-in_default-clause-taken g c =
+    let f = subst (λ (o : Option Fetched). HasLooked g.N.Naming.frame g.N.Naming.tokens c.args.self.now.memory c.args.self.now.accepts c.as_slice.result.now c.args.note.knows c.fetch_first-fetched.result.1.knows o) c.in_default.is c.fetch_first-fetched.ensures.looked in
+    record { same = refl; why = inr (subst (λ (l : List ℕ). c.fetch_first-fetched.result.1.knows.looks ≡ c.args.note.knows.looks ++ vain_looks g.N.Naming.frame.world l) c.as_slice.ensures.value f) }
+
+pub end_owed-request-requires-clause-memory : goal.end_owed-request-requires-clause-memory
+end_owed-request-requires-clause-memory g c = c.requires.target.memory
+
+pub end_owed-request-requires-clause-hop : goal.end_owed-request-requires-clause-hop
+end_owed-request-requires-clause-hop g c =
+    let f = subst (λ (o : Option Fetched). HasLooked g.N.Naming.frame g.N.Naming.tokens c.args.self.now.memory c.args.self.now.accepts c.as_slice.result.now c.args.note.knows c.fetch_first-fetched.result.1.knows o) c.in-Some.is c.fetch_first-fetched.ensures.looked in
+    f.below
+
+pub end_owed-request-requires-clause-note : goal.end_owed-request-requires-clause-note
+end_owed-request-requires-clause-note g c = c.fetch_first-fetched.ensures.note
+
+pub end_owed-request-requires-clause-below : goal.end_owed-request-requires-clause-below
+end_owed-request-requires-clause-below g c = c.fetch_first-fetched.ensures.below
+
+pub end_owed-request-requires-clause-fetched : goal.end_owed-request-requires-clause-fetched
+end_owed-request-requires-clause-fetched g c =
+    let f = subst (λ (o : Option Fetched). HasLooked g.N.Naming.frame g.N.Naming.tokens c.args.self.now.memory c.args.self.now.accepts c.as_slice.result.now c.args.note.knows c.fetch_first-fetched.result.1.knows o) c.in-Some.is c.fetch_first-fetched.ensures.looked in
+    f.is
+
+pub returns-clause-note : goal.returns-clause-note
+returns-clause-note g c = c.end_owed-request.ensures.note
+
+pub returns-clause-knew : goal.returns-clause-knew
+returns-clause-knew g c = within_on c.args.note.knows.known c.fetch_first-fetched.result.1.knows.known c.end_owed-request.result.1.knows.known c.fetch_first-fetched.ensures.knew c.end_owed-request.ensures.knew
+
+pub returns-clause-below : goal.returns-clause-below
+returns-clause-below g c = c.end_owed-request.ensures.below
