@@ -247,6 +247,10 @@ module _ (frame : Frame Plan) (m : ℕ) (there : m < length frame.world.platform
             (cause_by frame.world m (written_at m back.known) command t denial t.dmi (is_allowed t command) (nat_le t.gates (grants_in log)) refl refl spent says),
       )
 
+-- a wish for a grant at the memory that an address leads to
+pub ask_memory : (world : Plan) (command : Command) (table : TableView) (note : View Content Plan) (w : Purse) (route : Route) → MayAsk world command table note w route → route.memory < length world.platform.memories
+ask_memory world command table note w route may = some_below (λ (row : MemoryRow). route.offset < row.traits.size) world.platform.memories route.memory may.inside
+
 module _ (frame : Frame Plan) (command : Command) (address : ℕ) (route : Route) (txn : TxnId) (time : ℕ) (old : TableView) (note back : View Content Plan) (w : Purse) (may : MayAsk frame.world command old note w route) (position : Option ℕ) (o : RegionReply) (made : IsMade frame route.memory (Grant txn time command) note back position o) where
   there : route.memory < length frame.world.platform.memories
   there = some_below (λ (row : MemoryRow). route.offset < row.traits.size) frame.world.platform.memories route.memory may.inside
@@ -256,6 +260,9 @@ module _ (frame : Frame Plan) (command : Command) (address : ℕ) (route : Route
 
   pub ask_room : (gate first last : ℕ) (kind : Kind) → o ≡ GrantedReply gate first last kind → length old.held < old.room
   ask_room gate first last kind is = free_place frame route.memory there txn time command note back gate first last kind position old (said (GrantedReply gate first last kind) is) may.places may.known
+
+  pub ask_inside : (gate first last : ℕ) (kind : Kind) → o ≡ GrantedReply gate first last kind → (first ≤ route.offset) × (route.offset ≤ last)
+  ask_inside gate first last kind is = offset_in frame route.memory there txn time command note back gate first last kind position route.offset (said (GrantedReply gate first last kind) is) may.inside
 
   pub ask_taken : (who gate first last low high base p which : ℕ) (kind : Kind) (new : TableView) (after : Purse) → o ≡ GrantedReply gate first last kind → position ≡ Some p
       → new ≡ record { held = old.held ++ record { gate = gate; memory = route.memory; first = first; last = last; kind = kind; position = p; txn = txn; time = time; low = low; high = high; base = base } ∷ []; room = old.room }

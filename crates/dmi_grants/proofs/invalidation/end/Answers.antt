@@ -26,3 +26,27 @@ returns-clause-closed g c =
     let seen : c.drain.new.note.knows.seen ≡ c.args.note.knows.seen = ap (λ (v : View Content Plan). v.seen) c.drain.ensures.drained ∙ ap (λ (v : View Content Plan). v.seen) c.mark.ensures.void in
     closed_by g.N.Naming.frame c.args.memory c.requires.memory c.args.txn c.args.at c.args.gate c.args.note.knows c.drain.new.note.knows c.make_paid-note.result.2.knows c.make_paid-note.result.0 c.args.wallet.now c.make_paid-note.new.wallet c.make_paid-note.result.1 same
     (subst (StandBelow c.args.note.knows.known) (sym seen) c.requires.below) c.make_paid-note.ensures.made c.make_paid-note.ensures.spent
+
+pub make_paid-note-requires-clause-memory : goal.make_paid-note-requires-clause-memory
+make_paid-note-requires-clause-memory g c = c.requires.memory
+
+pub make_paid-note-requires-clause-of : goal.make_paid-note-requires-clause-of
+make_paid-note-requires-clause-of g c = c.requires.wallet
+
+pub make_paid-note-requires-clause-room : goal.make_paid-note-requires-clause-room
+make_paid-note-requires-clause-room g c = c.requires.room
+
+pub make_paid-note-requires-clause-left : goal.make_paid-note-requires-clause-left
+make_paid-note-requires-clause-left g c = c.requires.ticket
+
+pub returns-clause-note : goal.returns-clause-note
+returns-clause-note g c = c.make_paid-note.ensures.note
+
+pub returns-clause-wallet : goal.returns-clause-wallet
+returns-clause-wallet g c = c.make_paid-note.ensures.of
+
+pub returns-clause-room : goal.returns-clause-room
+returns-clause-room g c = c.make_paid-note.ensures.room
+
+pub returns-clause-rooms : goal.returns-clause-rooms
+returns-clause-rooms g c = c.make_paid-note.ensures.rooms

@@ -36,3 +36,24 @@ loop-preserved g c =
       tickets = (let f = one.1.fewer in let h = one.1.wallet.here in let t = i.tickets in omega arith);
       ended = (i.ended.0 ++ one.0, all);
     }
+
+pub end_next-ended-requires-clause-memory : goal.end_next-ended-requires-clause-memory
+end_next-ended-requires-clause-memory g c = c.requires.memory
+
+pub end_next-ended-requires-clause-passage : goal.end_next-ended-requires-clause-passage
+end_next-ended-requires-clause-passage g c = c.requires.passage
+
+pub end_next-ended-requires-clause-note : goal.end_next-ended-requires-clause-note
+end_next-ended-requires-clause-note g c = c.loop.invariant.note
+
+pub end_next-ended-requires-clause-told : goal.end_next-ended-requires-clause-told
+end_next-ended-requires-clause-told g c = c.loop.invariant.told
+
+pub end_next-ended-requires-clause-wallet : goal.end_next-ended-requires-clause-wallet
+end_next-ended-requires-clause-wallet g c = c.loop.invariant.wallet
+
+pub end_next-ended-requires-clause-room : goal.end_next-ended-requires-clause-room
+end_next-ended-requires-clause-room g c = c.loop.invariant.room
+
+pub end_next-ended-requires-clause-tickets : goal.end_next-ended-requires-clause-tickets
+end_next-ended-requires-clause-tickets g c = c.loop.invariant.tickets
