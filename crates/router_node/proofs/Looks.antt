@@ -1,5 +1,6 @@
 -- The looks of a router at its hops.
-use Rattle.std.proofs.Common.{◌≡◌, ℕ, zero, suc, ◌+◌, ◌<◌, List, [], ◌∷◌, ◌++◌, length, take, drop, get_or, Option, Some, refl, sym, ap, subst, ◌∙◌, append_assoc, arith}
+use Rattle.std.proofs.Common.{◌≡◌, ℕ, zero, suc, ◌+◌, ◌<◌, ◌≤◌, List, [], ◌∷◌, ◌++◌, length, take, drop, get_or, Option, Some, refl, sym, ap, subst, ◌∙◌, append_assoc, arith}
+use Rattle.std.proofs.lemmas.List.{append-nil}
 use Rattle.std.specs.List.{AllByRecursion}
 use Rattle.std.specs.Prelude.{IfSome}
 use Rattle.view_lists.specs.Lists.{Within}
@@ -56,3 +57,10 @@ is_first p look xs i first before after below b a = record {
   hops_are = split_at xs i below;
   looks = a ∙ ap (λ (l : List (ℕ × ℕ)). l ++ (hop_place p (get_or xs i 0), 0) ∷ []) b;
 }
+
+-- no look yet, and one in vain at each hop
+pub none_yet : (first : List (ℕ × ℕ)) → first ≡ first ++ []
+none_yet first = sym (append-nil first)
+
+pub none_found : (p : Plan) (look : ℕ) (xs : List ℕ) (i : ℕ) (first after : List (ℕ × ℕ)) → length xs ≤ i → after ≡ first ++ vain_looks p look (take i xs) → after ≡ first ++ vain_looks p look xs
+none_found p look xs i first after past l = l ∙ ap (λ (v : List (ℕ × ℕ)). first ++ v) (take_all p look xs i (λ (b : i < length xs). omega (arith, b, past)))

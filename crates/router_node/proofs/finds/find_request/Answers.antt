@@ -5,7 +5,7 @@ use Rattle.router_node.specs.Finds.{IsFirst, IsHopAbove}
 use Rattle.router_node.specs.Items.{IsRequest}
 use Rattle.router_node.specs.Moves.{fetch_look}
 use Rattle.router_node.specs.declared.items.Request.{Request}
-use Rattle.router_node.proofs.Looks.{each_at, is_first, looks_more, of_some, within_on}
+use Rattle.router_node.proofs.Looks.{each_at, is_first, looks_more, of_some, within_on, none_found, none_yet}
 use Rattle.router_node.proofs.finds.find_request.Goals as goal
 
 pub returns-in-Some-clause-found : goal.returns-in-Some-clause-found
@@ -37,3 +37,42 @@ loop-hop-preserved g c =
       below = e.below;
       looks = looks_more frame.world 1 xs i c.args.note.knows.looks old.looks new.looks c.loop-hop-test.true c.loop-hop.invariant.looks (subst (λ (o : Option Request). new.looks ≡ old.looks ++ (hop_place frame.world (get_or xs i 0), fetch_look o) ∷ []) c.in_default.is e.look);
     }
+
+pub loop-hop-init : goal.loop-hop-init
+loop-hop-init g c =
+    record {
+      note = c.requires.note;
+      knew = λ x has. has;
+      below = c.requires.below;
+      looks = none_yet c.args.note.knows.looks;
+    }
+
+pub fetch_down-request-requires-clause-hop : goal.fetch_down-request-requires-clause-hop
+fetch_down-request-requires-clause-hop g c = (each_at (λ (h : ℕ). IsHopAbove g.N.Naming.frame.world c.args.router h) c.args.hops.now c.loop-hop.hop-index 0 c.loop-hop-test.true c.requires.hops).there
+
+pub fetch_down-request-requires-clause-leads : goal.fetch_down-request-requires-clause-leads
+fetch_down-request-requires-clause-leads g c = (each_at (λ (h : ℕ). IsHopAbove g.N.Naming.frame.world c.args.router h) c.args.hops.now c.loop-hop.hop-index 0 c.loop-hop-test.true c.requires.hops).leads
+
+pub fetch_down-request-requires-clause-note : goal.fetch_down-request-requires-clause-note
+fetch_down-request-requires-clause-note g c = c.loop-hop.invariant.note
+
+pub returns-in-Some-clause-note : goal.returns-in-Some-clause-note
+returns-in-Some-clause-note g c = c.fetch_down-request.ensures.note
+
+pub returns-in-Some-clause-knew : goal.returns-in-Some-clause-knew
+returns-in-Some-clause-knew g c = within_on c.args.note.knows.known c.loop-hop.note.knows.known c.fetch_down-request.result.1.knows.known c.loop-hop.invariant.knew c.fetch_down-request.ensures.knew
+
+pub returns-in-Some-clause-below : goal.returns-in-Some-clause-below
+returns-in-Some-clause-below g c = c.fetch_down-request.ensures.below
+
+pub returns-clause-note : goal.returns-clause-note
+returns-clause-note g c = c.loop-hop.invariant.note
+
+pub returns-clause-knew : goal.returns-clause-knew
+returns-clause-knew g c = c.loop-hop.invariant.knew
+
+pub returns-clause-below : goal.returns-clause-below
+returns-clause-below g c = c.loop-hop.invariant.below
+
+pub returns-clause-found : goal.returns-clause-found
+returns-clause-found g c = none_found g.N.Naming.frame.world 1 c.args.hops.now c.loop-hop.hop-index c.args.note.knows.looks c.loop-hop.note.knows.looks c.loop-hop-test.false c.loop-hop.invariant.looks
