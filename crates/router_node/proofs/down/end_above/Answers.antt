@@ -18,3 +18,18 @@ end_req-leg-requires-clause-hop g c =
     let i = c.requires.gone in
     let h = i.held in
     on_plan g.N.Naming.frame.world c.args.held.txn i.pass i.hop c.args.held.above h.passes (one_less i.hop _ h.next) h.above
+
+pub end_req-leg-requires-clause-note : goal.end_req-leg-requires-clause-note
+end_req-leg-requires-clause-note g c = c.requires.note
+
+pub returns-clause-note : goal.returns-clause-note
+returns-clause-note g c = c.end_req-leg.ensures.note
+
+pub returns-clause-knew : goal.returns-clause-knew
+returns-clause-knew g c = c.end_req-leg.ensures.knew
+
+pub returns-clause-below : goal.returns-clause-below
+returns-clause-below g c = c.end_req-leg.ensures.below
+
+pub returns-clause-look : goal.returns-clause-look
+returns-clause-look g c = c.end_req-leg.ensures.look

@@ -20,3 +20,33 @@ begin_req-requires-clause-hop g c =
     let i = c.requires.down in
     let h = i.held in
     on_plan g.N.Naming.frame.world c.args.down.held.txn i.pass (i.hop + 1) c.args.down.held.below h.passes h.next h.below
+
+pub begin_req-requires-clause-note : goal.begin_req-requires-clause-note
+begin_req-requires-clause-note g c = c.requires.note
+
+pub returns-in-Left-clause-note : goal.returns-in-Left-clause-note
+returns-in-Left-clause-note g c = c.in-Left.ensures.note
+
+pub returns-in-Left-clause-knew : goal.returns-in-Left-clause-knew
+returns-in-Left-clause-knew g c = c.in-Left.ensures.knew
+
+pub returns-in-Left-clause-below : goal.returns-in-Left-clause-below
+returns-in-Left-clause-below g c = c.in-Left.ensures.below
+
+pub returns-in-Now-clause-note : goal.returns-in-Now-clause-note
+returns-in-Now-clause-note g c = c.in-Now.ensures.note
+
+pub returns-in-Now-clause-knew : goal.returns-in-Now-clause-knew
+returns-in-Now-clause-knew g c = c.in-Now.ensures.knew
+
+pub returns-in-Now-clause-below : goal.returns-in-Now-clause-below
+returns-in-Now-clause-below g c = c.in-Now.ensures.below
+
+pub returns-in-Busy-clause-note : goal.returns-in-Busy-clause-note
+returns-in-Busy-clause-note g c = c.in-Busy.ensures.note
+
+pub returns-in-Busy-clause-knew : goal.returns-in-Busy-clause-knew
+returns-in-Busy-clause-knew g c = c.in-Busy.ensures.knew
+
+pub returns-in-Busy-clause-below : goal.returns-in-Busy-clause-below
+returns-in-Busy-clause-below g c = c.in-Busy.ensures.below

@@ -46,3 +46,63 @@ returns-in-Pass-clause-stepped g c =
     let made : HasStepped g.N.Naming.frame Pass (Down c.in-Down.down) c.args.note.knows new.2.knows new.1 (Some new.0) = c.pass-stage.ensures.stepped in
     subst (λ (w : Step). HasStepped g.N.Naming.frame w c.args.stage c.args.note.knows new.2.knows new.1 (Some new.0)) (sym c.in-Pass.is)
     (subst (λ (s : Stage). HasStepped g.N.Naming.frame Pass s c.args.note.knows new.2.knows new.1 (Some new.0)) (sym c.in-Down.is) made)
+
+pub end_away-requires-clause-note : goal.end_away-requires-clause-note
+end_away-requires-clause-note g c = c.requires.note
+
+pub end_away-requires-clause-below : goal.end_away-requires-clause-below
+end_away-requires-clause-below g c = c.requires.below
+
+pub send-requires-clause-note : goal.send-requires-clause-note
+send-requires-clause-note g c = c.requires.note
+
+pub pass-stage-requires-clause-note : goal.pass-stage-requires-clause-note
+pass-stage-requires-clause-note g c = c.requires.note
+
+pub returns-in-End-clause-note : goal.returns-in-End-clause-note
+returns-in-End-clause-note g c = c.end_away.ensures.note
+
+pub returns-in-End-clause-knew : goal.returns-in-End-clause-knew
+returns-in-End-clause-knew g c = c.end_away.ensures.knew
+
+pub returns-in-End-clause-below : goal.returns-in-End-clause-below
+returns-in-End-clause-below g c = c.end_away.ensures.below
+
+pub returns-in-End-clause-stage : goal.returns-in-End-clause-stage
+returns-in-End-clause-stage g c = c.end_away.ensures.stage
+
+pub returns-in-Send-clause-note : goal.returns-in-Send-clause-note
+returns-in-Send-clause-note g c = c.send.ensures.note
+
+pub returns-in-Send-clause-knew : goal.returns-in-Send-clause-knew
+returns-in-Send-clause-knew g c = c.send.ensures.knew
+
+pub returns-in-Send-clause-below : goal.returns-in-Send-clause-below
+returns-in-Send-clause-below g c = c.send.ensures.below
+
+pub returns-in-Send-clause-stage : goal.returns-in-Send-clause-stage
+returns-in-Send-clause-stage g c = c.send.ensures.stage
+
+pub returns-in-Pass-clause-note : goal.returns-in-Pass-clause-note
+returns-in-Pass-clause-note g c = c.pass-stage.ensures.note
+
+pub returns-in-Pass-clause-knew : goal.returns-in-Pass-clause-knew
+returns-in-Pass-clause-knew g c = c.pass-stage.ensures.knew
+
+pub returns-in-Pass-clause-below : goal.returns-in-Pass-clause-below
+returns-in-Pass-clause-below g c = c.pass-stage.ensures.below
+
+pub returns-in-Pass-clause-stage : goal.returns-in-Pass-clause-stage
+returns-in-Pass-clause-stage g c = c.pass-stage.ensures.stage
+
+pub returns-in-Below-clause-note : goal.returns-in-Below-clause-note
+returns-in-Below-clause-note g c = c.requires.note
+
+pub returns-in-Below-clause-knew : goal.returns-in-Below-clause-knew
+returns-in-Below-clause-knew g c = λ x has. has
+
+pub returns-in-Below-clause-below : goal.returns-in-Below-clause-below
+returns-in-Below-clause-below g c = c.requires.below
+
+pub returns-in-Below-clause-stage : goal.returns-in-Below-clause-stage
+returns-in-Below-clause-stage g c = subst (IsStage g.N.Naming.frame g.N.Naming.tokens c.args.note.knows.known) c.in-Below.is c.requires.stage

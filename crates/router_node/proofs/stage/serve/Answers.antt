@@ -13,3 +13,24 @@ pub unreachable-requires : goal.unreachable-requires
 unreachable-requires g c =
     let r = c.in_default.ensures.router in
     by_memory g.N.Naming.frame g.N.Naming.tokens c.args.note.knows.known c.in_default.ensures.shape c.args.held c.args.begun c.requires.begun r.0 r.1
+
+pub serve_below-back-requires-clause-note : goal.serve_below-back-requires-clause-note
+serve_below-back-requires-clause-note g c = c.requires.note
+
+pub serve_below-back-requires-clause-begun : goal.serve_below-back-requires-clause-begun
+serve_below-back-requires-clause-begun g c = c.requires.begun
+
+pub returns-clause-note : goal.returns-clause-note
+returns-clause-note g c = c.serve_below-back.ensures.note
+
+pub returns-clause-knew : goal.returns-clause-knew
+returns-clause-knew g c = c.serve_below-back.ensures.knew
+
+pub returns-clause-below : goal.returns-clause-below
+returns-clause-below g c = c.serve_below-back.ensures.below
+
+pub turn_up-response-requires-clause-settled : goal.turn_up-response-requires-clause-settled
+turn_up-response-requires-clause-settled g c = c.requires.settled.owed
+
+pub turn_up-response-requires-clause-back : goal.turn_up-response-requires-clause-back
+turn_up-response-requires-clause-back g c = c.serve_below-back.ensures.served.back

@@ -19,3 +19,18 @@ end_resp-time-requires-clause-hop g c =
     let i = c.requires.ended in
     let r = i.rest in
     on_plan g.N.Naming.frame.world c.args.rest.txn i.pass (i.hop + 1) c.args.rest.below r.passes r.next r.below
+
+pub end_resp-time-requires-clause-note : goal.end_resp-time-requires-clause-note
+end_resp-time-requires-clause-note g c = c.requires.note
+
+pub returns-clause-note : goal.returns-clause-note
+returns-clause-note g c = c.end_resp-time.ensures.note
+
+pub returns-clause-knew : goal.returns-clause-knew
+returns-clause-knew g c = c.end_resp-time.ensures.knew
+
+pub returns-clause-below : goal.returns-clause-below
+returns-clause-below g c = c.end_resp-time.ensures.below
+
+pub returns-clause-look : goal.returns-clause-look
+returns-clause-look g c = c.end_resp-time.ensures.look

@@ -37,3 +37,18 @@ backward-requires-clause-hop g c =
     let a = i.up.asked in
     let h = i.up.held in
     on_plan g.N.Naming.frame.world c.args.response.cargo.baton.txn i.pass i.hop c.args.response.hop a.passes h.below i.here
+
+pub backward-requires-clause-note : goal.backward-requires-clause-note
+backward-requires-clause-note g c = c.requires.note
+
+pub backward-requires-clause-can : goal.backward-requires-clause-can
+backward-requires-clause-can g c = c.requires.can
+
+pub returns-in-Busy-clause-note : goal.returns-in-Busy-clause-note
+returns-in-Busy-clause-note g c = c.in-Busy.ensures.note
+
+pub returns-in-Busy-clause-knew : goal.returns-in-Busy-clause-knew
+returns-in-Busy-clause-knew g c = c.in-Busy.ensures.knew
+
+pub returns-in-Busy-clause-below : goal.returns-in-Busy-clause-below
+returns-in-Busy-clause-below g c = c.in-Busy.ensures.below
