@@ -1,4 +1,4 @@
-use Rattle.std.proofs.Common.{◌≡◌, ℕ, Bool, List, sym, subst}
+use Rattle.std.proofs.Common.{◌≡◌, ℕ, Bool, List, sym, subst, refl}
 use Rattle.std.specs.List.{AllByRecursion, remove}
 use Rattle.flow_model.specs.Events.{Finds}
 use Rattle.flow_model.specs.Numbers.{IsEnder}
@@ -12,6 +12,7 @@ use Rattle.router_node.proofs.Holds.{all_more}
 use Rattle.router_node.proofs.Moving.{goes, passed_by, same_sent, waits}
 use Rattle.router_node.proofs.Places.{stands, that_one, without}
 use Rattle.router_node.proofs.Staged.{away_more}
+use Rattle.router_node.proofs.Looks.{within_on}
 use Rattle.router_node.proofs.node.end_at.Goals as goal
 
 -- who stands at a place, by name
@@ -84,3 +85,54 @@ returns-clause-held g c =
 pub returns-clause-moved : goal.returns-clause-moved
 returns-clause-moved g c =
     goes g.N.Naming.frame c.args.at c.args.held.now.items c.take_sent-away.new.held.items c.take_sent-away.result c.args.note.knows c.finish_away-note.result.knows c.take_sent-away.ensures.was c.take_sent-away.ensures.items c.finish_away-note.ensures.ended
+
+pub returns-in_default-clause-note : goal.returns-in_default-clause-note
+returns-in_default-clause-note g c = c.requires.note
+
+pub returns-in_default-clause-knew : goal.returns-in_default-clause-knew
+returns-in_default-clause-knew g c = λ x has. has
+
+pub returns-in_default-clause-below : goal.returns-in_default-clause-below
+returns-in_default-clause-below g c = c.requires.below
+
+pub returns-in_default-clause-held : goal.returns-in_default-clause-held
+returns-in_default-clause-held g c = c.requires.held
+
+pub returns-in_default-clause-capacity : goal.returns-in_default-clause-capacity
+returns-in_default-clause-capacity g c = refl
+
+pub look_for_end-ended-requires-clause-note : goal.look_for_end-ended-requires-clause-note
+look_for_end-ended-requires-clause-note g c = c.requires.note
+
+pub look_for_end-ended-requires-clause-below : goal.look_for_end-ended-requires-clause-below
+look_for_end-ended-requires-clause-below g c = c.requires.below
+
+pub returns-then-not-ended-clause-note : goal.returns-then-not-ended-clause-note
+returns-then-not-ended-clause-note g c = c.look_for_end-ended.ensures.note
+
+pub returns-then-not-ended-clause-knew : goal.returns-then-not-ended-clause-knew
+returns-then-not-ended-clause-knew g c = c.look_for_end-ended.ensures.knew
+
+pub returns-then-not-ended-clause-below : goal.returns-then-not-ended-clause-below
+returns-then-not-ended-clause-below g c = c.look_for_end-ended.ensures.below
+
+pub returns-then-not-ended-clause-capacity : goal.returns-then-not-ended-clause-capacity
+returns-then-not-ended-clause-capacity g c = refl
+
+pub finish_away-note-requires-clause-note : goal.finish_away-note-requires-clause-note
+finish_away-note-requires-clause-note g c = c.look_for_end-ended.ensures.note
+
+pub finish_away-note-requires-clause-below : goal.finish_away-note-requires-clause-below
+finish_away-note-requires-clause-below g c = c.look_for_end-ended.ensures.below
+
+pub returns-clause-note : goal.returns-clause-note
+returns-clause-note g c = c.finish_away-note.ensures.note
+
+pub returns-clause-below : goal.returns-clause-below
+returns-clause-below g c = c.finish_away-note.ensures.below
+
+pub returns-clause-knew : goal.returns-clause-knew
+returns-clause-knew g c = within_on c.args.note.knows.known c.look_for_end-ended.result.1.knows.known c.finish_away-note.result.knows.known c.look_for_end-ended.ensures.knew c.finish_away-note.ensures.knew
+
+pub returns-clause-capacity : goal.returns-clause-capacity
+returns-clause-capacity g c = c.take_sent-away.ensures.capacity

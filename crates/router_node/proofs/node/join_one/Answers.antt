@@ -1,4 +1,4 @@
-use Rattle.std.proofs.Common.{◌≡◌, ℕ, List, Option, set, sym, ap, subst, ◌∙◌}
+use Rattle.std.proofs.Common.{◌≡◌, ℕ, List, Option, set, sym, ap, subst, ◌∙◌, refl}
 use Rattle.std.specs.List.{AllByRecursion}
 use Rattle.router_node.specs.Joins.{IsFirstOf, IsPlaceOf}
 use Rattle.router_node.specs.Node.{gap}
@@ -43,3 +43,17 @@ returns-clause-found g c = c.join-stage.ensures.found
 
 pub returns-in_default-clause-found : goal.returns-in_default-clause-found
 returns-in_default-clause-found g c = c.requires.found
+
+pub returns-in_default-clause-held : goal.returns-in_default-clause-held
+returns-in_default-clause-held g c = c.requires.held
+
+pub returns-in_default-clause-capacity : goal.returns-in_default-clause-capacity
+returns-in_default-clause-capacity g c = refl
+
+pub join-stage-requires-clause-found : goal.join-stage-requires-clause-found
+join-stage-requires-clause-found g c = c.requires.found
+
+pub returns-in_default-clause-joined : goal.returns-in_default-clause-joined
+returns-in_default-clause-joined g c =
+    let others = subst (λ (o : Option ℕ). IsPlaceOf c.args.found c.args.held.now.items o) c.in_default.is c.place_of.ensures in
+    (refl, refl, others)

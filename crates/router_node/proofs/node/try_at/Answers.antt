@@ -1,4 +1,4 @@
-use Rattle.std.proofs.Common.{◌≡◌, List, Option, set, sym, ap, subst, ◌∙◌}
+use Rattle.std.proofs.Common.{◌≡◌, List, Option, set, sym, ap, subst, ◌∙◌, refl}
 use Rattle.std.specs.Prelude.{IfSome}
 use Rattle.std.specs.List.{AllByRecursion}
 use Rattle.router_node.specs.Node.{gap}
@@ -41,3 +41,39 @@ returns-clause-moved g c =
     let put : c.put_back.new.held.items ≡ set (set items at gap) at t = c.put_back.ensures.items ∙ ap (λ (l : List Stage). set l at t) c.take_out-stage.ensures.items in
     tried frame c.args.what at items c.put_back.new.held.items c.take_out-stage.result gap t was is c.move_on-stage.result.1 c.take_out-stage.ensures.was put
     (subst (λ (o : Option Stage). HasStepped frame c.args.what c.take_out-stage.result was is c.move_on-stage.result.1 o) c.in-Some.is c.move_on-stage.ensures.stepped)
+
+pub returns-then-not-is_about-clause-note : goal.returns-then-not-is_about-clause-note
+returns-then-not-is_about-clause-note g c = c.requires.note
+
+pub returns-then-not-is_about-clause-knew : goal.returns-then-not-is_about-clause-knew
+returns-then-not-is_about-clause-knew g c = λ x has. has
+
+pub returns-then-not-is_about-clause-below : goal.returns-then-not-is_about-clause-below
+returns-then-not-is_about-clause-below g c = c.requires.below
+
+pub returns-then-not-is_about-clause-held : goal.returns-then-not-is_about-clause-held
+returns-then-not-is_about-clause-held g c = c.requires.held
+
+pub returns-then-not-is_about-clause-capacity : goal.returns-then-not-is_about-clause-capacity
+returns-then-not-is_about-clause-capacity g c = refl
+
+pub take_out-stage-requires : goal.take_out-stage-requires
+take_out-stage-requires g c = c.requires.there
+
+pub move_on-stage-requires-clause-note : goal.move_on-stage-requires-clause-note
+move_on-stage-requires-clause-note g c = c.requires.note
+
+pub move_on-stage-requires-clause-below : goal.move_on-stage-requires-clause-below
+move_on-stage-requires-clause-below g c = c.requires.below
+
+pub returns-clause-note : goal.returns-clause-note
+returns-clause-note g c = c.move_on-stage.ensures.note
+
+pub returns-clause-knew : goal.returns-clause-knew
+returns-clause-knew g c = c.move_on-stage.ensures.knew
+
+pub returns-clause-below : goal.returns-clause-below
+returns-clause-below g c = c.move_on-stage.ensures.below
+
+pub returns-clause-capacity : goal.returns-clause-capacity
+returns-clause-capacity g c = c.put_back.ensures.capacity ∙ c.take_out-stage.ensures.capacity

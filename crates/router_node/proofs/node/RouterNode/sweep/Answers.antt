@@ -17,3 +17,21 @@ returns-clause-router g c =
     let few : length c.sweep.new.held.items ≤ r.room = omega (arith, count, is.few) in
     let room : r.room ≤ deque_capacity c.sweep.new.held = omega (arith, is.room, e.capacity) in
     keeps frame tokens known more e.knew r (record r { held = c.sweep.new.held }) refl is e.held few room (stray_more frame tokens known more e.knew r.stray is.stray)
+
+pub sweep-requires-clause-note : goal.sweep-requires-clause-note
+sweep-requires-clause-note g c = c.requires.note
+
+pub sweep-requires-clause-below : goal.sweep-requires-clause-below
+sweep-requires-clause-below g c = c.requires.below
+
+pub sweep-requires-clause-held : goal.sweep-requires-clause-held
+sweep-requires-clause-held g c = c.requires.router.held
+
+pub returns-clause-note : goal.returns-clause-note
+returns-clause-note g c = c.sweep.ensures.note
+
+pub returns-clause-knew : goal.returns-clause-knew
+returns-clause-knew g c = c.sweep.ensures.knew
+
+pub returns-clause-below : goal.returns-clause-below
+returns-clause-below g c = c.sweep.ensures.below

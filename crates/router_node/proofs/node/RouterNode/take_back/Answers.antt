@@ -65,3 +65,44 @@ returns-clause-taken g c =
       joined = c.join_one.ensures.joined;
       same = refl;
     }
+
+pub returns-then-is_some-clause-router : goal.returns-then-is_some-clause-router
+returns-then-is_some-clause-router g c = c.requires.router
+
+pub returns-then-is_some-clause-note : goal.returns-then-is_some-clause-note
+returns-then-is_some-clause-note g c = c.requires.note
+
+pub returns-then-is_some-clause-knew : goal.returns-then-is_some-clause-knew
+returns-then-is_some-clause-knew g c = λ x has. has
+
+pub returns-then-is_some-clause-below : goal.returns-then-is_some-clause-below
+returns-then-is_some-clause-below g c = c.requires.below
+
+pub find_back-found-requires-clause-note : goal.find_back-found-requires-clause-note
+find_back-found-requires-clause-note g c = c.requires.note
+
+pub find_back-found-requires-clause-below : goal.find_back-found-requires-clause-below
+find_back-found-requires-clause-below g c = c.requires.below
+
+pub returns-in_default-clause-note : goal.returns-in_default-clause-note
+returns-in_default-clause-note g c = c.find_back-found.ensures.note
+
+pub returns-in_default-clause-knew : goal.returns-in_default-clause-knew
+returns-in_default-clause-knew g c = c.find_back-found.ensures.knew
+
+pub returns-in_default-clause-below : goal.returns-in_default-clause-below
+returns-in_default-clause-below g c = c.find_back-found.ensures.below
+
+pub returns-clause-note : goal.returns-clause-note
+returns-clause-note g c = c.find_back-found.ensures.note
+
+pub returns-clause-knew : goal.returns-clause-knew
+returns-clause-knew g c = c.find_back-found.ensures.knew
+
+pub returns-clause-below : goal.returns-clause-below
+returns-clause-below g c = c.find_back-found.ensures.below
+
+pub join_one-requires-clause-found : goal.join_one-requires-clause-found
+join_one-requires-clause-found g c =
+    let f = subst (λ (o : Option Found). HasFoundBack g.N.Naming.frame g.N.Naming.tokens c.hops_at-hops.result.now c.args.note.knows c.find_back-found.result.1.knows o) c.in-Some.is c.find_back-found.ensures.found in
+    f.1

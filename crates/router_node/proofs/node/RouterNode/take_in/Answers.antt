@@ -83,3 +83,53 @@ returns-clause-taken g c =
       line = last_is r.held.items c.push_back_reserved.new.self.items c.stage_of-stage.result (stage_of c.turn-turned.result.0) c.push_back_reserved.ensures.items c.stage_of-stage.ensures;
       same = refl;
     }
+
+pub returns-then-len-self-clause-router : goal.returns-then-len-self-clause-router
+returns-then-len-self-clause-router g c = c.requires.router
+
+pub returns-then-len-self-clause-note : goal.returns-then-len-self-clause-note
+returns-then-len-self-clause-note g c = c.requires.note
+
+pub returns-then-len-self-clause-knew : goal.returns-then-len-self-clause-knew
+returns-then-len-self-clause-knew g c = λ x has. has
+
+pub returns-then-len-self-clause-below : goal.returns-then-len-self-clause-below
+returns-then-len-self-clause-below g c = c.requires.below
+
+pub find_request-request-requires-clause-note : goal.find_request-request-requires-clause-note
+find_request-request-requires-clause-note g c = c.requires.note
+
+pub find_request-request-requires-clause-below : goal.find_request-request-requires-clause-below
+find_request-request-requires-clause-below g c = c.requires.below
+
+pub returns-in_default-clause-note : goal.returns-in_default-clause-note
+returns-in_default-clause-note g c = c.find_request-request.ensures.note
+
+pub returns-in_default-clause-knew : goal.returns-in_default-clause-knew
+returns-in_default-clause-knew g c = c.find_request-request.ensures.knew
+
+pub returns-in_default-clause-below : goal.returns-in_default-clause-below
+returns-in_default-clause-below g c = c.find_request-request.ensures.below
+
+pub turn-turned-requires-clause-router : goal.turn-turned-requires-clause-router
+turn-turned-requires-clause-router g c = c.requires.router.router
+
+pub turn-turned-requires-clause-first : goal.turn-turned-requires-clause-first
+turn-turned-requires-clause-first g c = c.requires.router.first
+
+pub turn-turned-requires-clause-mode : goal.turn-turned-requires-clause-mode
+turn-turned-requires-clause-mode g c = c.requires.router.accepts
+
+pub turn-turned-requires-clause-note : goal.turn-turned-requires-clause-note
+turn-turned-requires-clause-note g c = c.find_request-request.ensures.note
+
+pub returns-clause-note : goal.returns-clause-note
+returns-clause-note g c = c.turn-turned.ensures.note
+
+pub returns-clause-knew : goal.returns-clause-knew
+returns-clause-knew g c = within_on c.args.note.knows.known c.find_request-request.result.1.knows.known c.turn-turned.result.1.knows.known c.find_request-request.ensures.knew c.turn-turned.ensures.knew
+
+pub turn-turned-requires-clause-request : goal.turn-turned-requires-clause-request
+turn-turned-requires-clause-request g c =
+    let f = subst (λ (o : Option Request). HasFoundRequest g.N.Naming.frame g.N.Naming.tokens c.args.self.now.router c.hops_at-hops.result.now c.args.note.knows c.find_request-request.result.1.knows o) c.in-Some.is c.find_request-request.ensures.found in
+    f.2
