@@ -1,10 +1,10 @@
-use Rattle.std.proofs.Common.{◌≡◌, Bool, ℕ, ◌++◌, map, true, refl, sym, ap, subst, arith}
+use Rattle.std.proofs.Common.{◌≡◌, Bool, ℕ, ◌++◌, map, true, refl, sym, ap, subst, arith, ◌≤◌}
 use Rattle.atomic_table.specs.Seated.{TableId}
 use Rattle.view_lists.specs.Lists.{Within}
 use Rattle.shared_object.specs.Standing.{Numbers}
 use Rattle.shared_object.specs.Steps.{Enters}
 use Rattle.shared_object.specs.Written.{placed, written_at, wrote}
-use Rattle.token_book.specs.Purse.{IsOf}
+use Rattle.token_book.specs.Purse.{IsOf, bytes_of}
 use Rattle.token_book.specs.Ticket.{IsTicket}
 use Rattle.generic_payload.specs.Payload.{PayloadView}
 use Rattle.one_history.specs.declared.entry.Sign.{Sign}
@@ -68,3 +68,24 @@ returns-clause-entry g c =
 
 pub returns-clause-wallet : goal.returns-clause-wallet
 returns-clause-wallet g c = subst (λ (t : TableId). IsOf t c.pull-ticket.new.self) c.self.invariant.3 c.pull-ticket.ensures.of
+
+pub pull-ticket-requires-clause-of : goal.pull-ticket-requires-clause-of
+pull-ticket-requires-clause-of g c = subst (λ (t : TableId). IsOf t c.args.wallet.now) (sym c.self.invariant.3) c.requires.wallet
+
+pub pull-ticket-requires-clause-left : goal.pull-ticket-requires-clause-left
+pull-ticket-requires-clause-left g c = c.requires.ticket.0
+
+pub pull-ticket-requires-clause-bytes : goal.pull-ticket-requires-clause-bytes
+pull-ticket-requires-clause-bytes g c = subst (λ (n : ℕ). n ≤ bytes_of c.args.wallet.now c.args.memory) (sym c.cost.ensures) c.requires.ticket.1
+
+pub step_alone-stepped-requires-clause-note : goal.step_alone-stepped-requires-clause-note
+step_alone-stepped-requires-clause-note g c = c.requires.note
+
+pub step_alone-stepped-requires-clause-history : goal.step_alone-stepped-requires-clause-history
+step_alone-stepped-requires-clause-history g c = (c.self.invariant.1, c.self.invariant.2)
+
+pub step_alone-stepped-requires-clause-tickets : goal.step_alone-stepped-requires-clause-tickets
+step_alone-stepped-requires-clause-tickets g c = c.self.invariant.3
+
+pub returns-clause-note : goal.returns-clause-note
+returns-clause-note g c = c.step_alone-stepped.ensures.note
