@@ -50,3 +50,51 @@ returns-clause-asked g c =
     c.put_all.new.self (subst (λ (t : TableId). IsOf t c.put_all.new.self) c.tickets-2.ensures c.put_all.ensures.of) c.put_all.ensures.places c.put_all.ensures.left c.put_all.ensures.bytes c.put_all.ensures.full in
     asked_there g.N.Naming.tokens c.args.net.now c.args.who c.args.txn c.args.at c.args.payload c.debug-carried.result.payload c.args.note c.debug-carried.result.note c.args.wallet.now c.put_all.new.self r here
     (called_by (route_at c.args.net.now c.args.who c.args.payload.address) r c.args.net.now c.args.txn c.args.at c.args.payload c.args.note.knows c.debug-carried.result.note.knows c.debug-carried.result.payload here c.debug-carried.ensures.entry) left
+
+pub debug-requires-clause-who : goal.debug-requires-clause-who
+debug-requires-clause-who g c = c.requires.who
+
+pub debug-requires-clause-read : goal.debug-requires-clause-read
+debug-requires-clause-read g c = c.requires.read
+
+pub debug-requires-clause-passage : goal.debug-requires-clause-passage
+debug-requires-clause-passage g c = c.requires.passage
+
+pub debug-requires-clause-note : goal.debug-requires-clause-note
+debug-requires-clause-note g c = c.requires.note
+
+pub debug-carried-requires-clause-who : goal.debug-carried-requires-clause-who
+debug-carried-requires-clause-who g c = c.requires.who
+
+pub debug-carried-requires-clause-read : goal.debug-carried-requires-clause-read
+debug-carried-requires-clause-read g c = c.requires.read
+
+pub debug-carried-requires-clause-passage : goal.debug-carried-requires-clause-passage
+debug-carried-requires-clause-passage g c = c.requires.passage
+
+pub debug-carried-requires-clause-note : goal.debug-carried-requires-clause-note
+debug-carried-requires-clause-note g c = c.requires.note
+
+pub returns-in_default-clause-room : goal.returns-in_default-clause-room
+returns-in_default-clause-room g c = c.debug.ensures.room
+
+pub returns-in_default-clause-note : goal.returns-in_default-clause-note
+returns-in_default-clause-note g c = c.debug.ensures.note
+
+pub returns-in_default-clause-knew : goal.returns-in_default-clause-knew
+returns-in_default-clause-knew g c = c.debug.ensures.knew
+
+pub returns-in_default-clause-below : goal.returns-in_default-clause-below
+returns-in_default-clause-below g c = c.debug.ensures.below
+
+pub returns-clause-room : goal.returns-clause-room
+returns-clause-room g c = c.debug-carried.ensures.room
+
+pub returns-clause-note : goal.returns-clause-note
+returns-clause-note g c = c.debug-carried.ensures.note
+
+pub returns-clause-knew : goal.returns-clause-knew
+returns-clause-knew g c = c.debug-carried.ensures.knew
+
+pub returns-clause-below : goal.returns-clause-below
+returns-clause-below g c = c.debug-carried.ensures.below
