@@ -24,3 +24,12 @@ returns-clause-descended g c = λ may. (
     descended g.N.Naming.frame g.N.Naming.tokens c.args.pool.now.number c.args.cargo c.args.above c.args.address c.args.at c.args.note.knows.known may c.acquire-cargo.result.1.knows.known c.acquire-cargo.ensures.knew c.acquire-cargo.result.0.baton c.acquire-cargo.result.0.hold a c.pull_at-ticket.new.wallet
     (subst (λ (t : TableId). PullsAt t c.args.above c.acquire-cargo.result.0.baton.wallet c.pull_at-ticket.new.wallet) c.requires.tickets c.pull_at-ticket.ensures.pulls)
     )
+
+pub acquire-cargo-requires-clause-history : goal.acquire-cargo-requires-clause-history
+acquire-cargo-requires-clause-history g c = c.requires.history
+
+pub acquire-cargo-requires-clause-tickets : goal.acquire-cargo-requires-clause-tickets
+acquire-cargo-requires-clause-tickets g c = c.requires.tickets
+
+pub acquire-cargo-requires-clause-note : goal.acquire-cargo-requires-clause-note
+acquire-cargo-requires-clause-note g c = c.requires.note

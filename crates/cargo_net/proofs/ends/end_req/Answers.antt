@@ -18,3 +18,21 @@ returns-clause-answer g c =
 
 pub returns-clause-ended : goal.returns-clause-ended
 returns-clause-ended g c = λ may. ended g.N.Naming.frame g.N.Naming.tokens c.args.hop.now.number c.args.hop.now.own c.args.leg c.args.at c.args.note.knows may c.step_hop-reply.result.1.knows c.ended_req-leg.result.0 c.ended_req-leg.result.1 (returns-clause-answer g c)
+
+pub step_hop-reply-requires-clause-history : goal.step_hop-reply-requires-clause-history
+step_hop-reply-requires-clause-history g c = c.requires.history
+
+pub step_hop-reply-requires-clause-tickets : goal.step_hop-reply-requires-clause-tickets
+step_hop-reply-requires-clause-tickets g c = c.requires.tickets
+
+pub step_hop-reply-requires-clause-note : goal.step_hop-reply-requires-clause-note
+step_hop-reply-requires-clause-note g c = c.requires.note
+
+pub returns-clause-note : goal.returns-clause-note
+returns-clause-note g c = c.step_hop-reply.ensures.note
+
+pub returns-clause-knew : goal.returns-clause-knew
+returns-clause-knew g c = c.step_hop-reply.ensures.stepped.answered.enters.knew
+
+pub returns-clause-below : goal.returns-clause-below
+returns-clause-below g c = c.step_hop-reply.ensures.stepped.answered.enters.below

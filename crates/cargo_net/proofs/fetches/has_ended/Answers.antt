@@ -8,3 +8,21 @@ use Rattle.cargo_net.proofs.fetches.has_ended.Goals as goal
 pub returns-clause-answer : goal.returns-clause-answer
 returns-clause-answer g c =
     subst (λ (r : HopReply Cargo). HasAnswered g.N.Naming.frame g.N.Naming.tokens c.args.hop.now.number c.args.hop.now.own c.args.note.knows c.step_hop-reply.result.1.knows (Ended c.args.txn) r) c.ended.ensures c.step_hop-reply.ensures.stepped.answered
+
+pub step_hop-reply-requires-clause-history : goal.step_hop-reply-requires-clause-history
+step_hop-reply-requires-clause-history g c = c.requires.history
+
+pub step_hop-reply-requires-clause-tickets : goal.step_hop-reply-requires-clause-tickets
+step_hop-reply-requires-clause-tickets g c = c.requires.tickets
+
+pub step_hop-reply-requires-clause-note : goal.step_hop-reply-requires-clause-note
+step_hop-reply-requires-clause-note g c = c.requires.note
+
+pub returns-clause-note : goal.returns-clause-note
+returns-clause-note g c = c.step_hop-reply.ensures.note
+
+pub returns-clause-knew : goal.returns-clause-knew
+returns-clause-knew g c = c.step_hop-reply.ensures.stepped.answered.enters.knew
+
+pub returns-clause-below : goal.returns-clause-below
+returns-clause-below g c = c.step_hop-reply.ensures.stepped.answered.enters.below

@@ -30,3 +30,18 @@ returns-in-Some-clause-forwarded g c = λ may. (
 
 pub returns-in-Busy-clause-forwarded : goal.returns-in-Busy-clause-forwarded
 returns-in-Busy-clause-forwarded g c = λ may. c.in-Busy.ensures.tried may.begins
+
+pub begin_req-requires-clause-history : goal.begin_req-requires-clause-history
+begin_req-requires-clause-history g c = c.requires.history
+
+pub begin_req-requires-clause-tickets : goal.begin_req-requires-clause-tickets
+begin_req-requires-clause-tickets g c = c.requires.tickets
+
+pub begin_req-requires-clause-note : goal.begin_req-requires-clause-note
+begin_req-requires-clause-note g c = c.requires.note
+
+pub serve-cargo-requires-clause-history : goal.serve-cargo-requires-clause-history
+serve-cargo-requires-clause-history g c = c.requires.history
+
+pub serve-cargo-requires-clause-tickets : goal.serve-cargo-requires-clause-tickets
+serve-cargo-requires-clause-tickets g c = c.requires.tickets

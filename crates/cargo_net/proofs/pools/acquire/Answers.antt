@@ -16,3 +16,15 @@ returns-clause-acquired g c = λ may. (
     (subst (λ (r : PoolReply). HasPooled g.N.Naming.frame g.N.Naming.tokens c.args.pool.now.number c.args.pool.now.own c.args.note.knows c.step_pool-reply.result.1.knows (Acquire (let b = c.args.baton in record b { wallet = c.pull-ticket.new.self }) c.args.at) r) c.acquired-baton.ensures c.step_pool-reply.ensures.pooled.pooled)
     (from_pull g.N.Naming.tokens c.args.tickets.now c.args.pool.now.number c.number.result c.args.baton.wallet w c.number.ensures c.requires.tickets c.pull-ticket.ensures.wallet c.pull-ticket.ensures.of c.pull-ticket.ensures.left c.pull-ticket.ensures.bytes)
     )
+
+pub step_pool-reply-requires-clause-history : goal.step_pool-reply-requires-clause-history
+step_pool-reply-requires-clause-history g c = c.requires.history
+
+pub step_pool-reply-requires-clause-tickets : goal.step_pool-reply-requires-clause-tickets
+step_pool-reply-requires-clause-tickets g c = c.requires.tickets
+
+pub step_pool-reply-requires-clause-note : goal.step_pool-reply-requires-clause-note
+step_pool-reply-requires-clause-note g c = c.requires.note
+
+pub returns-clause-note : goal.returns-clause-note
+returns-clause-note g c = c.step_pool-reply.ensures.note

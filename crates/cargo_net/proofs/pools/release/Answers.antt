@@ -13,3 +13,15 @@ returns-clause-released g c = λ may. (
     released g.N.Naming.frame g.N.Naming.tokens c.args.pool.now.number c.args.pool.now.own c.args.hold c.args.at c.args.note.knows may c.step_pool-reply.result.1.knows c.released.result
     (subst (λ (r : PoolReply). HasPooled g.N.Naming.frame g.N.Naming.tokens c.args.pool.now.number c.args.pool.now.own c.args.note.knows c.step_pool-reply.result.1.knows (Release c.args.hold c.args.at) r) c.released.ensures c.step_pool-reply.ensures.pooled.pooled)
     )
+
+pub step_pool-reply-requires-clause-history : goal.step_pool-reply-requires-clause-history
+step_pool-reply-requires-clause-history g c = c.requires.history
+
+pub step_pool-reply-requires-clause-tickets : goal.step_pool-reply-requires-clause-tickets
+step_pool-reply-requires-clause-tickets g c = c.requires.tickets
+
+pub step_pool-reply-requires-clause-note : goal.step_pool-reply-requires-clause-note
+step_pool-reply-requires-clause-note g c = c.requires.note
+
+pub returns-clause-note : goal.returns-clause-note
+returns-clause-note g c = c.step_pool-reply.ensures.note

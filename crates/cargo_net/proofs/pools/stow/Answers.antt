@@ -12,3 +12,15 @@ pub returns-clause-stowed : goal.returns-clause-stowed
 returns-clause-stowed g c =
     stowed g.N.Naming.frame g.N.Naming.tokens c.args.pool.now.number c.args.pool.now.own c.args.baton c.args.at c.args.note.knows c.requires.may c.step_pool-reply.result.1.knows c.released.result
     (subst (λ (r : PoolReply). HasPooled g.N.Naming.frame g.N.Naming.tokens c.args.pool.now.number c.args.pool.now.own c.args.note.knows c.step_pool-reply.result.1.knows (Stow c.args.baton c.args.at) r) c.released.ensures c.step_pool-reply.ensures.pooled.pooled)
+
+pub step_pool-reply-requires-clause-history : goal.step_pool-reply-requires-clause-history
+step_pool-reply-requires-clause-history g c = c.requires.history
+
+pub step_pool-reply-requires-clause-tickets : goal.step_pool-reply-requires-clause-tickets
+step_pool-reply-requires-clause-tickets g c = c.requires.tickets
+
+pub step_pool-reply-requires-clause-note : goal.step_pool-reply-requires-clause-note
+step_pool-reply-requires-clause-note g c = c.requires.note
+
+pub returns-clause-note : goal.returns-clause-note
+returns-clause-note g c = c.step_pool-reply.ensures.note

@@ -15,3 +15,18 @@ returns-in-Some-clause-taken g c = (
       (subst (λ (r : PoolReply). HasPooled g.N.Naming.frame g.N.Naming.tokens c.args.pool.now.number c.args.pool.now.own c.args.note.knows c.step_pool-reply.result.1.knows (Take c.args.txn c.args.at) r) c.in-Some.ensures c.step_pool-reply.ensures.pooled.pooled),
   subst (λ (r : PoolReply). c.step_pool-reply.result.1.knows.looks ≡ c.args.note.knows.looks ++ (c.args.pool.now.number, look_of r) ∷ []) c.in-Some.ensures c.step_pool-reply.ensures.look,
 )
+
+pub step_pool-reply-requires-clause-history : goal.step_pool-reply-requires-clause-history
+step_pool-reply-requires-clause-history g c = c.requires.history
+
+pub step_pool-reply-requires-clause-tickets : goal.step_pool-reply-requires-clause-tickets
+step_pool-reply-requires-clause-tickets g c = c.requires.tickets
+
+pub step_pool-reply-requires-clause-note : goal.step_pool-reply-requires-clause-note
+step_pool-reply-requires-clause-note g c = c.requires.note
+
+pub returns-in-Some-clause-note : goal.returns-in-Some-clause-note
+returns-in-Some-clause-note g c = c.step_pool-reply.ensures.note
+
+pub returns-in-Some-ticket-clause-note : goal.returns-in-Some-ticket-clause-note
+returns-in-Some-ticket-clause-note g c = c.step_pool-reply.ensures.note

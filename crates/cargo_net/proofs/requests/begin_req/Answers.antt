@@ -165,3 +165,39 @@ returns-in-Busy-clause-answer g c =
     let r = refused_back g.N.Naming.frame g.N.Naming.tokens c.args.hop.now.number c.args.hop.now.own c.args.cargo c.args.at c.args.note.knows c.requires.may w pull c.step_hop-reply.result.1.knows c.in-Busy.holder c.in-Busy.live c.in-Busy.item a in
     subst (λ (d : Cargo). HasAnswered g.N.Naming.frame g.N.Naming.tokens c.args.hop.now.number c.args.hop.now.own c.args.note.knows c.step_hop-reply.result.1.knows (BeginReq c.args.cargo.baton.txn c.args.at d) (Begun (Busy c.in-Busy.holder c.in-Busy.live d))) (ap (with_wallet c.args.cargo) (c.pull-ticket.ensures.wallet ∙ ap (λ (t : TableId). pulled t c.args.cargo.baton.wallet c.number-number.result 0) c.requires.tickets ∙ ap (λ (n : ℕ). pulled g.N.Naming.tokens c.args.cargo.baton.wallet n 0) c.number-number.ensures))
     (subst (λ (i : Cargo). HasAnswered g.N.Naming.frame g.N.Naming.tokens c.args.hop.now.number c.args.hop.now.own c.args.note.knows c.step_hop-reply.result.1.knows (BeginReq c.args.cargo.baton.txn c.args.at (with_wallet c.args.cargo c.pull-ticket.new.self)) (Begun (Busy c.in-Busy.holder c.in-Busy.live i))) r a)
+
+pub step_hop-reply-requires-clause-history : goal.step_hop-reply-requires-clause-history
+step_hop-reply-requires-clause-history g c = c.requires.history
+
+pub step_hop-reply-requires-clause-tickets : goal.step_hop-reply-requires-clause-tickets
+step_hop-reply-requires-clause-tickets g c = c.requires.tickets
+
+pub step_hop-reply-requires-clause-note : goal.step_hop-reply-requires-clause-note
+step_hop-reply-requires-clause-note g c = c.requires.note
+
+pub returns-in-Left-clause-note : goal.returns-in-Left-clause-note
+returns-in-Left-clause-note g c = c.step_hop-reply.ensures.note
+
+pub returns-in-Left-clause-knew : goal.returns-in-Left-clause-knew
+returns-in-Left-clause-knew g c = c.step_hop-reply.ensures.stepped.answered.enters.knew
+
+pub returns-in-Left-clause-below : goal.returns-in-Left-clause-below
+returns-in-Left-clause-below g c = c.step_hop-reply.ensures.stepped.answered.enters.below
+
+pub returns-in-Now-clause-note : goal.returns-in-Now-clause-note
+returns-in-Now-clause-note g c = c.step_hop-reply.ensures.note
+
+pub returns-in-Now-clause-knew : goal.returns-in-Now-clause-knew
+returns-in-Now-clause-knew g c = c.step_hop-reply.ensures.stepped.answered.enters.knew
+
+pub returns-in-Now-clause-below : goal.returns-in-Now-clause-below
+returns-in-Now-clause-below g c = c.step_hop-reply.ensures.stepped.answered.enters.below
+
+pub returns-in-Busy-clause-note : goal.returns-in-Busy-clause-note
+returns-in-Busy-clause-note g c = c.step_hop-reply.ensures.note
+
+pub returns-in-Busy-clause-knew : goal.returns-in-Busy-clause-knew
+returns-in-Busy-clause-knew g c = c.step_hop-reply.ensures.stepped.answered.enters.knew
+
+pub returns-in-Busy-clause-below : goal.returns-in-Busy-clause-below
+returns-in-Busy-clause-below g c = c.step_hop-reply.ensures.stepped.answered.enters.below

@@ -77,3 +77,30 @@ returns-in-Busy-clause-answer g c =
     let r = refused g.N.Naming.frame g.N.Naming.tokens c.args.hop.now.number c.args.hop.now.own c.args.leg c.args.cargo c.args.at c.args.note.knows c.requires.may w pull s.before s.after (unwrap_or s.position 0) c.in-Busy.holder c.in-Busy.leg c.in-Busy.item s.applied in
     subst (λ (d : Cargo). HasAnswered g.N.Naming.frame g.N.Naming.tokens c.args.hop.now.number c.args.hop.now.own c.args.note.knows c.step_hop-reply.result.1.knows (BeginResp c.args.leg c.args.at d) (Responded (Busy c.in-Busy.holder c.in-Busy.leg d))) (ap (with_wallet c.args.cargo) (c.pull-ticket.ensures.wallet ∙ ap (λ (t : TableId). pulled t c.args.cargo.baton.wallet c.number-number.result 0) c.requires.tickets ∙ ap (λ (n : ℕ). pulled g.N.Naming.tokens c.args.cargo.baton.wallet n 0) c.number-number.ensures))
     (subst (λ (i : Cargo). HasAnswered g.N.Naming.frame g.N.Naming.tokens c.args.hop.now.number c.args.hop.now.own c.args.note.knows c.step_hop-reply.result.1.knows (BeginResp c.args.leg c.args.at (with_wallet c.args.cargo c.pull-ticket.new.self)) (Responded (Busy c.in-Busy.holder c.in-Busy.leg i))) r.2 s)
+
+pub step_hop-reply-requires-clause-history : goal.step_hop-reply-requires-clause-history
+step_hop-reply-requires-clause-history g c = c.requires.history
+
+pub step_hop-reply-requires-clause-tickets : goal.step_hop-reply-requires-clause-tickets
+step_hop-reply-requires-clause-tickets g c = c.requires.tickets
+
+pub step_hop-reply-requires-clause-note : goal.step_hop-reply-requires-clause-note
+step_hop-reply-requires-clause-note g c = c.requires.note
+
+pub returns-in-Sent-clause-note : goal.returns-in-Sent-clause-note
+returns-in-Sent-clause-note g c = c.step_hop-reply.ensures.note
+
+pub returns-in-Sent-clause-knew : goal.returns-in-Sent-clause-knew
+returns-in-Sent-clause-knew g c = c.step_hop-reply.ensures.stepped.answered.enters.knew
+
+pub returns-in-Sent-clause-below : goal.returns-in-Sent-clause-below
+returns-in-Sent-clause-below g c = c.step_hop-reply.ensures.stepped.answered.enters.below
+
+pub returns-in-Busy-clause-note : goal.returns-in-Busy-clause-note
+returns-in-Busy-clause-note g c = c.step_hop-reply.ensures.note
+
+pub returns-in-Busy-clause-knew : goal.returns-in-Busy-clause-knew
+returns-in-Busy-clause-knew g c = c.step_hop-reply.ensures.stepped.answered.enters.knew
+
+pub returns-in-Busy-clause-below : goal.returns-in-Busy-clause-below
+returns-in-Busy-clause-below g c = c.step_hop-reply.ensures.stepped.answered.enters.below

@@ -37,3 +37,21 @@ returns-clause-served g c = λ may. (
     })
     (from_pull_for g.N.Naming.tokens c.args.tickets.now c.args.memory.now.number c.number.result _ c.payload_cost-bytes.result c.args.cargo.baton.wallet c.pull-ticket.new.self c.number.ensures c.payload_cost-bytes.ensures c.requires.tickets c.pull-ticket.ensures.wallet c.pull-ticket.ensures.of c.pull-ticket.ensures.left c.pull-ticket.ensures.bytes)
     )
+
+pub step-stepped-requires-clause-history : goal.step-stepped-requires-clause-history
+step-stepped-requires-clause-history g c = c.requires.history
+
+pub step-stepped-requires-clause-tickets : goal.step-stepped-requires-clause-tickets
+step-stepped-requires-clause-tickets g c = c.requires.tickets
+
+pub step-stepped-requires-clause-note : goal.step-stepped-requires-clause-note
+step-stepped-requires-clause-note g c = c.requires.note
+
+pub returns-clause-note : goal.returns-clause-note
+returns-clause-note g c = c.step-stepped.ensures.note
+
+pub returns-clause-knew : goal.returns-clause-knew
+returns-clause-knew g c = let s = c.step-stepped.ensures.answer in s.3.knew
+
+pub returns-clause-below : goal.returns-clause-below
+returns-clause-below g c = let s = c.step-stepped.ensures.answer in s.3.below

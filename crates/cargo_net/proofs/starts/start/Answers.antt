@@ -13,3 +13,12 @@ returns-clause-started g c = λ may. (
 pub returns-clause-acquired : goal.returns-clause-acquired
 returns-clause-acquired g c =
     (c.acquire.ensures.acquired (may_acquire g.N.Naming.frame g.N.Naming.tokens c.args.pool.now.number c.args.baton c.args.at c.args.note.knows.known c.requires.may)).made
+
+pub acquire-requires-clause-history : goal.acquire-requires-clause-history
+acquire-requires-clause-history g c = c.requires.history
+
+pub acquire-requires-clause-tickets : goal.acquire-requires-clause-tickets
+acquire-requires-clause-tickets g c = c.requires.tickets
+
+pub acquire-requires-clause-note : goal.acquire-requires-clause-note
+acquire-requires-clause-note g c = c.requires.note
