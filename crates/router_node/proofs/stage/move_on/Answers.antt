@@ -1,10 +1,45 @@
-use Rattle.std.proofs.Common.{Some, sym, subst}
-use Rattle.router_node.specs.Stages.{HasStepped, IsStage}
+use Rattle.std.proofs.Common.{Some, sym, subst, ◌≡◌, ap, ◌++◌, [], List, ℕ, false, refl, ◌∙◌, Option}
+use Rattle.router_node.specs.Stages.{HasStepped, IsStage, standing, vain}
 use Rattle.router_node.specs.declared.stage.Stage.{Stage}
-use Rattle.router_node.specs.declared.stage.Stage.TheVariants.{Down, Up, Sent}
+use Rattle.router_node.specs.declared.stage.Stage.TheVariants.{Down, Up, Sent, Below}
 use Rattle.router_node.specs.declared.stage.Step.{Step}
 use Rattle.router_node.specs.declared.stage.Step.TheVariants.{End, Send, Pass}
+use Rattle.std.proofs.lemmas.List.{append-nil}
+use Rattle.one_history.specs.declared.view.Frame.{Frame}
+use Rattle.one_history.specs.declared.view.View.{View}
+use Rattle.tlm_types.specs.declared.entry.Content.{Content}
+use Rattle.tlm_model.specs.Plan.{Plan}
+use Rattle.router_node.specs.declared.items.Down.{Down as ToPass}
+use Rattle.router_node.specs.declared.items.Held.{Held}
+use Rattle.router_node.specs.declared.items.Response.{Response}
+use Rattle.router_node.specs.declared.items.Rest.{Rest}
+use Rattle.router_node.specs.declared.stage.Away.{Away}
 use Rattle.router_node.proofs.stage.move_on.Goals as goal
+
+-- a step looks at none that it isn't one for
+vain_sent : (p : Plan) (w : Step) (a : Away) → (w ≡ End → ⊥) → vain p w (standing (Sent a)) ≡ []
+vain_sent p End a other = absurd (other refl)
+vain_sent p Send a other = refl
+vain_sent p Pass a other = refl
+
+vain_up : (p : Plan) (w : Step) (r : Response) (rest : Option Rest) → (w ≡ Send → ⊥) → vain p w (standing (Up r rest)) ≡ []
+vain_up p End r rest other = refl
+vain_up p Send r rest other = absurd (other refl)
+vain_up p Pass r rest other = refl
+
+vain_down : (p : Plan) (w : Step) (d : ToPass) → (w ≡ Pass → ⊥) → vain p w (standing (Down d)) ≡ []
+vain_down p End d other = refl
+vain_down p Send d other = refl
+vain_down p Pass d other = absurd (other refl)
+
+vain_below : (p : Plan) (w : Step) (h : Held) → vain p w (standing (Below h)) ≡ []
+vain_below p End h = refl
+vain_below p Send h = refl
+vain_below p Pass h = refl
+
+-- it stands where it stood, and nothing has happened
+quiet : (frame : Frame Plan) (w : Step) (s t : Stage) (v : View Content Plan) → s ≡ t → vain frame.world w (standing t) ≡ [] → HasStepped frame w s v v false (Some t)
+quiet frame w s t v is none = (ap standing (sym is), sym (ap (λ (l : List (ℕ × ℕ)). v.looks ++ l) (ap (λ (u : Stage). vain frame.world w (standing u)) is ∙ none) ∙ append-nil v.looks))
 
 pub end_away-requires-clause-away : goal.end_away-requires-clause-away
 end_away-requires-clause-away g c =
@@ -106,3 +141,39 @@ returns-in-Below-clause-below g c = c.requires.below
 
 pub returns-in-Below-clause-stage : goal.returns-in-Below-clause-stage
 returns-in-Below-clause-stage g c = subst (IsStage g.N.Naming.frame g.N.Naming.tokens c.args.note.knows.known) c.in-Below.is c.requires.stage
+
+pub returns-in_default : goal.returns-in_default
+returns-in_default g c =
+    let frame = g.N.Naming.frame in
+    record {
+      note = c.requires.note;
+      knew = λ x has. has;
+      below = c.requires.below;
+      stage = subst (IsStage frame g.N.Naming.tokens c.args.note.knows.known) c.in-Sent.is c.requires.stage;
+      stepped = quiet frame c.args.what c.args.stage (Sent c.in-Sent.away) c.args.note.knows c.in-Sent.is (vain_sent frame.world c.args.what c.in-Sent.away c.in_default.not-End);
+    }
+
+pub returns-in_default-what : goal.returns-in_default-what
+returns-in_default-what g c =
+    let frame = g.N.Naming.frame in
+    record {
+      note = c.requires.note;
+      knew = λ x has. has;
+      below = c.requires.below;
+      stage = subst (IsStage frame g.N.Naming.tokens c.args.note.knows.known) c.in-Up.is c.requires.stage;
+      stepped = quiet frame c.args.what c.args.stage (Up c.in-Up.response c.in-Up.rest) c.args.note.knows c.in-Up.is (vain_up frame.world c.args.what c.in-Up.response c.in-Up.rest c.in_default-what.not-Send);
+    }
+
+pub returns-in_default-what-2 : goal.returns-in_default-what-2
+returns-in_default-what-2 g c =
+    let frame = g.N.Naming.frame in
+    record {
+      note = c.requires.note;
+      knew = λ x has. has;
+      below = c.requires.below;
+      stage = subst (IsStage frame g.N.Naming.tokens c.args.note.knows.known) c.in-Down.is c.requires.stage;
+      stepped = quiet frame c.args.what c.args.stage (Down c.in-Down.down) c.args.note.knows c.in-Down.is (vain_down frame.world c.args.what c.in-Down.down c.in_default-what-2.not-Pass);
+    }
+
+pub returns-in-Below-clause-stepped : goal.returns-in-Below-clause-stepped
+returns-in-Below-clause-stepped g c = quiet g.N.Naming.frame c.args.what c.args.stage (Below c.in-Below.held) c.args.note.knows c.in-Below.is (vain_below g.N.Naming.frame.world c.args.what c.in-Below.held)
