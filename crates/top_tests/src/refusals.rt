@@ -262,178 +262,139 @@ size = 16777216
 gates = 256
 ";
 
-// What is put in the place of what in the base, at most three times, and what is told behind `platform refused: `.
-// Each code stands alone, in their order, and then with the next one.
-static PLATFORMS: [(&[(&str, &str)], &str); 37] = [
-    (&[("#top", "= 1")], "syntax platform -"),
+// Texts that stand by name in the rows.
+static TEXTS: [(&str, &str); 8] = [
+    ("@chain", CHAIN),
+    ("@chain_before", CHAIN_BEFORE),
+    ("@circle", CIRCLE),
+    ("@gated", GATED),
+    ("@huge", HUGE),
+    ("@huge_and_gated", HUGE_AND_GATED),
+    ("@second_way", SECOND_WAY),
+    ("@ten", TEN),
+];
+
+// What is put in the place of what in the base (parted by `>`, and changes by `|`), and what is told behind
+// `platform refused: `. Each code stands alone, in their order, and then with the next one.
+static PLATFORMS: [(&str, &str); 37] = [
+    ("#top>= 1", "syntax platform -"),
+    ("#top>= 1|#memory>b = 1", "syntax platform -"),
+    ("#top>b = 1", "unknown_key platform b"),
+    ("version = 1>b = 1", "unknown_key platform b"),
+    ("version = 1>", "missing_key platform version"),
+    ("version = 1>quantum = ''", "missing_key platform version"),
+    ("#top>quantum = ''", "wrong_type platform quantum"),
     (
-        &[("#top", "= 1"), ("#memory", "b = 1")],
-        "syntax platform -",
-    ),
-    (&[("#top", "b = 1")], "unknown_key platform b"),
-    (&[("version = 1", "b = 1")], "unknown_key platform b"),
-    (&[("version = 1", "")], "missing_key platform version"),
-    (
-        &[("version = 1", "quantum = ''")],
-        "missing_key platform version",
-    ),
-    (&[("#top", "quantum = ''")], "wrong_type platform quantum"),
-    (
-        &[("#top", "quantum = ''"), ("'cpu'", "'Cpu'")],
+        "#top>quantum = ''|'cpu'>'Cpu'",
         "wrong_type platform quantum",
     ),
-    (&[("'cpu'", "'Cpu'")], "bad_name initiator[0] name"),
+    ("'cpu'>'Cpu'", "bad_name initiator[0] name"),
     (
-        &[("'cpu'", "'Cpu'"), ("'blocking'", "'block'")],
+        "'cpu'>'Cpu'|'blocking'>'block'",
         "bad_name initiator[0] name",
     ),
+    ("'blocking'>'block'", "unknown_word initiator[0] style"),
     (
-        &[("'blocking'", "'block'")],
+        "'blocking'>'block'|'a.txt'>''",
         "unknown_word initiator[0] style",
     ),
+    ("size = 256>size = 0", "out_of_range memory[0] size"),
     (
-        &[("'blocking'", "'block'"), ("'a.txt'", "''")],
-        "unknown_word initiator[0] style",
-    ),
-    (&[("size = 256", "size = 0")], "out_of_range memory[0] size"),
-    (
-        &[
-            ("size = 256", "size = 0"),
-            ("#memory", "read = false\nwrite = false"),
-        ],
+        "size = 256>size = 0|#memory>read = false\nwrite = false",
         "out_of_range memory[0] size",
     ),
     (
-        &[("#memory", "read = false\nwrite = false")],
+        "#memory>read = false\nwrite = false",
         "no_access memory[0] read",
     ),
     (
-        &[
-            ("#memory", "read = false\nwrite = false"),
-            ("name = 'bus'", "name = 'cpu'"),
-        ],
+        "#memory>read = false\nwrite = false|name = 'bus'>name = 'cpu'",
         "no_access memory[0] read",
     ),
     (
-        &[
-            ("name = 'bus'", "name = 'cpu'"),
-            ("bind = 'bus'", "bind = 'ram'"),
-        ],
+        "name = 'bus'>name = 'cpu'|bind = 'bus'>bind = 'ram'",
         "name_twice router[0] name",
     ),
     (
-        &[
-            ("name = 'bus'", "name = 'cpu'"),
-            ("bind = 'bus'", "bind = 'x'"),
-        ],
+        "name = 'bus'>name = 'cpu'|bind = 'bus'>bind = 'x'",
         "name_twice router[0] name",
     ),
     (
-        &[("bind = 'bus'", "bind = 'x'")],
+        "bind = 'bus'>bind = 'x'",
         "unknown_target initiator[0] bind",
     ),
     (
-        &[
-            ("bind = 'bus'", "bind = 'x'"),
-            ("first = 0\n", "first = 0x100\n"),
-        ],
+        "bind = 'bus'>bind = 'x'|first = 0\n>first = 0x100\n",
         "unknown_target initiator[0] bind",
     ),
     (
-        &[("first = 0\n", "first = 0x100\n")],
+        "first = 0\n>first = 0x100\n",
         "empty_window router[0].window[0] first",
     ),
     (
-        &[
-            ("first = 0\n", "first = 0x100\n"),
-            (
-                "#routers",
-                "[[router.window]]\nfirst = 0\nlast = 1\nto = 'ram'\nbase = 0x7fffffffffffffff",
-            ),
-        ],
+        "first = 0\n>first = 0x100\n|#routers>[[router.window]]\nfirst = 0\nlast = 1\nto = 'ram'\nbase = 0x7fffffffffffffff",
         "empty_window router[0].window[0] first",
     ),
     (
-        &[("#window", "base = 0x7fffffffffffffff")],
+        "#window>base = 0x7fffffffffffffff",
         "past_end router[0].window[0] base",
     ),
     (
-        &[
-            ("#window", "base = 0x7fffffffffffffff"),
-            (
-                "#routers",
-                "[[router.window]]\nfirst = 0xff\nlast = 0xff\nto = 'ram'",
-            ),
-        ],
+        "#window>base = 0x7fffffffffffffff|#routers>[[router.window]]\nfirst = 0xff\nlast = 0xff\nto = 'ram'",
         "past_end router[0].window[0] base",
     ),
     (
-        &[(
-            "#routers",
-            "[[router.window]]\nfirst = 0xff\nlast = 0xff\nto = 'ram'",
-        )],
+        "#routers>[[router.window]]\nfirst = 0xff\nlast = 0xff\nto = 'ram'",
         "overlap router[0].window[1] window[0]",
     ),
     (
-        &[
-            (
-                "#routers",
-                "[[router.window]]\nfirst = 0xff\nlast = 0xff\nto = 'ram'",
-            ),
-            ("#memory", HUGE),
-        ],
+        "#routers>[[router.window]]\nfirst = 0xff\nlast = 0xff\nto = 'ram'|#memory>@huge",
         "overlap router[0].window[1] window[0]",
     ),
-    (&[("#memory", HUGE)], "too_much_memory platform memory"),
+    ("#memory>@huge", "too_much_memory platform memory"),
+    ("#memory>@huge_and_gated", "too_much_memory platform memory"),
+    ("#memory>@gated", "too_many_gates platform memory"),
+    ("to = 'ram'\n#window>to = 'bus'", "unbound memory[0] name"),
     (
-        &[("#memory", HUGE_AND_GATED)],
-        "too_much_memory platform memory",
-    ),
-    (&[("#memory", GATED)], "too_many_gates platform memory"),
-    (
-        &[("to = 'ram'\n#window", "to = 'bus'")],
-        "unbound memory[0] name",
-    ),
-    (
-        &[
-            ("#memory", "[[memory]]\nname = 'rom'\nsize = 1"),
-            ("#routers", CIRCLE),
-        ],
+        "#memory>[[memory]]\nname = 'rom'\nsize = 1|#routers>@circle",
         "unbound memory[1] name",
     ),
-    (&[("#routers", CIRCLE)], "cycle router[1] window"),
+    ("#routers>@circle", "cycle router[1] window"),
     (
-        &[
-            ("to = 'ram'\n#window", "to = 'r1'"),
-            ("#routers", CIRCLE),
-            ("[[memory]]", CHAIN_BEFORE),
-        ],
+        "to = 'ram'\n#window>to = 'r1'|#routers>@circle|[[memory]]>@chain_before",
         "cycle router[1] window",
     ),
     (
-        &[("to = 'ram'\n#window", "to = 'r1'"), ("#routers", CHAIN)],
+        "to = 'ram'\n#window>to = 'r1'|#routers>@chain",
         "too_deep initiator[0] bind",
     ),
     (
-        &[
-            ("to = 'ram'\n#window", "to = 'r1'\n#window"),
-            ("#window", SECOND_WAY),
-            ("#routers", CHAIN),
-        ],
+        "to = 'ram'\n#window>to = 'r1'\n#window|#window>@second_way|#routers>@chain",
         "too_deep initiator[0] bind",
     ),
-    (&[("#window", SECOND_WAY)], "two_paths initiator[0] bind"),
+    ("#window>@second_way", "two_paths initiator[0] bind"),
     (
-        &[("#window", SECOND_WAY), ("#initiators", TEN)],
+        "#window>@second_way|#initiators>@ten",
         "two_paths initiator[0] bind",
     ),
 ];
 
+// The text itself, or the one of this name.
+fn meant<'a>(text: &'a str) -> &'a str {
+    for &(name, long) in &TEXTS {
+        if name == text {
+            return long;
+        }
+    }
+    text
+}
+
 // The base with these changes.
-fn changed(rt: &impl Abort, alloc: Global, changes: &[(&str, &str)]) -> String {
+fn changed(rt: &impl Abort, alloc: Global, changes: &str) -> String {
     let mut text = String::from_str(alloc, BASE).expect(rt, "room");
-    for (old, new) in changes {
-        text = text.replacen(alloc, old, new, 1).expect(rt, "room");
+    for change in changes.split('|') {
+        let (old, new) = change.split_once('>').expect(rt, "a change");
+        text = text.replacen(alloc, old, meant(new), 1).expect(rt, "room");
     }
     text
 }
@@ -456,7 +417,7 @@ fn expect_platform<R: AllocGlobal + Threads + Wait + Abort + Sync>(
 
 #[test]
 fn each_code_of_a_platform_is_told_in_its_order(rt: HostRuntime) {
-    for (changes, wanted) in &PLATFORMS {
+    for &(changes, wanted) in &PLATFORMS {
         let text = changed(&rt, rt.alloc(), changes);
         expect_platform(&rt, text.as_str(), ["", ""], wanted);
     }
@@ -471,7 +432,7 @@ const LARGE_READS: &str = "repeat 100000\nread 0x0 4096\nend\n";
 // A million reads, and one more: too many entries, and where they are large too much data as well.
 #[test]
 fn what_scripts_add_up_to_is_limited(rt: HostRuntime) {
-    let crowd = changed(&rt, rt.alloc(), &[("#initiators", TEN)]);
+    let crowd = changed(&rt, rt.alloc(), "#initiators>@ten");
     let many = "too_many_entries platform -";
     expect_platform(&rt, crowd.as_str(), [READ, READS], many);
     expect_platform(&rt, crowd.as_str(), [READ, LARGE_READS], many);
