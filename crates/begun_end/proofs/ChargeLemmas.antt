@@ -18,7 +18,7 @@ use Rattle.tlm_model.specs.Route.{hops_of, route_of}
 use Rattle.flow_model.specs.Calls.{is_of}
 use Rattle.flow_model.specs.World.{IsWorld, Passage, hop_at, hop_count}
 use Rattle.flow_model.specs.Platform.{accessed, addresses_of, passage_by, passage_of, passage_to, world_of}
-use Rattle.flow_law.specs.Counting.{own_count}
+use Rattle.flow_model.specs.Counting.{own_count}
 use Rattle.route_plan.specs.Planned.{asks_in, by_fourphase}
 use Rattle.joined_traffic.specs.Accesses.{pool_entries, sum_below, txn_of, visits}
 use Rattle.begun_traffic.specs.Parts.{known_of, where_it_visits}

@@ -30,9 +30,9 @@ use Rattle.flow_model.specs.Events.{Among, Event, at, entries, hop_log}
 use Rattle.flow_model.specs.Platform.{world_of}
 use Rattle.flow_model.specs.Pools.{IsPoolLog}
 use Rattle.flow_model.specs.Traffic.{slots_of}
-use Rattle.flow_law.specs.Law.{HasSteps}
-use Rattle.flow_law.proofs.More.{is_backed_more}
-use Rattle.joined_runs.specs.Joined.{IsLogOf}
+use Rattle.flow_model.specs.Law.{HasSteps}
+use Rattle.flow_model.proofs.More.{is_backed_more}
+use Rattle.good_history.specs.Joined.{IsLogOf}
 use Rattle.joined_traffic.specs.Accesses.{sum_below}
 use Rattle.joined_traffic.specs.Ended.{MarksTell}
 use Rattle.begun_traffic.specs.Begun.{HasMade, HaveMade}

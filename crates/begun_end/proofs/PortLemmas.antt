@@ -22,10 +22,10 @@ use Rattle.tlm_model.specs.Scripts.{HasWay, IsEntryOf, IsPlaced, is_answer}
 use Rattle.flow_model.specs.World.{Passage, hop_at}
 use Rattle.flow_model.specs.Events.{Among, Event, entries}
 use Rattle.flow_model.specs.Platform.{passage_of, world_of}
-use Rattle.flow_law.specs.Counting.{own_count}
-use Rattle.flow_law.proofs.More.{end_more}
-use Rattle.flow_law.specs.Valid.{HasNoCycle}
-use Rattle.flow_law.proofs.Ways.{world_law}
+use Rattle.flow_model.specs.Counting.{own_count}
+use Rattle.flow_model.proofs.More.{end_more}
+use Rattle.flow_model.specs.Valid.{HasNoCycle}
+use Rattle.flow_model.proofs.Ways.{world_law}
 use Rattle.route_plan.specs.Counted.{share_at}
 use Rattle.joined_traffic.specs.Accesses.{numbers_by, sum_below, txn_of}
 use Rattle.joined_traffic.specs.Issued.{Before, EndsBefore, HasWaited, IsIssued, IsMadeFor, issued_at}

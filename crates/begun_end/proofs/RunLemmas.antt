@@ -15,7 +15,7 @@ use Rattle.tlm_model.specs.declared.platform.MemoryRow.{MemoryRow}
 use Rattle.tlm_model.specs.Plan.{Plan, Initiator, initiators_of}
 use Rattle.tlm_model.specs.Route.{Route, route_of}
 use Rattle.flow_model.specs.Events.{Event}
-use Rattle.joined_runs.specs.Counting.{IsRising}
+use Rattle.good_history.specs.Counting.{IsRising}
 use Rattle.route_plan.specs.Counted.{share_at, share_by}
 use Rattle.route_plan.specs.Paths.{once}
 use Rattle.route_plan.specs.Planned.{asks_in, at_gates, at_hop, at_memory, at_pool, by_fourphase, gates_by, is_routed_to, leads_to, share_of}

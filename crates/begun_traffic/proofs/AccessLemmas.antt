@@ -13,9 +13,9 @@ use Rattle.tlm_model.proofs.InitiatorLemmas.{initiator_from}
 use Rattle.flow_model.specs.World.{Passage}
 use Rattle.flow_model.specs.Events.{Among, Event, Finds, IsAccess, entries}
 use Rattle.flow_model.specs.Platform.{passage_of}
-use Rattle.flow_law.proofs.Each.{each_from}
-use Rattle.flow_law.proofs.Splits.{among_self, among_whole}
-use Rattle.joined_runs.specs.Counting.{IsRising}
+use Rattle.flow_model.proofs.Each.{each_from}
+use Rattle.flow_model.proofs.Splits.{among_self, among_whole}
+use Rattle.good_history.specs.Counting.{IsRising}
 use Rattle.joined_traffic.proofs.AccessLemmas.{entry_among, has_answer_of, split_later}
 use Rattle.joined_traffic.proofs.MemoryLemmas.{among_has, has_among}
 use Rattle.joined_traffic.proofs.OnceLemmas.{owner}

@@ -25,9 +25,9 @@ use Rattle.flow_model.specs.Table.{sequences_of}
 use Rattle.flow_model.specs.Events.{Among, Event, hop_log}
 use Rattle.flow_model.specs.World.{Passage, World, hop_at, row_of}
 use Rattle.flow_model.specs.Called.{HasCalled}
-use Rattle.flow_law.specs.Counting.{AllKnown, HasSequence, own_count}
-use Rattle.flow_law.proofs.Forms.{AllDiffer}
-use Rattle.flow_law.proofs.OtherLaws.{counting_law}
+use Rattle.flow_model.specs.Counting.{AllKnown, HasSequence, own_count}
+use Rattle.flow_model.proofs.Forms.{AllDiffer}
+use Rattle.flow_model.proofs.OtherLaws.{counting_law}
 use Rattle.joined_traffic.proofs.HopEnds.{call_in}
 use Rattle.begun_traffic.specs.Known.{HasFirstCalls}
 use Rattle.begun_traffic.proofs.Totals.{dec_among}

@@ -13,11 +13,11 @@ use Rattle.flow_model.specs.World.{Passage, hop_at, hop_count}
 use Rattle.flow_model.specs.Events.{Among, Event, Finds, IsAcquire, IsReleased, IsTake, at}
 use Rattle.flow_model.specs.Platform.{passage_of, world_of}
 use Rattle.flow_model.specs.Traffic.{slots_of}
-use Rattle.flow_law.proofs.Lives.{AcquireOf, ReleaseOf}
-use Rattle.flow_law.proofs.Splits.{from_at}
-use Rattle.flow_law.specs.Valid.{HasNoCycle}
-use Rattle.flow_law.proofs.Ways.{world_law}
-use Rattle.joined_runs.specs.Joined.{IsLogOf}
+use Rattle.flow_model.proofs.Lives.{AcquireOf, ReleaseOf}
+use Rattle.flow_model.proofs.Splits.{from_at}
+use Rattle.flow_model.specs.Valid.{HasNoCycle}
+use Rattle.flow_model.proofs.Ways.{world_law}
+use Rattle.good_history.specs.Joined.{IsLogOf}
 use Rattle.route_plan.specs.Counted.{share_at}
 use Rattle.joined_traffic.specs.Accesses.{numbers_by, pool_entries, sum_below, txn_of}
 use Rattle.joined_traffic.specs.Driven.{IsDriven, spent_at}

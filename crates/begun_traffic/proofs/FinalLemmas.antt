@@ -5,10 +5,10 @@ use Rattle.std.proofs.lemmas.Option.{slice_get_within}
 use Rattle.tlm_model.specs.declared.platform.Style.TheVariants.{FourPhase}
 use Rattle.tlm_model.specs.Plan.{Initiator, initiators_of}
 use Rattle.flow_model.specs.Events.{entries}
-use Rattle.flow_law.proofs.Backed.{issue_law, traffic_law}
-use Rattle.grant_model.proofs.Ungranted.{nothing_is_closed, ungranted_keeps_grants}
-use Rattle.joined_runs.specs.Counting.{IsRising}
-use Rattle.joined_grants.proofs.Wholes.{parts_keep_grants}
+use Rattle.flow_model.proofs.Backed.{issue_law, traffic_law}
+use Rattle.good_history.proofs.GrantsNone.{nothing_is_closed, ungranted_keeps_grants}
+use Rattle.good_history.specs.Counting.{IsRising}
+use Rattle.joined_traffic.proofs.Wholes.{parts_keep_grants}
 use Rattle.begun_traffic.specs.Laws.{BegunHasGrants, BegunHasRequests, BegunHasTraffic, BegunIsKnown, BegunIsSound, UngrantedHasGrants}
 use Rattle.begun_traffic.proofs.GoodLemmas.{issues_in_time, waits_for_ends}
 use Rattle.begun_traffic.proofs.JoinLemmas.{joined, keeps_requests, own_mine}

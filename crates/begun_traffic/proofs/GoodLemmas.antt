@@ -25,8 +25,8 @@ use Rattle.flow_model.specs.Events.{Among, Event, entries, hop_log}
 use Rattle.flow_model.specs.Issue.{issue_by, issue_time}
 use Rattle.flow_model.specs.Platform.{passage_by, passage_of, passage_to, world_of}
 use Rattle.flow_model.specs.Traffic.{HasEnded, IsIssuedBy, IsWaitedFor, IssuesInTime, WaitsForEnds, slots_of}
-use Rattle.flow_law.specs.Law.{Premises}
-use Rattle.flow_law.proofs.Splits.{among_self}
+use Rattle.flow_model.specs.Law.{Premises}
+use Rattle.flow_model.proofs.Splits.{among_self}
 use Rattle.joined_traffic.specs.Accesses.{txn_of}
 use Rattle.joined_traffic.proofs.AskedLemmas.{IsPast, kept_past}
 use Rattle.joined_traffic.proofs.BeginningLemmas.{whole_there}

@@ -19,14 +19,14 @@ use Rattle.flow_model.specs.Platform.{passage_of, world_of}
 use Rattle.flow_model.specs.Pools.{PoolStepBy, slots_after}
 use Rattle.flow_model.specs.Slots.{no_slots}
 use Rattle.flow_model.specs.Traffic.{slots_of}
-use Rattle.flow_law.specs.Law.{Premises}
-use Rattle.flow_law.proofs.Each.{at_each}
-use Rattle.flow_law.proofs.Splits.{among_at, among_split}
-use Rattle.joined_runs.specs.Counting.{IsRising}
-use Rattle.joined_runs.specs.Joined.{HasOwners, IsJoined, KeepsOwn}
-use Rattle.joined_runs.specs.Own.{own}
-use Rattle.joined_runs.proofs.CountLemmas.{IsRising-filter, has_kept, kept_has, rising_same}
-use Rattle.joined_runs.proofs.WholeLemmas.{joined_keeps_requests}
+use Rattle.flow_model.specs.Law.{Premises}
+use Rattle.flow_model.proofs.Each.{at_each}
+use Rattle.flow_model.proofs.Splits.{among_at, among_split}
+use Rattle.good_history.specs.Counting.{IsRising}
+use Rattle.good_history.specs.Joined.{HasOwners, IsJoined, KeepsOwn}
+use Rattle.good_history.specs.Own.{own}
+use Rattle.good_history.proofs.CountLemmas.{IsRising-filter, has_kept, kept_has, rising_same}
+use Rattle.good_history.proofs.WholeLemmas.{joined_keeps_requests}
 use Rattle.joined_traffic.proofs.AccessLemmas.{entry_among}
 use Rattle.joined_traffic.proofs.HopEnds.{InLog, entry_fits, entry_from}
 use Rattle.joined_traffic.proofs.MemoryLemmas.{among_has, has_among}

@@ -8,8 +8,8 @@ use Rattle.tlm_types.specs.declared.entry.Entry.{Entry}
 use Rattle.tlm_model.specs.History.{entries_at, is_object}
 use Rattle.tlm_model.specs.Plan.{Plan, initiators_of}
 use Rattle.flow_model.specs.Events.{Event, entries}
-use Rattle.flow_law.proofs.Splits.{is_object_same}
-use Rattle.joined_runs.proofs.CountLemmas.{has_kept, kept_has}
+use Rattle.flow_model.proofs.Splits.{is_object_same}
+use Rattle.good_history.proofs.CountLemmas.{has_kept, kept_has}
 use Rattle.joined_traffic.specs.Accesses.{sum_below}
 use Rattle.joined_traffic.proofs.MemoryLemmas.{distinct_filter}
 use Rattle.begun_traffic.specs.Begun.{HaveBegun}

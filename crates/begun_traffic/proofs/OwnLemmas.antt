@@ -23,12 +23,12 @@ use Rattle.flow_model.specs.Backed.{BackedBy, IsBacked}
 use Rattle.flow_model.specs.Events.{Among, Event, entries}
 use Rattle.flow_model.specs.Platform.{world_of}
 use Rattle.flow_model.specs.Traffic.{slots_of}
-use Rattle.flow_law.specs.Law.{Premises}
-use Rattle.flow_law.proofs.Each.{at_each}
-use Rattle.flow_law.proofs.Sayings.{same_txn}
-use Rattle.flow_law.proofs.Splits.{among_self, among_split}
-use Rattle.joined_runs.specs.Own.{own}
-use Rattle.joined_runs.proofs.CountLemmas.{IsRising-filter, has_kept, kept_has}
+use Rattle.flow_model.specs.Law.{Premises}
+use Rattle.flow_model.proofs.Each.{at_each}
+use Rattle.flow_model.proofs.Sayings.{same_txn}
+use Rattle.flow_model.proofs.Splits.{among_self, among_split}
+use Rattle.good_history.specs.Own.{own}
+use Rattle.good_history.proofs.CountLemmas.{IsRising-filter, has_kept, kept_has}
 use Rattle.joined_traffic.specs.Accesses.{txn_of}
 use Rattle.joined_traffic.proofs.AskedLemmas.{IsPast, all_pass, among_slice, asked_past, kept_past, reply_past, slice_among}
 use Rattle.joined_traffic.proofs.HopEnds.{entry_from}

@@ -11,10 +11,10 @@ use Rattle.flow_model.specs.Backed.{IsBacked}
 use Rattle.flow_model.specs.Events.{Among, Finds}
 use Rattle.flow_model.specs.Numbers.{IsEnder, released_hop}
 use Rattle.flow_model.specs.Platform.{passage_of}
-use Rattle.flow_law.proofs.Each.{at_each}
-use Rattle.flow_law.proofs.More.{is_backed_more}
-use Rattle.flow_law.proofs.Reading.{backed_release}
-use Rattle.flow_law.proofs.Splits.{among_split, among_whole}
+use Rattle.flow_model.proofs.Each.{at_each}
+use Rattle.flow_model.proofs.More.{is_backed_more}
+use Rattle.flow_model.proofs.Reading.{backed_release}
+use Rattle.flow_model.proofs.Splits.{among_split, among_whole}
 use Rattle.joined_traffic.specs.Accesses.{accesses_below, chosen, numbers_by, sum_below, txn_of, visits}
 use Rattle.begun_traffic.specs.Parts.{OwedCallsAreFirst, ChargedIsSpent, ReleasedCallsAreWhole, known_of, where_it_visits}
 use Rattle.begun_traffic.specs.Told.{Told, entries_of, known_at}

@@ -17,14 +17,14 @@ use Rattle.flow_model.specs.Backed.{IsBacked}
 use Rattle.flow_model.specs.Events.{Among, Event, Finds, IsTake, IsTakeOf, at, entries}
 use Rattle.flow_model.specs.Platform.{passage_of, world_of}
 use Rattle.flow_model.specs.Pools.{TakesOnce}
-use Rattle.flow_law.proofs.CallLists.{entries-at}
-use Rattle.flow_law.proofs.Counting.{counting}
-use Rattle.flow_law.proofs.Each.{at_each, each_from}
-use Rattle.flow_law.proofs.Forms.{AllDiffer, AllKnown, own_count, sum_over}
-use Rattle.flow_law.proofs.Lives.{AcquireOf, ReleaseOf}
-use Rattle.flow_law.proofs.More.{is_backed_more}
-use Rattle.flow_law.proofs.Once.{once_same}
-use Rattle.flow_law.proofs.Splits.{among_at, among_cases, among_self, among_split, among_whole, from_at}
+use Rattle.flow_model.proofs.CallLists.{entries-at}
+use Rattle.flow_model.proofs.Counting.{counting}
+use Rattle.flow_model.proofs.Each.{at_each, each_from}
+use Rattle.flow_model.proofs.Forms.{AllDiffer, AllKnown, own_count, sum_over}
+use Rattle.flow_model.proofs.Lives.{AcquireOf, ReleaseOf}
+use Rattle.flow_model.proofs.More.{is_backed_more}
+use Rattle.flow_model.proofs.Once.{once_same}
+use Rattle.flow_model.proofs.Splits.{among_at, among_cases, among_self, among_split, among_whole, from_at}
 use Rattle.joined_traffic.specs.Accesses.{accesses_at, all_accesses, sum_below, visits}
 use Rattle.joined_traffic.proofs.Counts.{all_differ, is_in, sum_all}
 use Rattle.joined_traffic.proofs.MemoryLemmas.{among_has, has_among}

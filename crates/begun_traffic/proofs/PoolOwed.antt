@@ -9,11 +9,11 @@ use Rattle.tlm_types.specs.declared.entry.What.TheVariants.{Take, Acquire, Relea
 use Rattle.flow_model.specs.Events.{Event, Among, Finds, IsAcquire, IsTake, IsTakeOf, at}
 use Rattle.flow_model.specs.Pools.{Life, Slots, more, fewer, slots_by, slots_after, PoolStepBy}
 use Rattle.flow_model.specs.Slots.{put, no_slots}
-use Rattle.flow_law.proofs.Numbers.{Distinct, all_held}
-use Rattle.flow_law.proofs.Lives.{AcquireOf, ReleaseOf}
-use Rattle.flow_law.proofs.Splits.{among_at, among_cases, among_left, among_right, from_at}
-use Rattle.flow_law.proofs.Forms.{PoolSteps}
-use Rattle.flow_law.proofs.Each.{at_each}
+use Rattle.flow_model.proofs.Numbers.{Distinct, all_held}
+use Rattle.flow_model.proofs.Lives.{AcquireOf, ReleaseOf}
+use Rattle.flow_model.proofs.Splits.{among_at, among_cases, among_left, among_right, from_at}
+use Rattle.flow_model.proofs.Forms.{PoolSteps}
+use Rattle.flow_model.proofs.Each.{at_each}
 use Rattle.begun_traffic.specs.Parts.{OpenedIsOwed}
 
 -- the entry opens the reference numbered n of x: an Acquire with that number, or a Take for 15

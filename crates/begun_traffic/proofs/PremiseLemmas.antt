@@ -1,7 +1,7 @@
 -- What has begun has the premises of the law.
-use Rattle.flow_law.proofs.Each.{each_from}
-use Rattle.flow_law.proofs.Splits.{among_self}
-use Rattle.flow_law.proofs.Ways.{world_law}
+use Rattle.flow_model.proofs.Each.{each_from}
+use Rattle.flow_model.proofs.Splits.{among_self}
+use Rattle.flow_model.proofs.Ways.{world_law}
 use Rattle.begun_traffic.specs.Laws.{BegunHasPremises}
 use Rattle.begun_traffic.proofs.AccessLemmas.{one_access, unrouted}
 use Rattle.begun_traffic.proofs.OnceLemmas.{one_begin}

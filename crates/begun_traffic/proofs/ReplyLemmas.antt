@@ -18,9 +18,9 @@ use Rattle.flow_model.specs.Platform.{world_of}
 use Rattle.flow_model.specs.Pools.{PoolStepBy, slots_after}
 use Rattle.flow_model.specs.Slots.{no_slots}
 use Rattle.flow_model.specs.Traffic.{slots_of}
-use Rattle.flow_law.proofs.Each.{at_each}
-use Rattle.flow_law.proofs.Sayings.{same_txn}
-use Rattle.flow_law.proofs.Splits.{among_at, among_split}
+use Rattle.flow_model.proofs.Each.{at_each}
+use Rattle.flow_model.proofs.Sayings.{same_txn}
+use Rattle.flow_model.proofs.Splits.{among_at, among_split}
 use Rattle.joined_traffic.specs.Accesses.{txn_of}
 use Rattle.joined_traffic.proofs.AskedLemmas.{got_answers}
 use Rattle.joined_traffic.proofs.HopEnds.{InLog, entry_fits, entry_from}

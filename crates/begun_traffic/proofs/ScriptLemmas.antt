@@ -22,10 +22,10 @@ use Rattle.flow_model.specs.Platform.{passage_of, world_of}
 use Rattle.flow_model.specs.Pools.{PoolStepBy, slots_after}
 use Rattle.flow_model.specs.Slots.{no_slots}
 use Rattle.flow_model.specs.Traffic.{slots_of}
-use Rattle.flow_law.specs.Law.{Premises}
-use Rattle.flow_law.proofs.Each.{at_each}
-use Rattle.flow_law.proofs.Splits.{among_at, among_self, among_split, among_whole}
-use Rattle.joined_runs.specs.Counting.{IsRising}
+use Rattle.flow_model.specs.Law.{Premises}
+use Rattle.flow_model.proofs.Each.{at_each}
+use Rattle.flow_model.proofs.Splits.{among_at, among_self, among_split, among_whole}
+use Rattle.good_history.specs.Counting.{IsRising}
 use Rattle.joined_traffic.specs.Issued.{HasWaited, IsIssued, IsMadeFor}
 use Rattle.joined_traffic.proofs.AccessLemmas.{entry_among, split_later}
 use Rattle.joined_traffic.proofs.AskedLemmas.{IsPast}

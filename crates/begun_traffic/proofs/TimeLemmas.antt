@@ -16,12 +16,12 @@ use Rattle.flow_model.specs.Numbers.{IsEnder}
 use Rattle.flow_model.specs.Platform.{passage_of, world_of}
 use Rattle.flow_model.specs.Pools.{TakesOnce}
 use Rattle.flow_model.specs.Traffic.{slots_of}
-use Rattle.flow_law.specs.Law.{Premises}
-use Rattle.flow_law.proofs.Each.{at_each, each_from}
-use Rattle.flow_law.proofs.More.{end_more}
-use Rattle.flow_law.proofs.Once.{once_same}
-use Rattle.flow_law.proofs.Reading.{backed_call}
-use Rattle.flow_law.proofs.Splits.{among_at, among_self, among_split}
+use Rattle.flow_model.specs.Law.{Premises}
+use Rattle.flow_model.proofs.Each.{at_each, each_from}
+use Rattle.flow_model.proofs.More.{end_more}
+use Rattle.flow_model.proofs.Once.{once_same}
+use Rattle.flow_model.proofs.Reading.{backed_call}
+use Rattle.flow_model.proofs.Splits.{among_at, among_self, among_split}
 use Rattle.joined_traffic.specs.Accesses.{txn_of}
 use Rattle.joined_traffic.specs.Issued.{Before, EndsBefore, HasWaited, issued_at}
 use Rattle.joined_traffic.proofs.BeginningLemmas.{end_there, front}

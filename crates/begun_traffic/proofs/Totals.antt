@@ -7,8 +7,8 @@ use Rattle.tlm_types.specs.declared.words.TxnId.{TxnId}
 use Rattle.tlm_model.specs.History.{entries_at}
 use Rattle.tlm_model.specs.Plan.{Plan, initiators_of}
 use Rattle.flow_model.specs.Events.{Among, Event, entries}
-use Rattle.flow_law.proofs.Forms.{is_txn}
-use Rattle.flow_law.proofs.Sayings.{is_txn_self, same_txn}
+use Rattle.flow_model.proofs.Forms.{is_txn}
+use Rattle.flow_model.proofs.Sayings.{is_txn_self, same_txn}
 use Rattle.route_plan.specs.Counted.{share_at, share_by}
 use Rattle.route_plan.specs.Planned.{planned_at}
 use Rattle.joined_traffic.specs.Accesses.{sum_below}

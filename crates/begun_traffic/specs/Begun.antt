@@ -17,9 +17,9 @@ use Rattle.flow_model.specs.Events.{Among, Event, at, entries}
 use Rattle.flow_model.specs.Platform.{passage_of, world_of}
 use Rattle.flow_model.specs.Pools.{IsPoolLog}
 use Rattle.flow_model.specs.Traffic.{slots_of}
-use Rattle.flow_law.specs.Law.{HasSteps}
-use Rattle.joined_runs.specs.Counting.{IsRising}
-use Rattle.joined_runs.specs.Joined.{HasLogs, KeepsOwn}
+use Rattle.flow_model.specs.Law.{HasSteps}
+use Rattle.good_history.specs.Counting.{IsRising}
+use Rattle.good_history.specs.Joined.{HasLogs, KeepsOwn}
 use Rattle.route_plan.specs.Counted.{share_at}
 use Rattle.route_plan.specs.Planned.{planned_at}
 use Rattle.joined_traffic.specs.Accesses.{sum_below}

@@ -9,14 +9,14 @@ use Rattle.tlm_model.specs.Plan.{Plan, Initiator, initiators_of}
 use Rattle.flow_model.specs.Events.{Event, entries}
 use Rattle.flow_model.specs.Platform.{world_of}
 use Rattle.flow_model.specs.Traffic.{slots_of}
-use Rattle.flow_law.specs.Law.{Premises}
-use Rattle.flow_law.specs.Plans.{KeepsTraffic}
-use Rattle.flow_law.specs.Valid.{HasNoCycle}
-use Rattle.grant_model.specs.Kept.{KeepsGrants}
-use Rattle.grant_model.specs.Laws.{HasNoDirect, HasNoInvalidation}
+use Rattle.flow_model.specs.Law.{Premises}
+use Rattle.flow_model.specs.Plans.{KeepsTraffic}
+use Rattle.flow_model.specs.Valid.{HasNoCycle}
+use Rattle.good_history.specs.Kept.{KeepsGrants}
+use Rattle.good_history.specs.GrantLaws.{HasNoDirect, HasNoInvalidation}
 use Rattle.good_history.specs.Good.{IsSound}
-use Rattle.joined_runs.specs.Own.{own}
-use Rattle.joined_grants.specs.Parts.{HasGrantParts}
+use Rattle.good_history.specs.Own.{own}
+use Rattle.joined_traffic.specs.Parts.{HasGrantParts}
 use Rattle.begun_traffic.specs.Asked.{HaveAsked}
 use Rattle.begun_traffic.specs.Begun.{HaveBegun}
 use Rattle.begun_traffic.specs.Told.{Told}

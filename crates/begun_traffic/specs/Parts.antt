@@ -15,7 +15,7 @@ use Rattle.flow_model.specs.Events.{Among, Event, Finds, IsAcquire, IsReleased, 
 use Rattle.flow_model.specs.Platform.{passage_of}
 use Rattle.flow_model.specs.Pools.{IsPoolLog, Life, Slots, slots_after}
 use Rattle.flow_model.specs.Slots.{no_slots}
-use Rattle.flow_law.specs.Valid.{HasNoCycle}
+use Rattle.flow_model.specs.Valid.{HasNoCycle}
 use Rattle.route_plan.specs.Counted.{share_at}
 use Rattle.joined_traffic.specs.Accesses.{numbers_by, pool_entries, sum_below, txn_of, visits}
 use Rattle.joined_traffic.specs.Ended.{HaveEnded}

@@ -22,7 +22,7 @@ use Rattle.token_book.specs.Purse.{Purse, left_of}
 use Rattle.flow_model.specs.World.{IsPassage, Passage, hop_at, hop_count}
 use Rattle.flow_model.specs.Events.{Finds}
 use Rattle.flow_model.specs.Platform.{passage_of, world_of}
-use Rattle.flow_law.proofs.More.{end_more, finds_more}
+use Rattle.flow_model.proofs.More.{end_more, finds_more}
 use Rattle.route_plan.specs.Paths.{once}
 use Rattle.route_plan.specs.Planned.{by_fourphase, leads_to}
 use Rattle.cargo_model.specs.Called.{IsCalled}

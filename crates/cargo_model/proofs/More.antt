@@ -14,7 +14,7 @@ use Rattle.token_book.specs.Purse.{Purse, left_of}
 use Rattle.flow_model.specs.World.{Passage, hop_at}
 use Rattle.flow_model.specs.Events.{Event, Finds}
 use Rattle.flow_model.specs.Platform.{world_of}
-use Rattle.flow_law.proofs.More.{is_backed_more, up_more}
+use Rattle.flow_model.proofs.More.{is_backed_more, up_more}
 use Rattle.cargo_model.specs.declared.cargo.Cargo.{Cargo}
 use Rattle.flow_model.specs.Called.{HasCalled}
 use Rattle.cargo_model.specs.Called.{IsCalled, IsReturned, IsSent}

@@ -30,7 +30,7 @@ use Rattle.flow_model.specs.Events.{Among, Event, FindsAt, IsCall}
 use Rattle.flow_model.specs.Backed.{EndsRequest}
 use Rattle.flow_model.specs.Numbers.{ArrIs}
 use Rattle.flow_model.specs.Platform.{world_of}
-use Rattle.flow_law.proofs.More.{finds_at_more}
+use Rattle.flow_model.proofs.More.{finds_at_more}
 use Rattle.numbered_log.specs.Logged.{written_by}
 use Rattle.hop_object.specs.View.{HopView}
 use Rattle.hop_object.specs.Lanes.{any_responding}

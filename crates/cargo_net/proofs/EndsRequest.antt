@@ -14,7 +14,7 @@ use Rattle.shared_object.specs.Standing.{IsBuiltFor, place}
 use Rattle.shared_object.specs.Written.{placed, wrote}
 use Rattle.flow_model.specs.World.{hop_at}
 use Rattle.flow_model.specs.Platform.{world_of}
-use Rattle.flow_law.proofs.More.{finds_at_more, finds_more}
+use Rattle.flow_model.proofs.More.{finds_at_more, finds_more}
 use Rattle.numbered_log.specs.Logged.{written_by}
 use Rattle.hop_object.specs.View.{HopView}
 use Rattle.hop_object.specs.Hops.{IsLegOf}

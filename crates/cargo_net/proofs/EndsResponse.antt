@@ -17,7 +17,7 @@ use Rattle.flow_model.specs.World.{Passage, World, hop_at}
 use Rattle.flow_model.specs.Events.{Event}
 use Rattle.flow_model.specs.Numbers.{NumberOf}
 use Rattle.flow_model.specs.Platform.{world_of}
-use Rattle.flow_law.proofs.More.{finds_more, rsp_more}
+use Rattle.flow_model.proofs.More.{finds_more, rsp_more}
 use Rattle.numbered_log.specs.Logged.{written_by}
 use Rattle.hop_object.specs.View.{HopView}
 use Rattle.hop_object.specs.Hops.{IsLegOf}

@@ -24,7 +24,7 @@ use Rattle.flow_model.specs.World.{hop_at, row_of}
 use Rattle.flow_model.specs.Events.{Among, Event, FindsAt, IsCall, IsOwn}
 use Rattle.flow_model.specs.Backed.{EndsResponse}
 use Rattle.flow_model.specs.Platform.{world_of}
-use Rattle.flow_law.proofs.More.{up_more}
+use Rattle.flow_model.proofs.More.{up_more}
 use Rattle.numbered_log.specs.Logged.{written_by}
 use Rattle.hop_object.specs.View.{HopView}
 use Rattle.hop_object.specs.Hops.{IsLegOf}

@@ -1,5 +1,5 @@
 // Plans, and rows to compare outcomes with.
-ghost use Rattle.grant_model.specs.Laws.{HasNoInvalidation};
+ghost use Rattle.good_history.specs.GrantLaws.{HasNoInvalidation};
 ghost use Rattle.route_plan.specs.Shape.{IsBlocking};
 
 use plat_core::can_run;

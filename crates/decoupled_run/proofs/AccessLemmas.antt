@@ -31,12 +31,12 @@ use Rattle.tlm_model.specs.Requests.{Asked, DebugRead, Invalidation, Request, Tr
 use Rattle.tlm_model.specs.Route.{Route as RouteOfModel, later, route_of}
 use Rattle.tlm_model.specs.Scripts.{IsGrantee}
 use Rattle.tlm_model.specs.Store.{checked, is_allowed, span_of, status_by, status_of}
-use Rattle.grant_model.specs.Grants.{asks, dmi_of, has_dmi, is_hinting, is_ok, last_of, plain_of}
-use Rattle.grant_model.specs.Kept.{is_direct_way}
-use Rattle.grant_model.specs.Plain.{is_direct, may_go_direct}
-use Rattle.joined_runs.specs.Joined.{KeepsOwn}
-use Rattle.joined_grants.specs.Growing.{TellsNext}
-use Rattle.joined_grants.specs.Parts.{KnowsAllGiven}
+use Rattle.good_history.specs.Grants.{asks, dmi_of, has_dmi, is_hinting, is_ok, last_of, plain_of}
+use Rattle.good_history.specs.Kept.{is_direct_way}
+use Rattle.good_history.specs.Plain.{is_direct, may_go_direct}
+use Rattle.good_history.specs.Joined.{KeepsOwn}
+use Rattle.joined_traffic.specs.Growing.{TellsNext}
+use Rattle.joined_traffic.specs.Parts.{KnowsAllGiven}
 use Rattle.generic_payload.specs.Payload.{PayloadView, access_of}
 use Rattle.region_object.specs.Call.{IsReadOrWrite}
 use Rattle.region_object.specs.Region.{LoggedMemory, after_call, hint_of, region_entry}

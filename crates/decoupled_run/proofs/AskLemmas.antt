@@ -33,14 +33,14 @@ use Rattle.tlm_model.specs.Route.{route_of}
 use Rattle.tlm_model.specs.Scripts.{IsGrantee, first_gate, has_gate}
 use Rattle.tlm_model.specs.Times.{HasTime, decoupled_time}
 use Rattle.tlm_model.specs.Store.{is_allowed}
-use Rattle.grant_model.specs.Plain.{is_direct}
-use Rattle.grant_model.specs.Grants.{asks, gives, is_cut_by, is_overlapped, plain_of}
-use Rattle.joined_grants.specs.Growing.{TellsNext}
-use Rattle.joined_grants.specs.Parts.{Knows, KnowsAllGiven}
-use Rattle.joined_grants.specs.Table.{IsTableOf}
-use Rattle.joined_grants.proofs.Growing.{gate_has_one_grant}
-use Rattle.joined_grants.proofs.Tables.{table_drops, table_takes}
-use Rattle.joined_runs.specs.Joined.{KeepsOwn}
+use Rattle.good_history.specs.Plain.{is_direct}
+use Rattle.good_history.specs.Grants.{asks, gives, is_cut_by, is_overlapped, plain_of}
+use Rattle.joined_traffic.specs.Growing.{TellsNext}
+use Rattle.joined_traffic.specs.Parts.{Knows, KnowsAllGiven}
+use Rattle.joined_traffic.specs.Table.{IsTableOf}
+use Rattle.joined_traffic.proofs.Growing.{gate_has_one_grant}
+use Rattle.joined_traffic.proofs.Tables.{table_drops, table_takes}
+use Rattle.good_history.specs.Joined.{KeepsOwn}
 use Rattle.region_object.specs.declared.call.Denial.{Denial}
 use Rattle.region_object.specs.declared.call.Denial.TheVariants.{NoDmi, NotAllowed, GatesSpent}
 use Rattle.region_object.specs.declared.call.RegionCall.TheVariants.{Grant}

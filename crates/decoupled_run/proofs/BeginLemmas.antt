@@ -24,9 +24,9 @@ use Rattle.tlm_model.specs.Plan.{Plan, Initiator, initiators_from, initiators_of
 use Rattle.tlm_model.specs.Scripts.{first_gate}
 use Rattle.tlm_model.proofs.InitiatorLemmas.{initiator_from}
 use Rattle.generic_payload.specs.Payload.{PayloadView}
-use Rattle.joined_grants.proofs.Tables.{table_begins}
+use Rattle.joined_traffic.proofs.Tables.{table_begins}
 use Rattle.route_plan.specs.Counted.{logged_share_at, logged_share_by, share_at, share_by}
-use Rattle.grant_model.specs.Plain.{is_direct as is_direct_style}
+use Rattle.good_history.specs.Plain.{is_direct as is_direct_style}
 use Rattle.route_plan.specs.Planned.{at_gates, logged_share, share_of}
 use Rattle.route_plan.specs.Valid.{IsValid}
 use Rattle.route_plan.proofs.ShareLemmas.{count_initiators}

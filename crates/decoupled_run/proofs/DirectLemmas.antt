@@ -26,11 +26,11 @@ use Rattle.tlm_model.specs.Plan.{Plan, Initiator, initiators_of}
 use Rattle.tlm_model.specs.Requests.{Asked, Request}
 use Rattle.tlm_model.specs.Scripts.{IsWay}
 use Rattle.tlm_model.specs.Store.{got_by, got_of, status_of, zeros}
-use Rattle.grant_model.specs.Grants.{asks, plain_of}
-use Rattle.grant_model.specs.Plain.{is_direct, may_go_direct}
-use Rattle.joined_runs.specs.Joined.{KeepsOwn}
-use Rattle.joined_grants.specs.Growing.{TellsNext}
-use Rattle.joined_grants.specs.Parts.{KnowsAllGiven}
+use Rattle.good_history.specs.Grants.{asks, plain_of}
+use Rattle.good_history.specs.Plain.{is_direct, may_go_direct}
+use Rattle.good_history.specs.Joined.{KeepsOwn}
+use Rattle.joined_traffic.specs.Growing.{TellsNext}
+use Rattle.joined_traffic.specs.Parts.{KnowsAllGiven}
 use Rattle.generic_payload.specs.Payload.{PayloadView, access_of}
 use Rattle.region_object.specs.declared.call.RegionCall.TheVariants.{Direct as DirectCall}
 use Rattle.region_object.specs.declared.call.RegionReply.{RegionReply}

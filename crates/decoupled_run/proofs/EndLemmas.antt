@@ -14,11 +14,11 @@ use Rattle.tlm_types.specs.declared.entry.Entry.{Entry}
 use Rattle.tlm_types.specs.declared.words.ObjectNo.TheVariants.{Memory}
 use Rattle.tlm_model.specs.History.{IsNumbered}
 use Rattle.tlm_model.specs.Plan.{Plan, Initiator}
-use Rattle.grant_model.specs.Grants.{asks, last_of}
-use Rattle.grant_model.specs.Kept.{GivesGatesInOrder}
-use Rattle.joined_grants.specs.Parts.{HasDoneGrants, KnowsAllGiven}
-use Rattle.joined_grants.specs.Places.{AreInPlace}
-use Rattle.joined_grants.proofs.Lists.{numbered_has}
+use Rattle.good_history.specs.Grants.{asks, last_of}
+use Rattle.good_history.specs.Kept.{GivesGatesInOrder}
+use Rattle.joined_traffic.specs.Parts.{HasDoneGrants, KnowsAllGiven}
+use Rattle.joined_traffic.specs.Places.{AreInPlace}
+use Rattle.joined_traffic.proofs.Lists.{numbered_has}
 use Rattle.generic_payload.specs.Payload.{PayloadView}
 use Rattle.flow_model.specs.Events.{Event, entries}
 use Rattle.cargo_model.specs.Known.{event_of, object_number}

@@ -23,7 +23,7 @@ use Rattle.tlm_model.specs.Store.{got_of, status_of}
 use Rattle.tlm_model.specs.Times.{HasTime, access_time, decoupled_time}
 use Rattle.tlm_model.proofs.EachLemmas.{append_nil, AtEach-push}
 use Rattle.generic_payload.specs.Payload.{PayloadView}
-use Rattle.joined_runs.specs.Joined.{KeepsOwn}
+use Rattle.good_history.specs.Joined.{KeepsOwn}
 use Rattle.route_plan.specs.declared.step.Route.{Route}
 use Rattle.script_engine.specs.declared.part.Part.{Part}
 use Rattle.script_engine.specs.declared.part.Part.TheVariants.{Asks}

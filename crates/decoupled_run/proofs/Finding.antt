@@ -5,7 +5,7 @@ use Rattle.std.specs.List.{position_or_len}
 use Rattle.std.proofs.lemmas.Bool.{ltb-false, ltb-true}
 use Rattle.view_lists.specs.Lists.{Has}
 use Rattle.view_lists.proofs.Members.{has_none}
-use Rattle.joined_runs.proofs.CountLemmas.{has_first}
+use Rattle.good_history.proofs.CountLemmas.{has_first}
 
 module _ {X : Type 0} (test : X → Bool) where
   past_all : (xs : List X) → length xs ≤ position_or_len test xs → (x : X) → Has xs x → test x ≡ false

@@ -27,14 +27,14 @@ use Rattle.tlm_model.specs.Route.{Route as RouteOfModel, route_of}
 use Rattle.tlm_model.specs.Scripts.{HasWay, IsEntryOf, IsInOrder, IsPlaced, is_answer}
 use Rattle.tlm_model.specs.Times.{HasTime, decoupled_time}
 use Rattle.tlm_model.proofs.HistoryLemmas.{AllByRecursion-push}
-use Rattle.flow_law.specs.Plans.{IsDecoupled}
+use Rattle.flow_model.specs.Plans.{IsDecoupled}
 use Rattle.good_history.specs.Laws.{AllDecoupled}
-use Rattle.grant_model.specs.Grants.{asks, is_grant, last_of}
-use Rattle.joined_runs.specs.Counting.{IsRising}
-use Rattle.joined_runs.specs.Joined.{KeepsOwn}
-use Rattle.joined_grants.specs.Parts.{KnowsAllGiven}
-use Rattle.joined_grants.specs.Table.{IsTableOf}
-use Rattle.joined_grants.proofs.Tables.{table_passes}
+use Rattle.good_history.specs.Grants.{asks, is_grant, last_of}
+use Rattle.good_history.specs.Counting.{IsRising}
+use Rattle.good_history.specs.Joined.{KeepsOwn}
+use Rattle.joined_traffic.specs.Parts.{KnowsAllGiven}
+use Rattle.joined_traffic.specs.Table.{IsTableOf}
+use Rattle.joined_traffic.proofs.Tables.{table_passes}
 use Rattle.generic_payload.specs.Payload.{PayloadView}
 use Rattle.route_plan.specs.Counted.{share_at}
 use Rattle.route_plan.specs.Planned.{is_routed_to, leads_to}

@@ -15,14 +15,14 @@ use Rattle.tlm_types.specs.declared.words.ObjectNo.TheVariants.{Memory}
 use Rattle.tlm_model.specs.History.{entries_at, is_object}
 use Rattle.tlm_model.specs.Plan.{Plan, Initiator, initiators_of}
 use Rattle.tlm_model.proofs.HistoryLemmas.{AllByRecursion-push}
-use Rattle.flow_law.specs.Plans.{IsDecoupled}
-use Rattle.grant_model.specs.Grants.{asks, is_grant, last_of}
-use Rattle.joined_runs.proofs.CountLemmas.{IsRising-push}
-use Rattle.joined_runs.specs.Joined.{KeepsOwn}
-use Rattle.joined_grants.specs.Growing.{TellsNext}
-use Rattle.joined_grants.specs.Parts.{HasReturned, KeepsOwnGrants, KnowsAllGiven, is_invalidation}
-use Rattle.joined_grants.proofs.Growing.{own_grants_grow}
-use Rattle.joined_grants.proofs.Tables.{table_passes}
+use Rattle.flow_model.specs.Plans.{IsDecoupled}
+use Rattle.good_history.specs.Grants.{asks, is_grant, last_of}
+use Rattle.good_history.proofs.CountLemmas.{IsRising-push}
+use Rattle.good_history.specs.Joined.{KeepsOwn}
+use Rattle.joined_traffic.specs.Growing.{TellsNext}
+use Rattle.joined_traffic.specs.Parts.{HasReturned, KeepsOwnGrants, KnowsAllGiven, is_invalidation}
+use Rattle.joined_traffic.proofs.Growing.{own_grants_grow}
+use Rattle.joined_traffic.proofs.Tables.{table_passes}
 use Rattle.route_plan.specs.declared.step.Route.{Route}
 use Rattle.script_engine.specs.declared.part.Transfer.{Transfer}
 use Rattle.script_engine.specs.Part.{is_fenced_kind}

@@ -14,13 +14,13 @@ use Rattle.tlm_types.specs.declared.words.ObjectNo.TheVariants.{Memory}
 use Rattle.tlm_model.specs.declared.platform.MemoryRow.{MemoryRow}
 use Rattle.tlm_model.specs.Plan.{Plan}
 use Rattle.tlm_model.specs.Scripts.{first_gate}
-use Rattle.grant_model.specs.Grants.{gates_of}
+use Rattle.good_history.specs.Grants.{gates_of}
 use Rattle.region_object.specs.declared.call.RegionCall.{RegionCall}
 use Rattle.region_object.specs.declared.call.RegionReply.{RegionReply}
 use Rattle.region_object.specs.Grants.{gives as gives_at}
 use Rattle.region_object.specs.Region.{after_call}
 use Rattle.region_object.specs.Written.{content_of}
-use Rattle.joined_grants.specs.Parts.{KnowsAllGiven}
+use Rattle.joined_traffic.specs.Parts.{KnowsAllGiven}
 use Rattle.plat_net.specs.Calls.{entries_of}
 use Rattle.dmi_grants.specs.Asking.{AreGiven}
 use Rattle.dmi_grants.specs.Made.{IsMade, dmi_gates, dmi_gates_of, is_given_in}

@@ -17,7 +17,7 @@ use Rattle.tlm_model.specs.Plan.{Plan, Initiator, initiators_of}
 use Rattle.tlm_model.specs.Route.{later}
 use Rattle.flow_model.specs.Platform.{addresses_of, passage_by, passage_to}
 use Rattle.tlm_model.proofs.InitiatorLemmas.{initiator_from}
-use Rattle.grant_model.specs.Plain.{is_direct}
+use Rattle.good_history.specs.Plain.{is_direct}
 use Rattle.generic_payload.specs.Payload.{PayloadView}
 use Rattle.region_object.specs.Call.{IsFit, payload_cost}
 use Rattle.region_object.specs.declared.call.RegionCall.{RegionCall}

@@ -14,7 +14,7 @@ use Rattle.tlm_model.specs.Requests.{Asked, DebugRead, Invalidation, Request, Tr
 use Rattle.tlm_model.specs.Route.{Route, later, latency_of, route_of}
 use Rattle.tlm_model.specs.Scripts.{has_answer}
 use Rattle.tlm_model.specs.Store.{zeros}
-use Rattle.grant_model.specs.Plain.{is_plain_at, makes_plain}
+use Rattle.good_history.specs.Plain.{is_plain_at, makes_plain}
 use Rattle.region_object.specs.Call.{IsReadOrWrite}
 use Rattle.traffic_script.specs.Proper.{IsProper}
 use Rattle.quantum_keeper.specs.Keeper.{current_time}

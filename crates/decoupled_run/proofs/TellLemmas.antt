@@ -25,15 +25,15 @@ use Rattle.tlm_model.specs.History.{is_object}
 use Rattle.tlm_model.specs.Plan.{Plan, Initiator, initiators_of}
 use Rattle.tlm_model.specs.Requests.{Request, is_txn}
 use Rattle.tlm_model.specs.Route.{Route as RouteOfModel, route_of}
-use Rattle.grant_model.specs.Grants.{allows, asks, gives, is_inside, last_of, serves}
-use Rattle.grant_model.specs.Kept.{IsAskedFor, is_direct_way}
-use Rattle.grant_model.specs.Plain.{may_go_direct}
-use Rattle.joined_grants.specs.Finding.{AreAddressesOf as AreLed}
-use Rattle.joined_grants.specs.Growing.{TellsNext}
-use Rattle.joined_grants.specs.Parts.{EarlierReturned, HasOwnWay, IsAskSettled, IsOwnClosing, IsOwnUse, IsOwnUseOf, KnowsAllGiven}
-use Rattle.joined_grants.proofs.Finding.{covers_what_serves}
-use Rattle.joined_grants.proofs.Lists.{any_has}
-use Rattle.joined_grants.proofs.Tables.{none_found}
+use Rattle.good_history.specs.Grants.{allows, asks, gives, is_inside, last_of, serves}
+use Rattle.good_history.specs.Kept.{IsAskedFor, is_direct_way}
+use Rattle.good_history.specs.Plain.{may_go_direct}
+use Rattle.joined_traffic.specs.Finding.{AreAddressesOf as AreLed}
+use Rattle.joined_traffic.specs.Growing.{TellsNext}
+use Rattle.joined_traffic.specs.Parts.{EarlierReturned, HasOwnWay, IsAskSettled, IsOwnClosing, IsOwnUse, IsOwnUseOf, KnowsAllGiven}
+use Rattle.joined_traffic.proofs.Finding.{covers_what_serves}
+use Rattle.joined_traffic.proofs.Lists.{any_has}
+use Rattle.joined_traffic.proofs.Tables.{none_found}
 use Rattle.region_object.specs.Grants.{allows as allows_at}
 use Rattle.route_plan.specs.declared.step.Route.{Route}
 use Rattle.initiator_run.specs.Access.{IsRouteOf, model_route}

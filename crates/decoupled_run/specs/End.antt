@@ -11,11 +11,11 @@ use Rattle.tlm_types.specs.declared.entry.Content.{Content}
 use Rattle.tlm_model.specs.declared.platform.Style.TheVariants.{FourPhase}
 use Rattle.tlm_model.specs.History.{IsNumbered}
 use Rattle.tlm_model.specs.Plan.{Plan, Initiator, initiators_of}
-use Rattle.grant_model.specs.Kept.{GivesGatesInOrder}
+use Rattle.good_history.specs.Kept.{GivesGatesInOrder}
 use Rattle.flow_model.specs.Events.{entries}
 use Rattle.cargo_model.specs.Known.{object_number}
-use Rattle.joined_grants.specs.Parts.{HasDoneGrants}
-use Rattle.joined_grants.specs.Places.{AreInPlace}
+use Rattle.joined_traffic.specs.Parts.{HasDoneGrants}
+use Rattle.joined_traffic.specs.Places.{AreInPlace}
 use Rattle.net_end.specs.Closed.{events_in}
 use Rattle.net_end.specs.Finished.{IsRunDone}
 use Rattle.plat_build.specs.Kept.{HasNoOthers}

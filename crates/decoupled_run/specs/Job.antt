@@ -24,12 +24,12 @@ use Rattle.tlm_model.specs.Route.{latency_of, later}
 use Rattle.tlm_model.specs.Scripts.{IsGrantee, first_gate}
 use Rattle.tlm_model.specs.Store.{is_allowed}
 use Rattle.good_history.specs.Laws.{AllDecoupled}
-use Rattle.grant_model.specs.Grants.{asks, last_of}
-use Rattle.grant_model.specs.Plain.{is_direct}
-use Rattle.joined_runs.specs.Counting.{IsRising}
-use Rattle.joined_runs.specs.Joined.{KeepsOwn}
-use Rattle.joined_grants.specs.Parts.{HasReturned, KeepsOwnGrants, KnowsAllGiven, is_invalidation}
-use Rattle.joined_grants.specs.Table.{IsTableOf}
+use Rattle.good_history.specs.Grants.{asks, last_of}
+use Rattle.good_history.specs.Plain.{is_direct}
+use Rattle.good_history.specs.Counting.{IsRising}
+use Rattle.good_history.specs.Joined.{KeepsOwn}
+use Rattle.joined_traffic.specs.Parts.{HasReturned, KeepsOwnGrants, KnowsAllGiven, is_invalidation}
+use Rattle.joined_traffic.specs.Table.{IsTableOf}
 use Rattle.generic_payload.specs.Payload.{PayloadView}
 use Rattle.route_plan.specs.declared.step.Route.{Route}
 use Rattle.route_plan.specs.Counted.{share_at}

@@ -2,7 +2,7 @@
 use Rattle.std.specs.Prelude.{ℕ, zero, suc, ◌≡◌, ◌+◌, ◌<◌, ◌++◌, Bool, true, List, length, Option, Some, None}
 use Rattle.tlm_model.specs.declared.operation.Operation.{Operation}
 use Rattle.tlm_model.specs.Plan.{Initiator}
-use Rattle.grant_model.specs.Plain.{is_plain_at}
+use Rattle.good_history.specs.Plain.{is_plain_at}
 use Rattle.script_engine.specs.State.{Due, State}
 
 -- whether the request that is k numbers ahead is a plain access: the write that is due is one, and what comes after it is read off the operations

@@ -15,7 +15,7 @@ use Rattle.tlm_types.specs.declared.entry.Content.{Content}
 use Rattle.tlm_types.specs.declared.words.TxnId.{TxnId}
 use Rattle.tlm_model.specs.Plan.{Plan}
 use Rattle.tlm_model.specs.Scripts.{first_gate}
-use Rattle.joined_runs.specs.Counting.{IsRising}
+use Rattle.good_history.specs.Counting.{IsRising}
 use Rattle.region_object.specs.declared.call.RegionCall.{RegionCall}
 use Rattle.region_object.specs.declared.call.RegionCall.TheVariants.{Close, Invalidate, Overlapping}
 use Rattle.region_object.specs.declared.call.RegionReply.{RegionReply}

@@ -18,11 +18,11 @@ use Rattle.tlm_types.specs.declared.words.TxnId.{TxnId}
 use Rattle.tlm_model.specs.Plan.{Plan, Initiator, initiators_of}
 use Rattle.tlm_model.specs.Requests.{Request, is_txn, requests_of}
 use Rattle.tlm_model.specs.Scripts.{OfRequest}
-use Rattle.grant_model.specs.Grants.{asks, has_dmi, is_hinting, last_of, plain_of}
-use Rattle.grant_model.specs.Kept.{IsAskedFor, is_earlier}
-use Rattle.joined_grants.specs.Growing.{TellsNext}
-use Rattle.joined_grants.specs.Parts.{EarlierReturned, HasOwnWay, HasReturned, IsAskSettled, IsOwnClosing, IsOwnUse, KeepsOwnGrants, KnowsAllGiven, is_invalidation}
-use Rattle.joined_grants.proofs.Growing.{own_grants_grow}
+use Rattle.good_history.specs.Grants.{asks, has_dmi, is_hinting, last_of, plain_of}
+use Rattle.good_history.specs.Kept.{IsAskedFor, is_earlier}
+use Rattle.joined_traffic.specs.Growing.{TellsNext}
+use Rattle.joined_traffic.specs.Parts.{EarlierReturned, HasOwnWay, HasReturned, IsAskSettled, IsOwnClosing, IsOwnUse, KeepsOwnGrants, KnowsAllGiven, is_invalidation}
+use Rattle.joined_traffic.proofs.Growing.{own_grants_grow}
 use Rattle.dmi_grants.specs.Known.{AreBelow, HasAllOf, known_to}
 use Rattle.dmi_grants.specs.Telling.{AsksAfter, HasAdded, InvalidationKeepsPoints, IsClosingFor, KeepsOwnPoints}
 use Rattle.dmi_grants.proofs.Reading.{all_of, given_on, read_below, read_more}

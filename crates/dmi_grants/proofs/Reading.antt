@@ -18,9 +18,9 @@ use Rattle.tlm_model.specs.declared.platform.Platform.{Platform}
 use Rattle.tlm_model.specs.History.{entries_at}
 use Rattle.tlm_model.specs.Plan.{Plan}
 use Rattle.tlm_model.specs.Scripts.{first_gate}
-use Rattle.grant_model.specs.Grants.{closes, gives}
+use Rattle.good_history.specs.Grants.{closes, gives}
 use Rattle.region_object.specs.Grants.{closes as closes_at, gives as gives_at}
-use Rattle.joined_grants.specs.Parts.{Knows, KnowsAllGiven}
+use Rattle.joined_traffic.specs.Parts.{Knows, KnowsAllGiven}
 use Rattle.cargo_model.specs.Known.{objects_of}
 use Rattle.plat_net.proofs.ObjectLemmas.{memory_at}
 use Rattle.dmi_grants.specs.Known.{AreBelow, HasAllOf, entries_read, entry_read, known_to}

@@ -26,11 +26,11 @@ use Rattle.tlm_model.specs.declared.platform.MemoryRow.{MemoryRow}
 use Rattle.tlm_model.specs.History.{entries_at, is_object}
 use Rattle.tlm_model.specs.Plan.{Plan}
 use Rattle.tlm_model.specs.Scripts.{first_gate, has_gate}
-use Rattle.grant_model.specs.Grants.{closes, gives, is_cut_by, is_overlapped}
-use Rattle.joined_runs.specs.Counting.{IsRising}
-use Rattle.joined_grants.specs.Parts.{HasReturned, Knows, KnowsClosing}
-use Rattle.joined_grants.specs.Returning.{KnowsPlaces}
-use Rattle.joined_grants.proofs.Returning.{places_tell_return}
+use Rattle.good_history.specs.Grants.{closes, gives, is_cut_by, is_overlapped}
+use Rattle.good_history.specs.Counting.{IsRising}
+use Rattle.joined_traffic.specs.Parts.{HasReturned, Knows, KnowsClosing}
+use Rattle.joined_traffic.specs.Returning.{KnowsPlaces}
+use Rattle.joined_traffic.proofs.Returning.{places_tell_return}
 use Rattle.region_object.specs.declared.call.RegionCall.TheVariants.{Invalidate}
 use Rattle.region_object.specs.Grants.{gives as gives_at, closes as closes_at, overlaps}
 use Rattle.region_object.specs.Region.{after_call}

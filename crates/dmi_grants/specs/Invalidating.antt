@@ -10,7 +10,7 @@ use Rattle.tlm_types.specs.declared.entry.Content.{Content}
 use Rattle.tlm_types.specs.declared.entry.What.TheVariants.{Closed, Invalidated}
 use Rattle.tlm_types.specs.declared.words.TxnId.{TxnId}
 use Rattle.tlm_model.specs.Plan.{Plan}
-use Rattle.joined_runs.specs.Counting.{IsRising}
+use Rattle.good_history.specs.Counting.{IsRising}
 use Rattle.region_object.specs.declared.call.RegionCall.TheVariants.{Invalidate, Overlapping}
 use Rattle.region_object.specs.declared.call.RegionReply.TheVariants.{Invalidated as InvalidatedReply, Overlapping as OverlappingReply}
 use Rattle.region_object.specs.Grants.{gives, overlaps}

@@ -11,7 +11,7 @@ use Rattle.tlm_types.specs.declared.words.ObjectNo.TheVariants.{Memory}
 use Rattle.tlm_model.specs.declared.platform.Platform.{Platform}
 use Rattle.tlm_model.specs.History.{IsNumbered, entries_at}
 use Rattle.tlm_model.specs.Plan.{Plan}
-use Rattle.grant_model.specs.Kept.{GivesGatesInOrder}
+use Rattle.good_history.specs.Kept.{GivesGatesInOrder}
 use Rattle.cargo_model.specs.Known.{event_of}
 
 -- the number of an object says which memory, hop or pool it is

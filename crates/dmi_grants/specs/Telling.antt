@@ -14,9 +14,9 @@ use Rattle.tlm_types.specs.declared.words.TxnId.{TxnId}
 use Rattle.tlm_model.specs.Plan.{Plan, Initiator, initiators_of}
 use Rattle.tlm_model.specs.Requests.{Request, requests_of}
 use Rattle.tlm_model.specs.Scripts.{has_gate}
-use Rattle.grant_model.specs.Grants.{asks, gives, is_cut_by, last_of}
-use Rattle.joined_runs.specs.Counting.{IsRising}
-use Rattle.joined_grants.specs.Parts.{HasReturned, KeepsOwnGrants, Knows, KnowsAllGiven, is_invalidation}
+use Rattle.good_history.specs.Grants.{asks, gives, is_cut_by, last_of}
+use Rattle.good_history.specs.Counting.{IsRising}
+use Rattle.joined_traffic.specs.Parts.{HasReturned, KeepsOwnGrants, Knows, KnowsAllGiven, is_invalidation}
 use Rattle.dmi_grants.specs.Invalidating.{HasInvalidated}
 use Rattle.dmi_grants.specs.Known.{AreBelow, HasAllOf, known_to, position_of}
 use Rattle.dmi_grants.specs.Made.{HasSpent, unclosed}

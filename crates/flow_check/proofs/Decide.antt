@@ -11,9 +11,9 @@ use Rattle.tlm_types.specs.declared.words.ReqMode.TheVariants as Req
 use Rattle.tlm_model.specs.Each.{AtEach, EachFrom}
 use Rattle.tlm_model.specs.History.{is_object}
 use Rattle.flow_model.specs.Events.{Event, Among, Finds, FindsAt}
-use Rattle.flow_law.proofs.Forms.{is_txn}
-use Rattle.flow_law.proofs.Sayings.{same_txn}
-use Rattle.flow_law.proofs.Splits.{same_object}
+use Rattle.flow_model.proofs.Forms.{is_txn}
+use Rattle.flow_model.proofs.Sayings.{same_txn}
+use Rattle.flow_model.proofs.Splits.{same_object}
 
 -- what a test found
 abbrev pub found : {A : Type 0} → (o : Option A) → IsSome o → A

@@ -19,7 +19,7 @@ use Rattle.flow_model.specs.World.{World}
 use Rattle.flow_model.specs.Events.{Event, Among, hop_log}
 use Rattle.flow_model.specs.Pools.{IsLive, IsPoolLog, Life, PoolStepBy, Slots, slots_after}
 use Rattle.flow_model.specs.Slots.{no_slots}
-use Rattle.flow_law.specs.Law.{HasSteps}
+use Rattle.flow_model.specs.Law.{HasSteps}
 use Rattle.flow_check.proofs.Decide.{bind, each, either, is_phase, is_same_txn, less, same_nat}
 
 abbrev le_by : (a b : ℕ) (t : Bool) → nat_le a b ≡ t → Option (a ≤ b)

@@ -21,12 +21,12 @@ use Rattle.flow_model.specs.World.{IsWorld, Passage, World}
 use Rattle.flow_model.specs.Events.{Event, Among, Finds, IsAccess, IsTake, IsTakeOf, at, entries, hop_log}
 use Rattle.flow_model.specs.Backed.{IsBacked}
 use Rattle.flow_model.specs.Pools.{IsPoolLog, TakesOnce}
-use Rattle.flow_law.specs.Law.{HasSteps, Premises}
+use Rattle.flow_model.specs.Law.{HasSteps, Premises}
 use Rattle.flow_check.specs.Premises.{HasLogs}
-use Rattle.flow_law.proofs.CallLists.{entries-at}
-use Rattle.flow_law.proofs.Forms.{is_txn}
-use Rattle.flow_law.proofs.Sayings.{same_txn, is_txn_self}
-use Rattle.flow_law.proofs.Splits.{same_object}
+use Rattle.flow_model.proofs.CallLists.{entries-at}
+use Rattle.flow_model.proofs.Forms.{is_txn}
+use Rattle.flow_model.proofs.Sayings.{same_txn, is_txn_self}
+use Rattle.flow_model.proofs.Splits.{same_object}
 use Rattle.flow_check.proofs.Decide.{bind, each, either, is_same_object, same_nat}
 use Rattle.flow_check.proofs.DecideBacked.{is_backed}
 use Rattle.flow_check.proofs.DecideLogs.{at_most, has_steps, pool_log}

@@ -8,8 +8,8 @@ use Rattle.tlm_types.specs.declared.entry.Access.{Access}
 use Rattle.base_phases.proofs.WalkLemmas.{whole_round}
 use Rattle.flow_model.specs.Events.{entries}
 use Rattle.flow_model.specs.Traffic.{HasPhaseTimes}
-use Rattle.flow_law.specs.Plans.{HasBackedTraffic}
-use Rattle.flow_law.proofs.Backed.{traffic_law}
+use Rattle.flow_model.specs.Plans.{HasBackedTraffic}
+use Rattle.flow_model.proofs.Backed.{traffic_law}
 use Rattle.good_history.specs.Good.{IsGood, IsSound}
 use Rattle.good_history.proofs.Beginnings.{sound_beginnings}
 use Rattle.flow_check.specs.Worked.{accepting, debug_plan, fenced_plan, freed, late_debug, lone, miswritten, unfenced, unreleased}

@@ -29,12 +29,12 @@ use Rattle.flow_model.specs.Points.{IsFreed}
 use Rattle.flow_model.specs.Issue.{issue_time}
 use Rattle.flow_model.specs.Platform.{world_of}
 use Rattle.flow_model.specs.Traffic.{IsIssuedBy, IsWaitedFor, IssuesInTime, WaitsForEnds, slots_of}
-use Rattle.flow_law.specs.Law.{Premises}
-use Rattle.flow_law.specs.Valid.{HasNoCycle, LeadsOver, LeadsTo}
-use Rattle.flow_law.proofs.Backed.{issue_law, traffic_law}
-use Rattle.flow_law.proofs.Ended.{ended_law}
-use Rattle.flow_law.proofs.Ways.{world_law}
-use Rattle.grant_model.specs.Laws.{ClosesNothing, HasNoDirect, IsNoClosing}
+use Rattle.flow_model.specs.Law.{Premises}
+use Rattle.flow_model.specs.Valid.{HasNoCycle, LeadsOver, LeadsTo}
+use Rattle.flow_model.proofs.Backed.{issue_law, traffic_law}
+use Rattle.flow_model.proofs.Ended.{ended_law}
+use Rattle.flow_model.proofs.Ways.{world_law}
+use Rattle.good_history.specs.GrantLaws.{ClosesNothing, HasNoDirect, IsNoClosing}
 use Rattle.good_history.proofs.Ungranted.{ungranted_is_good}
 use Rattle.flow_check.specs.Worked.{IsWorked, accepting, answering, completing, ending, lone, plan_of, refused, refused_plan, routed, routed_plan, write_at}
 use Rattle.flow_check.proofs.Decide.{bind, each, find, found, guard_true, is_same_object, is_same_txn, same_nat}

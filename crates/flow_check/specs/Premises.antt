@@ -18,7 +18,7 @@ use Rattle.flow_model.specs.World.{HopEnds, Passage, World}
 use Rattle.flow_model.specs.Events.{Event, Among, Finds, IsAccess, IsTake, at, entries, hop_log}
 use Rattle.flow_model.specs.Backed.{IsBacked}
 use Rattle.flow_model.specs.Pools.{IsPoolLog, TakesOnce}
-use Rattle.flow_law.specs.Law.{HasSteps}
+use Rattle.flow_model.specs.Law.{HasSteps}
 use Rattle.flow_check.specs.Worked.{acquire, call, take, written}
 
 -- the premises but those on the world and on the greatest time

@@ -26,7 +26,7 @@ use Rattle.flow_model.specs.Events.{Event, entries}
 use Rattle.flow_model.specs.Issue.{issue_time}
 use Rattle.flow_model.specs.Platform.{world_of}
 use Rattle.flow_model.specs.Traffic.{slots_of}
-use Rattle.flow_law.specs.Law.{Premises}
+use Rattle.flow_model.specs.Law.{Premises}
 use Rattle.good_history.specs.Good.{IsGood}
 
 -- one four-phase initiator `dma`, these routers, and a memory `ram` of so many bytes and 10 ps

@@ -3,7 +3,7 @@ ghost use Rattle.tlm_types.specs.declared.words.ReqMode.TheVariants as Req;
 ghost use Rattle.tlm_types.specs.declared.words.RespMode.TheVariants as Resp;
 ghost use Rattle.flow_model.specs.Events.{entries};
 ghost use Rattle.tlm_model.specs.Kept.{KeepsRequests};
-ghost use Rattle.flow_law.specs.Plans.{HasBackedTraffic};
+ghost use Rattle.flow_model.specs.Plans.{HasBackedTraffic};
 ghost use Rattle.good_history.specs.Good.{IsGood, IsSound};
 ghost use Rattle.flow_model.specs.Traffic.{FollowsPhases, HasFreedPayloads, HasPhaseTimes, HasWholeSequences, IsExclusive, KeepsPools, PassesHops};
 ghost use Rattle.flow_check.specs.Worked.{debug_plan, early_access, ended_below_first, fenced_plan, freed_twice, hasty_response, kept, late_debug, lone, miswritten, request_doubled, request_unended, routed_plan, unended, unfenced, unreferenced, unreleased, wrongly_answered};

@@ -21,3 +21,8 @@ pub mod Issue
 pub mod Traffic
 pub mod Marked
 pub mod Called
+pub mod Law
+pub mod Ending
+pub mod Counting
+pub mod Valid
+pub mod Plans

@@ -25,8 +25,17 @@
 //!   `KeepsPools` and `HasPhaseTimes`, and those of the end, `HasWholeSequences`, `HasFreedPayloads` and
 //!   `HasReleaseTimes`.
 //!
-//! That histories whose entries are backed keep the points is said and proved in the crates above.
+//! **Laws**: what single components know of each entry that they make gives what the whole history keeps, for any
+//! platform, any number of hops on a way, and any order of the entries (`traffic_laws`).
+//! - `specs/Law` has the premises, which hops, pools and single entries give, and the conclusions: the orders of the
+//!   entries of each access, the sequences of the table, exclusion on each hop, the times.
+//! - `specs/Ending` says what holds of an access whose payload is back in its pool, `specs/Counting` that known entries
+//!   are all, and that no transaction begins twice, `specs/Plans` has the laws of a plan, and `specs/Valid` what a
+//!   platform has to keep that they hold for it.
+//!
+//! Nothing here runs: each function carries a law.
 #![tactic(auto)]
 
 pub mod laws;
+pub mod traffic_laws;
 pub mod worked;

@@ -14,7 +14,7 @@ use Rattle.tlm_model.specs.Route.{hops_of, walk}
 use Rattle.flow_model.specs.World.{Passage, hop_at, hop_count}
 use Rattle.flow_model.specs.Events.{Among, Event}
 use Rattle.tlm_model.proofs.InitiatorLemmas.{initiator_from}
-use Rattle.flow_law.proofs.Ways.{past_bindings, walk_way}
+use Rattle.flow_model.proofs.Ways.{past_bindings, walk_way}
 use Rattle.cargo_model.specs.Known.{has_pool, object_number, objects_of, row_has_pool}
 use Rattle.cargo_model.specs.Travel.{IsAsked}
 use Rattle.cargo_model.proofs.Origins.{only_object}

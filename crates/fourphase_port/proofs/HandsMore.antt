@@ -10,7 +10,7 @@ use Rattle.token_book.specs.Account.{Slip}
 use Rattle.flow_model.specs.World.{hop_at}
 use Rattle.flow_model.specs.Events.{Event}
 use Rattle.flow_model.specs.Platform.{world_of}
-use Rattle.flow_law.proofs.More.{end_more, finds_at_more, finds_more, rsp_more}
+use Rattle.flow_model.proofs.More.{end_more, finds_at_more, finds_more, rsp_more}
 use Rattle.cargo_model.specs.declared.cargo.Cargo.{Cargo}
 use Rattle.cargo_model.specs.Known.{Known}
 use Rattle.cargo_model.specs.Travel.{Back, Ready, with_wallet}

@@ -29,7 +29,7 @@ use Rattle.route_plan.specs.Plans.{walk_by}
 use Rattle.route_plan.specs.Routes.{route_by, route_seen}
 use Rattle.route_plan.specs.Valid.{IsObject, hop_count}
 use Rattle.flow_model.specs.Events.{Among}
-use Rattle.flow_law.proofs.Ways.{world_law}
+use Rattle.flow_model.proofs.Ways.{world_law}
 use Rattle.cargo_model.specs.Known.{object_number, objects_of}
 use Rattle.cargo_model.specs.Origins.{AreThere}
 use Rattle.cargo_model.specs.Tickets.{AreApart, Numbers, Pulls, Stocks}

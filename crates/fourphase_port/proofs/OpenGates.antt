@@ -18,8 +18,8 @@ use Rattle.tlm_model.specs.History.{is_object}
 use Rattle.tlm_model.specs.Plan.{Plan}
 use Rattle.tlm_model.specs.Scripts.{first_gate}
 use Rattle.flow_model.specs.Events.{Event}
-use Rattle.grant_model.specs.Grants.{closes}
-use Rattle.joined_grants.proofs.Gates.{same_object}
+use Rattle.good_history.specs.Grants.{closes}
+use Rattle.joined_traffic.proofs.Gates.{same_object}
 use Rattle.region_object.specs.Grants.{closes as closes_at}
 use Rattle.cargo_model.specs.Known.{event_of, objects_of}
 use Rattle.cargo_model.proofs.Origins.{is_self}

@@ -37,8 +37,8 @@ use Rattle.token_book.specs.Pocket.{Pocket}
 use Rattle.token_book.specs.Purse.{HasPlace, HasRoomForAll, IsOf, Purse, bytes_left_in, bytes_of, empty_purse, left_in, left_of}
 use Rattle.flow_model.specs.Events.{Among, Event, Finds}
 use Rattle.flow_model.specs.Platform.{passage_of}
-use Rattle.joined_grants.specs.Parts.{HasReturned, IsOwnClosing, is_invalidation}
-use Rattle.joined_runs.proofs.CountLemmas.{IsRising-distinct, has_first}
+use Rattle.joined_traffic.specs.Parts.{HasReturned, IsOwnClosing, is_invalidation}
+use Rattle.good_history.proofs.CountLemmas.{IsRising-distinct, has_first}
 use Rattle.route_plan.specs.declared.step.Route.{Route}
 use Rattle.route_plan.specs.Planned.{is_routed_to, leads_to}
 use Rattle.route_plan.specs.Plans.{walk_by}

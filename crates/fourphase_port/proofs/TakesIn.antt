@@ -21,7 +21,7 @@ use Rattle.token_book.specs.Pocket.{Pocket}
 use Rattle.token_book.specs.Purse.{HasPlace, HasRoomForAll, IsOf, Purse, bytes_left_in, bytes_of, left_in, left_of}
 use Rattle.flow_model.specs.World.{Passage, hop_at, hop_count}
 use Rattle.flow_model.specs.Events.{Among}
-use Rattle.flow_law.proofs.Ways.{world_law}
+use Rattle.flow_model.proofs.Ways.{world_law}
 use Rattle.cargo_model.specs.declared.cargo.Cargo.{Cargo}
 use Rattle.cargo_model.specs.Known.{Known, object_number, objects_of}
 use Rattle.cargo_model.specs.Origins.{AreThere}

@@ -22,7 +22,7 @@ use Rattle.generic_payload.specs.Payload.{PayloadView}
 use Rattle.region_object.specs.Call.{payload_cost}
 use Rattle.shared_object.specs.Steps.{IsNote}
 use Rattle.payload_pool.specs.declared.baton.Baton.{Baton}
-use Rattle.flow_law.specs.Valid.{HasNoCycle}
+use Rattle.flow_model.specs.Valid.{HasNoCycle}
 use Rattle.flow_model.specs.World.{Passage, hop_at, row_of}
 use Rattle.flow_model.specs.Events.{Event, Finds, FindsAt, IsCall}
 use Rattle.flow_model.specs.Numbers.{ArrIs, EndIs, IsEnder, RspIs}

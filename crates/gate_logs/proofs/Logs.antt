@@ -17,11 +17,11 @@ use Rattle.tlm_model.specs.Each.{EachFrom}
 use Rattle.tlm_model.specs.History.{is_object}
 use Rattle.tlm_model.specs.Plan.{Plan}
 use Rattle.tlm_model.proofs.EachLemmas.{AtEach-push, EachFrom-weaker}
-use Rattle.grant_model.specs.Grants as model
-use Rattle.grant_model.specs.Kept.{GrantsAll, IsGateInOrder, IsWholeOf, is_below}
-use Rattle.joined_grants.specs.GateLog as turn
-use Rattle.joined_grants.proofs.GateLog.{gives_no_other}
-use Rattle.joined_grants.proofs.Lists.{all_has, any_has}
+use Rattle.good_history.specs.Grants as model
+use Rattle.good_history.specs.Kept.{GrantsAll, IsGateInOrder, IsWholeOf, is_below}
+use Rattle.joined_traffic.specs.GateLog as turn
+use Rattle.joined_traffic.proofs.GateLog.{gives_no_other}
+use Rattle.joined_traffic.proofs.Lists.{all_has, any_has}
 use Rattle.region_object.specs.Grants.{IsGrantStep, closes, gives, grants_in, is_closed, is_given, is_grant}
 use Rattle.gate_logs.specs.Laws.{MemoriesKeepGateLogs, MemoriesTakeGatesInTurn}
 

@@ -5,8 +5,8 @@ use Rattle.tlm_types.specs.declared.words.ObjectNo.TheVariants.{Memory}
 use Rattle.tlm_types.specs.declared.entry.Entry.{Entry}
 use Rattle.tlm_model.specs.declared.platform.MemoryRow.{MemoryRow}
 use Rattle.tlm_model.specs.Plan.{Plan}
-use Rattle.joined_grants.specs.GateLog.{TakesGatesInTurn}
-use Rattle.joined_grants.specs.Parts.{KeepsGateLog}
+use Rattle.joined_traffic.specs.GateLog.{TakesGatesInTurn}
+use Rattle.joined_traffic.specs.Parts.{KeepsGateLog}
 use Rattle.region_object.specs.Grants.{IsGrantLog}
 
 -- a log whose grants and closings are those of its memory takes its gates in turn

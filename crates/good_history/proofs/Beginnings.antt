@@ -1,7 +1,7 @@
 -- Each beginning of a sound history is sound.
 use Rattle.tlm_model.proofs.HistoryLemmas.{KeepsRequests-front}
-use Rattle.flow_law.proofs.Beginnings.{beginnings}
-use Rattle.grant_model.proofs.Beginnings.{grant_beginnings}
+use Rattle.flow_model.proofs.Beginnings.{beginnings}
+use Rattle.good_history.proofs.GrantBeginnings.{grant_beginnings}
 use Rattle.good_history.specs.Laws.{HasSoundBeginnings}
 
 pub sound_beginnings : HasSoundBeginnings

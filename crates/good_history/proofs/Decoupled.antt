@@ -18,8 +18,8 @@ use Rattle.flow_model.specs.World.{World, Passage}
 use Rattle.flow_model.specs.Events.{Event, number_in, numbered_from}
 use Rattle.flow_model.specs.Platform.{world_of}
 use Rattle.flow_model.specs.Points.{InOrderBy}
-use Rattle.flow_law.specs.Plans.{HasNoFourPhase, IsAsked, IsDecoupled}
-use Rattle.flow_law.proofs.Decoupled.{decoupled_traffic, no_passage}
+use Rattle.flow_model.specs.Plans.{HasNoFourPhase, IsAsked, IsDecoupled}
+use Rattle.flow_model.proofs.Decoupled.{decoupled_traffic, no_passage}
 use Rattle.good_history.specs.Laws.{AllDecoupled, DecoupledIsGood, DecoupledIsSound, SoundIsDecoupled}
 
 -- an entry of an access that passes no hop

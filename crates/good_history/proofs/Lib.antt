@@ -2,3 +2,12 @@ pub mod Beginnings
 pub mod Decoupled
 pub mod Ungranted
 pub mod WorkedRuns
+pub mod GrantBeginnings
+pub mod GrantsNone
+pub mod GrantsWorked
+pub mod CountLemmas
+pub mod OwnLemmas
+pub mod ScriptLemmas
+pub mod StoreLemmas
+pub mod WholeLemmas
+pub mod JoinedWorked

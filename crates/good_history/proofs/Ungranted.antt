@@ -4,9 +4,9 @@ use Rattle.tlm_types.specs.declared.entry.Entry.{Entry}
 use Rattle.tlm_model.specs.Kept.{KeepsRequests, EndsRequests}
 use Rattle.tlm_model.specs.Plan.{Plan}
 use Rattle.tlm_model.proofs.HistoryLemmas.{AllByRecursion-push}
-use Rattle.flow_law.specs.Plans.{HasNoFourPhase, IsDecoupled}
-use Rattle.grant_model.specs.Laws.{ClosesNothing, HasNoDirect, IsNoClosing}
-use Rattle.grant_model.proofs.Ungranted.{ungranted_closes_nothing, ungranted_keeps_grants}
+use Rattle.flow_model.specs.Plans.{HasNoFourPhase, IsDecoupled}
+use Rattle.good_history.specs.GrantLaws.{ClosesNothing, HasNoDirect, IsNoClosing}
+use Rattle.good_history.proofs.GrantsNone.{ungranted_closes_nothing, ungranted_keeps_grants}
 use Rattle.good_history.specs.Good.{IsGood, IsSound}
 use Rattle.good_history.specs.Laws.{AllDecoupled, SoundIsUngranted, UngrantedIsGood, UngrantedIsSound}
 use Rattle.good_history.proofs.Decoupled.{decoupled_is_good, decoupled_is_sound, sound_is_decoupled}

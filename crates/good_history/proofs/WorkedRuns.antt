@@ -3,8 +3,8 @@ use Rattle.std.proofs.Common.{◌≢◌, []}
 use Rattle.tlm_model.specs.declared.platform.Style.TheVariants.{Blocking, Direct, FourPhase}
 use Rattle.tlm_model.specs.Worked.{debug_plan, debugged, empty_plan, enables, enables_plan, ignore_plan, ignored, past_end, past_end_plan, quantum_plan, readback, readback_plan, routed, routed_plan, seven_reads, streaming, streaming_plan, sum_plan, summed}
 use Rattle.tlm_model.proofs.WorkedRuns.{cut_short_is_not_right, debug_is_worked, doubled_is_not_right, empty_is_worked, enables_is_worked, hasty_is_not_right, ignore_is_worked, no_quantum_is_worked, past_end_is_worked, quantum_is_worked, readback_is_worked, routed_is_worked, streaming_is_worked, sum_is_worked, swapped_is_not_right, wrong_byte_is_not_right, wrong_status_is_not_right}
-use Rattle.grant_model.specs.Worked.{revoked, revoked_plan, spent, spent_plan, windowed, windowed_plan}
-use Rattle.grant_model.proofs.WorkedRuns.{each_end_counts, each_point_counts, revoked_is_worked, spent_is_worked, windowed_is_worked}
+use Rattle.good_history.specs.GrantsWorked.{revoked, revoked_plan, spent, spent_plan, windowed, windowed_plan}
+use Rattle.good_history.proofs.GrantsWorked.{each_end_counts, each_point_counts, revoked_is_worked, spent_is_worked, windowed_is_worked}
 use Rattle.good_history.specs.Good.{IsGood}
 use Rattle.good_history.specs.Worked.{GrantsCount, WorkedAreGood, WrongAreNotGood}
 use Rattle.good_history.proofs.Decoupled.{decoupled_is_good}

@@ -3,8 +3,8 @@ use Rattle.std.specs.Prelude.{List}
 use Rattle.tlm_types.specs.declared.entry.Entry.{Entry}
 use Rattle.tlm_model.specs.Kept.{KeepsRequests, EndsRequests}
 use Rattle.tlm_model.specs.Plan.{Plan}
-use Rattle.flow_law.specs.Plans.{KeepsTraffic, EndsTraffic}
-use Rattle.grant_model.specs.Kept.{KeepsGrants, EndsGrants}
+use Rattle.flow_model.specs.Plans.{KeepsTraffic, EndsTraffic}
+use Rattle.good_history.specs.Kept.{KeepsGrants, EndsGrants}
 
 -- A history is sound as far as it has come: it has the points of requests, those of four-phase traffic and those of
 -- grants.

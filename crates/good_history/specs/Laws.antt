@@ -4,9 +4,9 @@ use Rattle.std.specs.List.{AllByRecursion}
 use Rattle.tlm_types.specs.declared.entry.Entry.{Entry}
 use Rattle.tlm_model.specs.Kept.{KeepsRequests, EndsRequests}
 use Rattle.tlm_model.specs.Plan.{Plan}
-use Rattle.flow_law.specs.Plans.{HasNoFourPhase, IsDecoupled, KeepsTraffic, EndsTraffic}
-use Rattle.grant_model.specs.Kept.{KeepsGrants, EndsGrants}
-use Rattle.grant_model.specs.Laws.{ClosesNothing, HasNoDirect}
+use Rattle.flow_model.specs.Plans.{HasNoFourPhase, IsDecoupled, KeepsTraffic, EndsTraffic}
+use Rattle.good_history.specs.Kept.{KeepsGrants, EndsGrants}
+use Rattle.good_history.specs.GrantLaws.{ClosesNothing, HasNoDirect}
 use Rattle.good_history.specs.Good.{IsSound, IsGood}
 
 -- each beginning of a sound history is sound

@@ -1,3 +1,13 @@
 pub mod Good
 pub mod Laws
 pub mod Worked
+pub mod Plain
+pub mod Grants
+pub mod Kept
+pub mod GrantLaws
+pub mod GrantsWorked
+pub mod Own
+pub mod Counting
+pub mod Joined
+pub mod JoinedLaws
+pub mod JoinedWorked

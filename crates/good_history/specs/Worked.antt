@@ -1,8 +1,8 @@
 -- The runs that were made by hand: those of blocking initiators, those of a direct one, and histories that miss a point.
 use Rattle.std.specs.Prelude.{[]}
 use Rattle.tlm_model.specs.Worked.{cut_short, debug_plan, debugged, doubled, empty_plan, enables, enables_plan, hasty, ignore_plan, ignored, past_end, past_end_plan, quantum_plan, readback, readback_plan, routed, routed_plan, seven_reads, streaming, streaming_plan, sum_plan, summed, swapped, wrong_byte, wrong_status}
-use Rattle.grant_model.specs.Worked.{asking, causeless, cut_plan, falling, halved, late, pair_plan, revoked, revoked_plan, spent, spent_plan, unanswered, unasked, unasked_plan, unclosed, unused, windowed, windowed_plan}
-use Rattle.grant_model.specs.Worked.{hasty as hasty_return}
+use Rattle.good_history.specs.GrantsWorked.{asking, causeless, cut_plan, falling, halved, late, pair_plan, revoked, revoked_plan, spent, spent_plan, unanswered, unasked, unasked_plan, unclosed, unused, windowed, windowed_plan}
+use Rattle.good_history.specs.GrantsWorked.{hasty as hasty_return}
 use Rattle.good_history.specs.Good.{IsGood, IsSound}
 
 pub record WorkedAreGood : Type 0 where

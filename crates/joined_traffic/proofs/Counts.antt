@@ -11,7 +11,7 @@ use Rattle.tlm_model.specs.History.{entries_at}
 use Rattle.tlm_model.specs.Plan.{Plan, initiators_of}
 use Rattle.flow_model.specs.Events.{Among, Event, entries}
 use Rattle.flow_model.specs.Platform.{passage_of}
-use Rattle.flow_law.proofs.Forms.{AllDiffer}
+use Rattle.flow_model.proofs.Forms.{AllDiffer}
 use Rattle.route_plan.specs.Counted.{share_at, share_by}
 use Rattle.route_plan.specs.Planned.{planned_at}
 use Rattle.joined_traffic.specs.Accesses.{accesses_at, accesses_below, all_accesses, chosen, numbers_by, sum_below, txn_of, visits}

@@ -22,11 +22,11 @@ use Rattle.flow_model.specs.Events.{Among, Event, Finds, IsAcquire, IsCall, IsRe
 use Rattle.flow_model.specs.Numbers.{IsEnder, released_hop}
 use Rattle.flow_model.specs.Pools.{IsPoolLog, PoolStepBy, slots_after}
 use Rattle.flow_model.specs.Slots.{no_slots}
-use Rattle.flow_law.proofs.Each.{at_each}
-use Rattle.flow_law.proofs.Lives.{AcquireOf, ReleaseOf}
-use Rattle.flow_law.proofs.More.{is_backed_more}
-use Rattle.flow_law.proofs.Reading.{backed_call, backed_release}
-use Rattle.flow_law.proofs.Splits.{among_at, among_split, among_whole, from_at}
+use Rattle.flow_model.proofs.Each.{at_each}
+use Rattle.flow_model.proofs.Lives.{AcquireOf, ReleaseOf}
+use Rattle.flow_model.proofs.More.{is_backed_more}
+use Rattle.flow_model.proofs.Reading.{backed_call, backed_release}
+use Rattle.flow_model.proofs.Splits.{among_at, among_split, among_whole, from_at}
 use Rattle.flow_model.specs.Called.{HasCalled}
 use Rattle.joined_traffic.proofs.PoolEnds.{all_released}
 

@@ -20,12 +20,12 @@ use Rattle.flow_model.specs.Table.{ending, sequences_of}
 use Rattle.flow_model.specs.World.{World, Passage, hop_at, row_by, is_refused, row_of}
 use Rattle.flow_model.specs.Events.{Among, Event, Finds, IsCall, entries, hop_log, at}
 use Rattle.flow_model.specs.Numbers.{IsEnder, IsEnding}
-use Rattle.flow_law.specs.Law.{HasSteps}
-use Rattle.flow_law.specs.Counting.{HasSequence}
-use Rattle.flow_law.proofs.Forms.{Saying, says, sayings}
-use Rattle.flow_law.proofs.Sayings.{In, said_in}
-use Rattle.flow_law.proofs.CallLists.{call_of, calls, calls_at, entries-at}
-use Rattle.flow_law.proofs.Splits.{among_at, from_at}
+use Rattle.flow_model.specs.Law.{HasSteps}
+use Rattle.flow_model.specs.Counting.{HasSequence}
+use Rattle.flow_model.proofs.Forms.{Saying, says, sayings}
+use Rattle.flow_model.proofs.Sayings.{In, said_in}
+use Rattle.flow_model.proofs.CallLists.{call_of, calls, calls_at, entries-at}
+use Rattle.flow_model.proofs.Splits.{among_at, from_at}
 use Rattle.flow_model.specs.Called.{HasCalled}
 use Rattle.joined_traffic.proofs.HopSteps.{FitsBy, Known, fits}
 

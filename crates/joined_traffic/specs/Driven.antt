@@ -12,8 +12,8 @@ use Rattle.flow_model.specs.World.{World, Passage, hop_at, hop_count}
 use Rattle.flow_model.specs.Events.{Among, Event, FindsAt, IsTake, entries}
 use Rattle.flow_model.specs.Called.{HasCalled}
 use Rattle.flow_model.specs.Platform.{passage_of, world_of}
-use Rattle.joined_runs.specs.Counting.{IsRising}
-use Rattle.joined_runs.specs.Joined.{EndsOwn, KeepsOwn}
+use Rattle.good_history.specs.Counting.{IsRising}
+use Rattle.good_history.specs.Joined.{EndsOwn, KeepsOwn}
 use Rattle.route_plan.specs.Counted.{share_at}
 use Rattle.joined_traffic.specs.Accesses.{accesses_at, entries_of}
 

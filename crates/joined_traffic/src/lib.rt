@@ -10,7 +10,14 @@
 //!   is good.
 //!
 //! Nothing here runs: each function carries a law.
+//!
+//! **Grants**: what each initiator, each memory and the gates tell of grants makes the points of grants of the whole
+//! history. `specs/Parts` says what each tells, `specs/Table` what the table of a direct initiator is, and
+//! `specs/GrantLaws` that the whole then has the points.
 #![tactic(auto)]
+
+pub mod grant_laws;
+pub mod table;
 
 ghost use Rattle.joined_traffic.specs.Laws.{EndedHasPremises, EndedHasRequests, EndedHasTraffic, EndedIsGood, EndedIsSound, UngrantedHasGrants};
 

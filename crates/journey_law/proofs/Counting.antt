@@ -8,7 +8,7 @@ use Rattle.tlm_types.specs.declared.entry.Entry.{Entry}
 use Rattle.tlm_model.specs.History.{entries_at, is_object}
 use Rattle.tlm_model.specs.Requests.{is_txn}
 use Rattle.flow_model.specs.Calls.{is_of}
-use Rattle.flow_law.specs.Counting.{own_count}
+use Rattle.flow_model.specs.Counting.{own_count}
 
 one_more : (y : TxnId) (e : Entry) (l : List Entry) → own_count y (e ∷ l) ≡ cond {A = ℕ} (is_of y e) 1 0 + own_count y l
 one_more y e l = sum_by-cons (λ (d : Entry). cond {A = ℕ} (is_of y d) 1 0) e l

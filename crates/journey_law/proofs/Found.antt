@@ -14,8 +14,8 @@ use Rattle.token_book.specs.Account.{Slip}
 use Rattle.flow_model.specs.World.{Passage, hop_at, hop_count, is_refused, row_of}
 use Rattle.flow_model.specs.Events.{Among, Event, Finds, IsCall}
 use Rattle.flow_model.specs.Platform.{passage_of, world_of}
-use Rattle.flow_law.specs.Valid.{HasNoCycle}
-use Rattle.flow_law.proofs.Ways.{world_law}
+use Rattle.flow_model.specs.Valid.{HasNoCycle}
+use Rattle.flow_model.proofs.Ways.{world_law}
 use Rattle.cargo_model.specs.declared.cargo.Cargo.{Cargo}
 use Rattle.cargo_model.specs.Called.{IsAnswerIn}
 use Rattle.cargo_model.specs.Counts.{owed_by}

@@ -14,12 +14,12 @@ use Rattle.flow_model.specs.Backed.{IsBacked}
 use Rattle.flow_model.specs.Called.{HasCalled}
 use Rattle.flow_model.specs.Events.{Among, Event, Finds, IsAcquire, IsReleased, IsTake}
 use Rattle.flow_model.specs.Platform.{world_of}
-use Rattle.flow_law.proofs.Each.{at_each}
-use Rattle.flow_law.proofs.More.{is_backed_more}
-use Rattle.flow_law.proofs.Reading.{backed_call}
-use Rattle.flow_law.proofs.Splits.{among_split, among_whole}
-use Rattle.flow_law.specs.Valid.{HasNoCycle}
-use Rattle.flow_law.proofs.Ways.{world_law}
+use Rattle.flow_model.proofs.Each.{at_each}
+use Rattle.flow_model.proofs.More.{is_backed_more}
+use Rattle.flow_model.proofs.Reading.{backed_call}
+use Rattle.flow_model.proofs.Splits.{among_split, among_whole}
+use Rattle.flow_model.specs.Valid.{HasNoCycle}
+use Rattle.flow_model.proofs.Ways.{world_law}
 use Rattle.joined_traffic.specs.Accesses.{sum_below, txn_of}
 use Rattle.joined_traffic.proofs.MemoryLemmas.{has_among}
 use Rattle.begun_traffic.proofs.CallCounts.{called_first}

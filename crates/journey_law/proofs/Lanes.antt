@@ -27,7 +27,7 @@ use Rattle.numbered_log.proofs.Ordered.{among_has, each_has}
 use Rattle.flow_model.specs.Answers.{request_answer, response_answer}
 use Rattle.flow_model.specs.Events.{Among, Event, Finds, IsCall, IsPhase, entries}
 use Rattle.flow_model.specs.Platform.{world_of}
-use Rattle.flow_law.specs.Valid.{HasNoCycle}
+use Rattle.flow_model.specs.Valid.{HasNoCycle}
 use Rattle.hop_object.specs.Hops.{HasSent, board_of, phase_to, reached_of, rules_of}
 use Rattle.hop_object.specs.Lanes.{side_of, waits}
 use Rattle.hop_object.specs.Objects.{carried_by, of_item}

@@ -14,8 +14,8 @@ use Rattle.token_book.specs.declared.ticket.Ticket.{Ticket}
 use Rattle.flow_model.specs.World.{Passage, World, hop_at, hop_count, row_of}
 use Rattle.flow_model.specs.Events.{Among, Event, Finds, IsCall}
 use Rattle.flow_model.specs.Platform.{passage_of, world_of}
-use Rattle.flow_law.specs.Valid.{HasNoCycle}
-use Rattle.flow_law.proofs.Ways.{world_law}
+use Rattle.flow_model.specs.Valid.{HasNoCycle}
+use Rattle.flow_model.proofs.Ways.{world_law}
 use Rattle.cargo_model.specs.Counts.{calls_down}
 use Rattle.cargo_model.specs.Known.{Known}
 use Rattle.router_node.specs.Items.{HasDebt, IsHeld}

@@ -17,9 +17,9 @@ use Rattle.flow_model.specs.Backed.{IsBacked}
 use Rattle.flow_model.specs.Events.{Among, Event, Finds, entries}
 use Rattle.flow_model.specs.Issue.{issues_from}
 use Rattle.flow_model.specs.Platform.{passage_of, world_of}
-use Rattle.flow_law.specs.Counting.{own_count}
-use Rattle.flow_law.specs.Valid.{HasNoCycle}
-use Rattle.flow_law.proofs.Ways.{world_law}
+use Rattle.flow_model.specs.Counting.{own_count}
+use Rattle.flow_model.specs.Valid.{HasNoCycle}
+use Rattle.flow_model.proofs.Ways.{world_law}
 use Rattle.joined_traffic.specs.Accesses.{txn_of}
 use Rattle.joined_traffic.proofs.AccessLemmas.{entry_among}
 use Rattle.joined_traffic.proofs.MemoryLemmas.{has_among}

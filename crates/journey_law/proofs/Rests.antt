@@ -11,8 +11,8 @@ use Rattle.flow_model.specs.World.{Passage, World, hop_at, hop_count}
 use Rattle.flow_model.specs.Backed.{IsBacked}
 use Rattle.flow_model.specs.Events.{Among, Event, Finds, IsReleased}
 use Rattle.flow_model.specs.Platform.{passage_of, world_of}
-use Rattle.flow_law.specs.Valid.{HasNoCycle}
-use Rattle.flow_law.proofs.Ways.{world_law}
+use Rattle.flow_model.specs.Valid.{HasNoCycle}
+use Rattle.flow_model.proofs.Ways.{world_law}
 use Rattle.joined_traffic.specs.Accesses.{sum_below}
 use Rattle.joined_traffic.proofs.MemoryLemmas.{has_among}
 use Rattle.begun_traffic.proofs.PartLemmas.{released_calls_are_whole}

@@ -14,7 +14,7 @@ use Rattle.tlm_model.proofs.InitiatorLemmas.{initiator_from}
 use Rattle.flow_model.specs.Backed.{IsBacked}
 use Rattle.flow_model.specs.Events.{Among, Event}
 use Rattle.flow_model.specs.Platform.{passage_of, world_of}
-use Rattle.flow_law.specs.Valid.{HasNoCycle}
+use Rattle.flow_model.specs.Valid.{HasNoCycle}
 use Rattle.joined_traffic.specs.Accesses.{txn_of}
 use Rattle.begun_traffic.specs.Begun.{HaveMade}
 use Rattle.begun_traffic.specs.Told.{Told}

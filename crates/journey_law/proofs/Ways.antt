@@ -20,8 +20,8 @@ use Rattle.flow_model.specs.World.{Passage, World, hop_at, hop_count, row_of}
 use Rattle.flow_model.specs.Events.{Event, Finds, IsCall, IsTake}
 use Rattle.flow_model.specs.Numbers.{IsEnder}
 use Rattle.flow_model.specs.Platform.{passage_of, world_of}
-use Rattle.flow_law.specs.Valid.{HasNoCycle}
-use Rattle.flow_law.proofs.Ways.{world_law}
+use Rattle.flow_model.specs.Valid.{HasNoCycle}
+use Rattle.flow_model.proofs.Ways.{world_law}
 use Rattle.cargo_model.specs.declared.cargo.Cargo.{Cargo}
 use Rattle.cargo_model.specs.Called.{IsAnswerIn}
 use Rattle.cargo_model.specs.Known.{Known, object_number}

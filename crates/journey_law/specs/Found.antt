@@ -13,7 +13,7 @@ use Rattle.hop_object.specs.declared.lane.Side.TheVariants.{Down as Downward, Up
 use Rattle.flow_model.specs.World.{Passage, hop_at, hop_count}
 use Rattle.flow_model.specs.Events.{Among, Event, Finds, IsCall}
 use Rattle.flow_model.specs.Platform.{passage_of, world_of}
-use Rattle.flow_law.specs.Valid.{HasNoCycle}
+use Rattle.flow_model.specs.Valid.{HasNoCycle}
 use Rattle.cargo_model.specs.declared.cargo.Cargo.{Cargo}
 use Rattle.cargo_model.specs.Known.{object_number, objects_of}
 use Rattle.cargo_net.specs.Carried.{IsCarried}

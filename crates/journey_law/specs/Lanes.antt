@@ -10,7 +10,7 @@ use Rattle.tlm_types.specs.declared.words.TxnId.{TxnId}
 use Rattle.tlm_model.specs.Plan.{Plan}
 use Rattle.shared_object.specs.Standing.{AreVouched}
 use Rattle.flow_model.specs.Events.{Among, Event}
-use Rattle.flow_law.specs.Valid.{HasNoCycle}
+use Rattle.flow_model.specs.Valid.{HasNoCycle}
 use Rattle.hop_object.specs.Objects.{carried_by}
 use Rattle.hop_object.specs.declared.lane.Side.{Side}
 use Rattle.hop_object.specs.declared.lane.Side.TheVariants as side

@@ -15,7 +15,7 @@ use Rattle.flow_model.specs.Called.{HasCalled}
 use Rattle.flow_model.specs.Backed.{IsBacked}
 use Rattle.flow_model.specs.Events.{Among, Event, Finds, IsTake}
 use Rattle.flow_model.specs.Platform.{world_of}
-use Rattle.flow_law.specs.Valid.{HasNoCycle}
+use Rattle.flow_model.specs.Valid.{HasNoCycle}
 use Rattle.joined_traffic.specs.Accesses.{txn_of}
 use Rattle.begun_traffic.specs.Known.{HasFirstCalls, HasMoved, HasWholeCalls}
 use Rattle.begun_end.specs.Cargos.{CoversHop, IsReplyAt}

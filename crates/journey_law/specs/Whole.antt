@@ -14,8 +14,8 @@ use Rattle.token_book.specs.declared.ticket.Ticket.{Ticket}
 use Rattle.flow_model.specs.World.{Passage, hop_count}
 use Rattle.flow_model.specs.Events.{Event, entries}
 use Rattle.flow_model.specs.Platform.{passage_of}
-use Rattle.flow_law.specs.Valid.{HasNoCycle}
-use Rattle.grant_model.specs.Kept.{KeepsGrants}
+use Rattle.flow_model.specs.Valid.{HasNoCycle}
+use Rattle.good_history.specs.Kept.{KeepsGrants}
 use Rattle.good_history.specs.Good.{IsSound}
 use Rattle.joined_traffic.specs.Accesses.{numbers_by, sum_below, txn_of}
 use Rattle.begun_traffic.specs.Parts.{StandsAs}

@@ -20,14 +20,14 @@ use Rattle.tlm_model.specs.Requests.{refused_of}
 use Rattle.tlm_model.specs.Route.{Route, route_of}
 use Rattle.flow_model.specs.Events.{Event, entries}
 use Rattle.flow_model.specs.Platform.{passage_of}
-use Rattle.flow_law.specs.Valid.{HasNoCycle}
+use Rattle.flow_model.specs.Valid.{HasNoCycle}
 use Rattle.tlm_model.proofs.InitiatorLemmas.{initiator_from}
 use Rattle.report_model.specs.Ends.{IsEndOf, refused_at}
 use Rattle.report_model.specs.Laws.{IsEndByLatencies}
 use Rattle.report_model.proofs.Ending.{ends_by_latencies}
-use Rattle.joined_runs.specs.Counting.{IsRising}
-use Rattle.joined_runs.specs.Own.{own}
-use Rattle.joined_runs.proofs.OwnLemmas.{own_is_enough}
+use Rattle.good_history.specs.Counting.{IsRising}
+use Rattle.good_history.specs.Own.{own}
+use Rattle.good_history.proofs.OwnLemmas.{own_is_enough}
 use Rattle.route_plan.specs.Counted.{share_at, share_by}
 use Rattle.route_plan.specs.Paths.{once}
 use Rattle.route_plan.specs.Planned.{asks_in, at_gates, at_hop, at_memory, at_pool, by_fourphase, gates_by, is_routed_to, leads_to, share_of}
@@ -44,7 +44,7 @@ use Rattle.port_model.specs.Stages.Stage.{Ahead}
 use Rattle.port_model.proofs.HandingIn.{ports_hand_in}
 use Rattle.port_model.proofs.OwnReplies.{ends_are_theirs, replies_are_own}
 use Rattle.net_end.specs.Finished.{HasEndedWhole, IsDone, IsPortDone, IsRunDone}
-use Rattle.joined_grants.specs.Parts.{EndsOwnGrants, KeepsOwnGrants}
+use Rattle.joined_traffic.specs.Parts.{EndsOwnGrants, KeepsOwnGrants}
 use Rattle.port_model.specs.Closings.{HasAllOf}
 use Rattle.net_end.specs.Laws.{InitiatorsEnd, PortsTellGrants}
 use Rattle.net_end.proofs.PortGrants.{port_ends, port_keeps}

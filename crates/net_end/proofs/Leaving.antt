@@ -39,13 +39,13 @@ use Rattle.flow_model.specs.Platform.{world_of}
 use Rattle.flow_model.specs.Pools.{IsPoolLog, Life, slots_after}
 use Rattle.flow_model.specs.Slots.{no_slots}
 use Rattle.flow_model.specs.Traffic.{slots_of}
-use Rattle.flow_law.specs.Law.{HasSteps}
-use Rattle.flow_law.proofs.More.{is_backed_more}
+use Rattle.flow_model.specs.Law.{HasSteps}
+use Rattle.flow_model.proofs.More.{is_backed_more}
 use Rattle.hop_object.specs.Hops.{board_of, reached_of, rules_of}
 use Rattle.hop_object.proofs.MarkLemmas.{marks_tell}
 use Rattle.payload_pool.specs.Lives.{IsOfLog}
 use Rattle.payload_pool.specs.Slots.{SlotView, is_live, slot_at}
-use Rattle.joined_runs.specs.Joined.{IsLogOf}
+use Rattle.good_history.specs.Joined.{IsLogOf}
 use Rattle.joined_traffic.specs.Accesses.{sum_below}
 use Rattle.joined_traffic.specs.Ended.{HasFreed, HasSpent, HaveLeft, MarksTell}
 use Rattle.shared_object.specs.Written.{placed}

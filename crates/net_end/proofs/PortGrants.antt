@@ -24,15 +24,15 @@ use Rattle.flow_model.specs.Backed.{BackedBy, IsBacked}
 use Rattle.flow_model.specs.Events.{Among, Event, IsTake, entries}
 use Rattle.flow_model.specs.Platform.{passage_of, world_of}
 use Rattle.flow_model.specs.Traffic.{slots_of}
-use Rattle.flow_law.specs.Law.{Premises}
-use Rattle.flow_law.proofs.Each.{at_each}
-use Rattle.flow_law.proofs.Splits.{among_self, among_whole}
-use Rattle.grant_model.specs.Grants.{asks, has_dmi, is_hinting, last_of, plain_of}
-use Rattle.grant_model.specs.Kept.{IsAskedFor, is_direct_way}
-use Rattle.grant_model.specs.Plain.{is_direct, is_plain_at, may_go_direct}
-use Rattle.joined_runs.specs.Own.{own}
-use Rattle.joined_runs.proofs.CountLemmas.{has_kept}
-use Rattle.joined_grants.specs.Parts.{EndsOwnGrants, HasOwnWay, HasReturned, IsAskSettled, IsOwnClosing, IsOwnUse, KeepsOwnGrants, KnowsAllGiven, KnowsClosing, is_invalidation}
+use Rattle.flow_model.specs.Law.{Premises}
+use Rattle.flow_model.proofs.Each.{at_each}
+use Rattle.flow_model.proofs.Splits.{among_self, among_whole}
+use Rattle.good_history.specs.Grants.{asks, has_dmi, is_hinting, last_of, plain_of}
+use Rattle.good_history.specs.Kept.{IsAskedFor, is_direct_way}
+use Rattle.good_history.specs.Plain.{is_direct, is_plain_at, may_go_direct}
+use Rattle.good_history.specs.Own.{own}
+use Rattle.good_history.proofs.CountLemmas.{has_kept}
+use Rattle.joined_traffic.specs.Parts.{EndsOwnGrants, HasOwnWay, HasReturned, IsAskSettled, IsOwnClosing, IsOwnUse, KeepsOwnGrants, KnowsAllGiven, KnowsClosing, is_invalidation}
 use Rattle.joined_traffic.specs.Accesses.{txn_of}
 use Rattle.joined_traffic.specs.Ended.{HaveEnded}
 use Rattle.joined_traffic.specs.Issued.{HaveIssued}

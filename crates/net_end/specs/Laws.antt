@@ -15,9 +15,9 @@ use Rattle.tlm_model.specs.declared.platform.Style.TheVariants.{FourPhase}
 use Rattle.tlm_model.specs.Plan.{Plan, Initiator, initiators_of}
 use Rattle.region_object.specs.Grants.{IsGrantLog}
 use Rattle.flow_model.specs.Events.{Event, entries}
-use Rattle.flow_law.specs.Valid.{HasNoCycle}
-use Rattle.joined_grants.specs.Parts.{EndsOwnGrants, KeepsOwnGrants}
-use Rattle.joined_runs.specs.Own.{own}
+use Rattle.flow_model.specs.Valid.{HasNoCycle}
+use Rattle.joined_traffic.specs.Parts.{EndsOwnGrants, KeepsOwnGrants}
+use Rattle.good_history.specs.Own.{own}
 use Rattle.joined_traffic.specs.Ended.{HaveLeft}
 use Rattle.port_model.specs.Closings.{HasAllOf}
 use Rattle.net_end.specs.Finished.{HasEndedWhole, IsDone}

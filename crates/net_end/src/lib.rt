@@ -5,8 +5,14 @@
 //! - `specs/Laws`: what the objects leave is what the law of ended runs wants of them, and with the initiators
 //!   the whole run has ended.
 //!
+//! - `specs/Done` says what an initiator hands in of its grants, `specs/Leaves` what it leaves that has finished, and
+//!   `specs/GrantLaws` that with what the memories' logs tell of gates the whole history has the points of grants, at its
+//!   end too (IEEE 1666-2011, clause 11.2); and so has a closed history whose net is taken apart.
+//!
 //! Nothing here runs: each function carries a law.
 #![tactic(auto)]
+
+pub mod grant_laws;
 
 ghost use Rattle.net_end.specs.Laws.{InitiatorsEnd, MemoriesLeaveGates, ObjectsLeave, PortsTellGrants};
 

@@ -24,9 +24,9 @@ use Rattle.flow_model.specs.Slots.{no_slots}
 use Rattle.route_plan.specs.Planned.{planned_at, share_of}
 use Rattle.route_plan.specs.Counted.{share_at}
 use Rattle.flow_check.specs.Worked.{completing, lone, written}
-use Rattle.flow_law.proofs.Sayings.{same_txn}
+use Rattle.flow_model.proofs.Sayings.{same_txn}
 use Rattle.flow_check.proofs.WorkedHistories.{completing_works}
-use Rattle.joined_runs.specs.Joined.{HasLogs}
+use Rattle.good_history.specs.Joined.{HasLogs}
 use Rattle.flow_model.specs.Called.{HasCalled}
 use Rattle.joined_traffic.specs.Driven.{IsDriven, spent_at}
 use Rattle.joined_traffic.specs.Ended.{HasFinished, HasSpent, HaveLeft}

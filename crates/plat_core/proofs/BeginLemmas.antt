@@ -8,7 +8,7 @@ use Rattle.tlm_types.specs.declared.words.ObjectNo.TheVariants.{Memory as memory
 use Rattle.tlm_model.specs.declared.operation.Operation.{Operation}
 use Rattle.tlm_model.specs.declared.platform.InitiatorRow.{InitiatorRow}
 use Rattle.tlm_model.specs.Plan.{Plan, Initiator, initiators_from, initiators_of}
-use Rattle.grant_model.specs.Laws.{HasNoInvalidation}
+use Rattle.good_history.specs.GrantLaws.{HasNoInvalidation}
 use Rattle.good_history.specs.Good.{IsSound}
 use Rattle.good_history.proofs.Ungranted.{sound_empty}
 use Rattle.region_object.specs.Region.{LoggedMemory}

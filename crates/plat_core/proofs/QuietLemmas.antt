@@ -10,8 +10,8 @@ use Rattle.tlm_model.specs.declared.platform.Platform.{Platform}
 use Rattle.tlm_model.specs.Plan.{Plan, Initiator, initiators_from, initiators_of}
 use Rattle.tlm_model.specs.Requests.{Request, requests_of}
 use Rattle.tlm_model.proofs.HistoryLemmas.{all_at}
-use Rattle.grant_model.specs.Laws.{HasNoInvalidation, IsNoInvalidation}
-use Rattle.grant_model.proofs.Ungranted.{IsNoCloser, no_closers}
+use Rattle.good_history.specs.GrantLaws.{HasNoInvalidation, IsNoInvalidation}
+use Rattle.good_history.proofs.GrantsNone.{IsNoCloser, no_closers}
 use Rattle.traffic_script.specs.declared.piece.Piece.{Piece}
 use Rattle.traffic_script.specs.Pieces.{repeated, written_out}
 use Rattle.quantum_keeper.specs.Keeper.{current_time}

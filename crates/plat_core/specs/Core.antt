@@ -7,7 +7,7 @@ use Rattle.tlm_model.specs.declared.platform.MemoryRow.{MemoryRow}
 use Rattle.tlm_model.specs.declared.platform.Platform.{Platform}
 use Rattle.tlm_model.specs.History.{entries_at}
 use Rattle.tlm_model.specs.Plan.{Plan, Initiator, initiators_of}
-use Rattle.grant_model.specs.Laws.{HasNoInvalidation}
+use Rattle.good_history.specs.GrantLaws.{HasNoInvalidation}
 use Rattle.good_history.specs.Good.{IsSound}
 use Rattle.region_object.specs.Region.{LoggedMemory}
 use Rattle.time_board.specs.declared.rounds.Member.{Member}

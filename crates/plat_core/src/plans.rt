@@ -1,7 +1,7 @@
 // Which plans the core can run.
 ghost use Rattle.std.specs.Prelude.{◌≡◌, ◌↔◌, true, false, All};
 ghost use Rattle.std.specs.List.{AllByRecursion};
-ghost use Rattle.grant_model.specs.Laws.{HasNoInvalidation, IsNoInvalidation};
+ghost use Rattle.good_history.specs.GrantLaws.{HasNoInvalidation, IsNoInvalidation};
 ghost use Rattle.route_plan.specs.Shape.{IsBlocking};
 ghost use Rattle.traffic_script.specs.declared.piece.Piece.{Piece as PieceView};
 

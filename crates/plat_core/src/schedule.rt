@@ -1,6 +1,6 @@
 // Whole runs on one thread.
 ghost use Rattle.std.specs.Prelude.{IfOk};
-ghost use Rattle.grant_model.specs.Laws.{HasNoInvalidation};
+ghost use Rattle.good_history.specs.GrantLaws.{HasNoInvalidation};
 ghost use Rattle.plat_core.specs.Outcome.{IsScheduled, IsTurnOf};
 ghost use Rattle.route_plan.specs.Shape.{IsBlocking};
 ghost use Rattle.run_outcome.specs.Outcome.{IsWhole};

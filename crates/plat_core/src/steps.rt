@@ -1,7 +1,7 @@
 // The core.
 ghost use Rattle.std.specs.Prelude.{◌≡◌, ◌<◌, ◌≤◌, length, map, true, false, IfOk};
 ghost use Rattle.tlm_model.specs.Log.{log_bytes};
-ghost use Rattle.grant_model.specs.Laws.{HasNoInvalidation};
+ghost use Rattle.good_history.specs.GrantLaws.{HasNoInvalidation};
 ghost use Rattle.region_object.specs.Region.{LoggedMemory};
 ghost use Rattle.route_plan.specs.Shape.{IsBlocking};
 ghost use Rattle.time_board.specs.declared.rounds.Member.{Member};

@@ -1,3 +1,6 @@
 pub mod TicketLemmas
 pub mod PartLemmas
 pub mod TakenLemmas
+pub mod OrderLemmas
+pub mod LogLemmas
+pub mod WholeLemmas

@@ -1,2 +1,5 @@
 pub mod Apart
 pub mod Taking
+pub mod Entries
+pub mod Run
+pub mod End

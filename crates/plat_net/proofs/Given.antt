@@ -21,7 +21,7 @@ use Rattle.flow_model.specs.Events.{Among, Event, Finds, IsTake}
 use Rattle.flow_model.specs.Platform.{addresses_of, passage_by, passage_of, passage_to}
 use Rattle.flow_model.specs.World.{Passage, hop_at, hop_count}
 use Rattle.tlm_model.proofs.InitiatorLemmas.{initiator_from}
-use Rattle.flow_law.proofs.Ways.{world_law}
+use Rattle.flow_model.proofs.Ways.{world_law}
 use Rattle.route_plan.specs.Routes.{row_walk}
 use Rattle.route_plan.specs.Shape.{IsShape}
 use Rattle.route_plan.specs.Valid.{IsValid, hop_count as route_hops}

@@ -8,7 +8,7 @@ use Rattle.tlm_model.specs.declared.platform.Platform.{Platform}
 use Rattle.tlm_model.specs.declared.platform.Target.{Target}
 use Rattle.tlm_model.specs.Plan.{Plan}
 use Rattle.flow_model.specs.World.{Passage, hop_at, hop_count}
-use Rattle.flow_law.specs.Valid.{HasNoCycle}
+use Rattle.flow_model.specs.Valid.{HasNoCycle}
 use Rattle.route_plan.specs.Shape.{IsShape}
 use Rattle.cargo_model.specs.Known.{Known}
 use Rattle.cargo_model.specs.Tickets.{AreApart}

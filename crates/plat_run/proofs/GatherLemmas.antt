@@ -14,8 +14,8 @@ use Rattle.tlm_types.specs.declared.ends.EndOf.{EndOf}
 use Rattle.tlm_types.specs.declared.entry.Content.{Content}
 use Rattle.tlm_model.specs.Plan.{Plan}
 use Rattle.run_outcome.proofs.ListLemmas.{at_push, within}
-use Rattle.grant_end.specs.Finished.{IsFinished}
-use Rattle.run_end.specs.End.{AreFinished}
+use Rattle.net_end.specs.Leaves.{IsFinished}
+use Rattle.plat_end.specs.End.{AreFinished}
 
 -- what stands at a place is read there
 read_there : {A : Type 0} (xs : List A) (k : ℕ) (x : A) → get_elem? xs k ≡ some x → slice_index_or xs k x ≡ x

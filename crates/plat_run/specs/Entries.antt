@@ -1,2 +1,2 @@
 -- The entries of a closed history, for those who tell of it.
-pub use Rattle.run_end.specs.Entries.{entries_read, entry_read}
+pub use Rattle.plat_end.specs.Entries.{entries_read, entry_read}

@@ -2,7 +2,7 @@
 ghost use Rattle.std.specs.Prelude.{◌≡◌, true, All, length, IfOk};
 ghost use Rattle.run_queue.specs.Queue.{AreNumbered};
 ghost use Rattle.run_jobs.specs.Actors.{is_done, number_of};
-ghost use Rattle.run_end.specs.End.{AreFinished};
+ghost use Rattle.plat_end.specs.End.{AreFinished};
 
 use plat_net::{PlatNote, TlmLaw};
 use route_plan::Plan;

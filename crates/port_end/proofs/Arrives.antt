@@ -27,9 +27,9 @@ use Rattle.flow_model.specs.World.{Passage, hop_at}
 use Rattle.flow_model.specs.Events.{Among, Event, Finds}
 use Rattle.flow_model.specs.Numbers.{EndIs, IsEnder}
 use Rattle.flow_model.specs.Platform.{passage_of, world_of}
-use Rattle.flow_law.proofs.More.{end_more, finds_more}
-use Rattle.flow_law.specs.Valid.{HasNoCycle}
-use Rattle.flow_law.proofs.Ways.{world_law}
+use Rattle.flow_model.proofs.More.{end_more, finds_more}
+use Rattle.flow_model.specs.Valid.{HasNoCycle}
+use Rattle.flow_model.proofs.Ways.{world_law}
 use Rattle.cargo_model.specs.Known.{event_of, object_number}
 use Rattle.cargo_model.specs.Laws.{Case, knows}
 use Rattle.cargo_model.specs.Origins.{AreThere}

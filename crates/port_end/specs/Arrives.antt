@@ -15,7 +15,7 @@ use Rattle.token_book.specs.Purse.{Purse, left_of}
 use Rattle.generic_payload.specs.Payload.{PayloadView}
 use Rattle.flow_model.specs.World.{hop_at}
 use Rattle.flow_model.specs.Events.{Event, Finds, IsCall}
-use Rattle.flow_law.specs.Valid.{HasNoCycle}
+use Rattle.flow_model.specs.Valid.{HasNoCycle}
 use Rattle.cargo_model.specs.Known.{event_of, object_number}
 use Rattle.cargo_model.specs.Laws.{Case, HasEnded, IsBack, knows}
 use Rattle.cargo_model.specs.Tickets.{Pulls, PullsOwed}

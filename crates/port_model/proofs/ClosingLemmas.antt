@@ -10,7 +10,7 @@ use Rattle.tlm_model.specs.Plan.{Plan}
 use Rattle.tlm_model.specs.Requests.{got_in}
 use Rattle.tlm_model.specs.Scripts.{first_gate}
 use Rattle.flow_model.specs.Events.{Among, Event}
-use Rattle.joined_grants.specs.Parts.{IsOwnClosing, is_invalidation}
+use Rattle.joined_traffic.specs.Parts.{IsOwnClosing, is_invalidation}
 use Rattle.port_model.specs.Closings.{HasAllOf, IsClosingOf, count_open, gates_given_by, is_closed_at, open_gates}
 
 -- a history with more events has those of before

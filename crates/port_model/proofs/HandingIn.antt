@@ -18,7 +18,7 @@ use Rattle.flow_model.specs.Events.{Among, Event}
 use Rattle.flow_model.specs.Issue.{current_from, settled}
 use Rattle.flow_model.specs.Numbers.{EndIs}
 use Rattle.flow_model.specs.Platform.{passage_of, world_of}
-use Rattle.flow_law.proofs.More.{end_more}
+use Rattle.flow_model.proofs.More.{end_more}
 use Rattle.report_model.specs.Ends.{refused_at}
 use Rattle.joined_traffic.specs.Accesses.{sum_below, txn_of}
 use Rattle.joined_traffic.specs.Issued.{Before, EndsBefore, HasReply}

@@ -25,9 +25,9 @@ use Rattle.flow_model.specs.Platform.{passage_of, world_of}
 use Rattle.flow_model.specs.Pools.{PoolStepBy, slots_after}
 use Rattle.flow_model.specs.Slots.{no_slots}
 use Rattle.flow_model.specs.Traffic.{slots_of}
-use Rattle.flow_law.proofs.Each.{at_each}
-use Rattle.flow_law.proofs.Sayings.{same_txn}
-use Rattle.flow_law.proofs.Splits.{among_at, among_split}
+use Rattle.flow_model.proofs.Each.{at_each}
+use Rattle.flow_model.proofs.Sayings.{same_txn}
+use Rattle.flow_model.proofs.Splits.{among_at, among_split}
 use Rattle.report_model.specs.Ends.{end_with, refused_at}
 use Rattle.report_model.proofs.Ending.{ends_by_accesses}
 use Rattle.joined_traffic.specs.Accesses.{txn_of}

@@ -13,7 +13,7 @@ use Rattle.tlm_model.specs.Requests.{Request, has_no_route}
 use Rattle.flow_model.specs.Events.{Among, Event}
 use Rattle.flow_model.specs.Issue.{issues_from, settled}
 use Rattle.flow_model.specs.Platform.{world_of}
-use Rattle.flow_law.proofs.More.{end_more}
+use Rattle.flow_model.proofs.More.{end_more}
 use Rattle.report_model.specs.Ends.{refused_at}
 use Rattle.joined_traffic.specs.Accesses.{sum_below, txn_of}
 use Rattle.joined_traffic.specs.Issued.{Before, EndsBefore, HasReply}

@@ -11,9 +11,9 @@ use Rattle.tlm_model.specs.History.{IsNumbered, entries_at, is_object}
 use Rattle.tlm_model.specs.Plan.{Plan, Initiator}
 use Rattle.tlm_model.specs.Scripts.{first_gate}
 use Rattle.flow_model.specs.Events.{Among, Event}
-use Rattle.grant_model.specs.Grants.{closes}
-use Rattle.grant_model.specs.Kept.{GivesGatesInOrder}
-use Rattle.joined_grants.specs.Parts.{HasReturned, IsOwnClosing, is_invalidation}
+use Rattle.good_history.specs.Grants.{closes}
+use Rattle.good_history.specs.Kept.{GivesGatesInOrder}
+use Rattle.joined_traffic.specs.Parts.{HasReturned, IsOwnClosing, is_invalidation}
 use Rattle.route_plan.specs.Planned.{asks_in, invalidates}
 
 -- A history has all of these events; it is numbered, and each gate is given in order. An event at a memory stands in that memory's log at its number.

@@ -11,7 +11,7 @@ use Rattle.tlm_model.specs.Requests.{Request, numbers_in, requests_of, refused_o
 use Rattle.flow_model.specs.World.{Passage}
 use Rattle.flow_model.specs.Events.{Among, Event, entries}
 use Rattle.flow_model.specs.Numbers.{EndIs}
-use Rattle.flow_law.specs.Valid.{HasNoCycle}
+use Rattle.flow_model.specs.Valid.{HasNoCycle}
 use Rattle.flow_model.specs.Platform.{passage_of, world_of}
 use Rattle.report_model.specs.Ends.{IsEndOf, end_with, refused_at}
 use Rattle.joined_traffic.specs.Accesses.{txn_of}

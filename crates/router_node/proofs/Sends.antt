@@ -21,7 +21,7 @@ use Rattle.flow_model.specs.World.{hop_at, hop_count}
 use Rattle.flow_model.specs.Events.{Finds, FindsAt, IsCall, IsPhase}
 use Rattle.flow_model.specs.Numbers.{EndIs, IsEnder, NumberOf, UpIs, released_hop}
 use Rattle.flow_model.specs.Platform.{world_of}
-use Rattle.flow_law.proofs.More.{up_more}
+use Rattle.flow_model.proofs.More.{up_more}
 use Rattle.cargo_model.specs.declared.cargo.Cargo.{Cargo}
 use Rattle.cargo_model.specs.Known.{Known}
 use Rattle.cargo_model.specs.Travel.{GoesUp, Ready}

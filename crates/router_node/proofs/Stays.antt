@@ -16,7 +16,7 @@ use Rattle.flow_model.specs.World.{Passage, hop_at}
 use Rattle.flow_model.specs.Events.{Event, FindsAt, IsCall}
 use Rattle.flow_model.specs.Numbers.{UpIs}
 use Rattle.flow_model.specs.Platform.{world_of}
-use Rattle.flow_law.proofs.More.{end_more, up_more}
+use Rattle.flow_model.proofs.More.{end_more, up_more}
 use Rattle.cargo_model.specs.Known.{Known}
 use Rattle.cargo_model.specs.Travel.{Back as IsBackAt, GoesDown, GoesUp, Ready, There}
 use Rattle.cargo_model.proofs.More.{goes_down_more, goes_up_more}

@@ -28,11 +28,11 @@ use Rattle.fourphase_port.specs.State.{IsPort, StateView, with_note}
 use Rattle.fourphase_port.specs.declared.hand.Pumped.{Pumped}
 use Rattle.fourphase_port.specs.declared.hand.Pumped.TheVariants.{Did, Nothing, Finished}
 use Rattle.net_end.specs.Closed.{events_in}
-use Rattle.grant_end.specs.Done.{IsDoneWithGrants}
+use Rattle.net_end.specs.Done.{IsDoneWithGrants}
 use Rattle.plat_build.specs.declared.kept.Start.{Start}
 use Rattle.plat_build.specs.Kept.{IsStart}
 use Rattle.run_outcome.proofs.ListLemmas.{has_element}
-use Rattle.grant_end.specs.Finished.{IsFinished}
+use Rattle.net_end.specs.Leaves.{IsFinished}
 use Rattle.run_jobs.specs.Turn.{finishes}
 use Rattle.decoupled_run.proofs.BeginLemmas.{nothing_past, script_from}
 use Rattle.run_jobs.proofs.BeginLemmas.{has_style}

@@ -7,7 +7,7 @@ use Rattle.tlm_types.specs.declared.ends.EndOf.{EndOf}
 use Rattle.tlm_types.specs.declared.entry.Content.{Content}
 use Rattle.tlm_model.specs.Plan.{Plan}
 use Rattle.decoupled_run.specs.End.{IsFinished as IsDecoupledFinished}
-use Rattle.grant_end.specs.Finished.{IsFinished}
+use Rattle.net_end.specs.Leaves.{IsFinished}
 
 pub decoupled_finished : (table tokens : TableId) (p : Plan) (k : ℕ) (end : EndOf) (note : Held Content Plan) (wallet : Purse) → IsDecoupledFinished table tokens p k end note wallet → IsFinished table tokens p k end note wallet
 decoupled_finished table tokens p k end note wallet is = record {

@@ -1,7 +1,7 @@
 // The kinds of jobs.
 ghost use Rattle.std.specs.Prelude.{◌≡◌, ◌<◌, true, length};
 ghost use Rattle.run_jobs.specs.Actors.{is_done, is_pumped, number_of};
-ghost use Rattle.grant_end.specs.Finished.{IsFinished};
+ghost use Rattle.net_end.specs.Leaves.{IsFinished};
 ghost use Rattle.run_jobs.specs.Turn.{HasTurned};
 
 use crate::decoupled;

@@ -1,6 +1,6 @@
 // A four-phase initiator as a job.
 ghost use Rattle.std.specs.Prelude.{◌≡◌, ◌<◌, true, false, length};
-ghost use Rattle.grant_end.specs.Finished.{IsFinished};
+ghost use Rattle.net_end.specs.Leaves.{IsFinished};
 ghost use Rattle.run_jobs.specs.Turn.{IsPortTurn, finishes, turn_by};
 
 use crate::turn::Turn;

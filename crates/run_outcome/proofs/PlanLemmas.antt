@@ -9,9 +9,9 @@ use Rattle.tlm_model.specs.declared.platform.Platform.{Platform}
 use Rattle.tlm_model.specs.declared.platform.Style.{Style}
 use Rattle.tlm_model.specs.declared.platform.Style.TheVariants.{Blocking, Direct, FourPhase}
 use Rattle.tlm_model.specs.Plan.{Plan, Initiator, initiators_from, initiators_of}
-use Rattle.flow_law.specs.Plans.{HasNoFourPhase}
+use Rattle.flow_model.specs.Plans.{HasNoFourPhase}
 use Rattle.tlm_model.proofs.InitiatorLemmas.{initiator_from}
-use Rattle.grant_model.specs.Laws.{HasNoDirect}
+use Rattle.good_history.specs.GrantLaws.{HasNoDirect}
 use Rattle.route_plan.specs.Shape.{IsBlocking}
 use Rattle.run_outcome.proofs.ListLemmas.{within}
 

@@ -12,7 +12,7 @@ use Rattle.tlm_model.specs.Plan.{Plan}
 use Rattle.flow_model.specs.World.{hop_at}
 use Rattle.flow_model.specs.Events.{Event}
 use Rattle.flow_model.specs.Platform.{hop_in, world_of}
-use Rattle.flow_law.proofs.More.{up_more}
+use Rattle.flow_model.proofs.More.{up_more}
 use Rattle.cargo_model.specs.Known.{Known}
 use Rattle.cargo_model.specs.Travel.{Ready}
 use Rattle.cargo_model.proofs.More.{goes_up_more, is_fetched_more}

@@ -30,7 +30,7 @@ use Rattle.cargo_model.specs.Stops.{response_at}
 use Rattle.cargo_model.specs.Travel.{GoesUp, Ready}
 use Rattle.cargo_model.proofs.HopEnds.{hops_law}
 use Rattle.cargo_model.proofs.More.{is_fetched_more}
-use Rattle.flow_law.proofs.More.{up_more}
+use Rattle.flow_model.proofs.More.{up_more}
 use Rattle.cargo_net.specs.Ends.{HasEndedRequest}
 use Rattle.cargo_net.specs.Hops.{IsLegOfLane}
 use Rattle.plat_net.specs.HopCalls.{CanEndRequest, CanRespond}

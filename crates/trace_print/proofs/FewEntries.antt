@@ -36,8 +36,8 @@ use Rattle.flow_model.specs.Events.{acquire_by, acquires}
 use Rattle.flow_model.specs.Counts.{release_time_by, release_times, take_by, takes}
 use Rattle.flow_model.specs.Platform.{world_of}
 use Rattle.good_history.specs.Good.{IsGood}
-use Rattle.grant_model.specs.Grants.{closes, gives, is_closed, is_given}
-use Rattle.grant_model.specs.Kept.{IsGateInOrder}
+use Rattle.good_history.specs.Grants.{closes, gives, is_closed, is_given}
+use Rattle.good_history.specs.Kept.{IsGateInOrder}
 use Rattle.traffic_script.specs.Proper.{AreProper}
 use Rattle.platform_model.specs.Bounded.{IsBounded}
 use Rattle.route_plan.specs.Valid.{IsObject, IsValid}

@@ -48,8 +48,8 @@ use Rattle.flow_model.specs.Platform.{passage_of, world_of}
 use Rattle.flow_model.specs.Points.{InOrderBy, TimedBy}
 use Rattle.flow_model.specs.Traffic.{IsIssuedBy, slots_of}
 use Rattle.generic_payload.proofs.Moves.{length-taken_from}
-use Rattle.grant_model.specs.Grants.{gives, serves}
-use Rattle.grant_model.specs.Kept.{GrantsAll, IsUse, IsWholeOf}
+use Rattle.good_history.specs.Grants.{gives, serves}
+use Rattle.good_history.specs.Kept.{GrantsAll, IsUse, IsWholeOf}
 use Rattle.platform_model.specs.Bounded.{IsBounded, IsBoundedMemory, IsBoundedRouter}
 use Rattle.platform_model.specs.Windows.{window_at}
 use Rattle.traffic_script.specs.Proper.{AreBytes, AreProper}

@@ -1,5 +1,5 @@
 use Rattle.std.proofs.Common.{◌≡◌, ◌++◌, length}
-use Rattle.run_end.specs.End.{AreFinished}
+use Rattle.plat_end.specs.End.{AreFinished}
 use Rattle.plat_run.proofs.ending.hand_in.Given as goal
 
 abbrev pub invariant-loop-job : goal.invariant-loop-job

@@ -3,7 +3,7 @@ use Rattle.token_book.specs.Purse.{IsOf, Purse}
 use Rattle.net_end.specs.Closed.{AreHandedBack}
 use Rattle.plat_end.specs.Apart.{left_by}
 use Rattle.plat_build.specs.Kept.{HasNoOthers}
-use Rattle.run_end.proofs.WholeLemmas.{wallets_no_others, wallets_of}
+use Rattle.plat_end.proofs.WholeLemmas.{wallets_no_others, wallets_of}
 use Rattle.plat_run.proofs.running.end_run.Goals as goal
 
 pub take_apart-requires-clause-of : goal.take_apart-requires-clause-of

@@ -2,8 +2,8 @@ use Rattle.std.proofs.Common.{◌≡◌, IfOk, ap, subst}
 use Rattle.one_history.specs.declared.view.Frame.{Frame}
 use Rattle.tlm_model.specs.Plan.{Plan}
 use Rattle.run_outcome.specs.Outcome.{IsWhole}
-use Rattle.run_end.specs.Entries.{entries_read}
-use Rattle.run_end.specs.Run.{IsCoreRun}
+use Rattle.plat_end.specs.Entries.{entries_read}
+use Rattle.plat_end.specs.Run.{IsCoreRun}
 use Rattle.plat_run.proofs.running.run.Goals as goal
 
 pub returns-clause-whole : goal.returns-clause-whole

@@ -1,4 +1,4 @@
-use Rattle.flow_law.proofs.Decoupled.{no_passage}
+use Rattle.flow_model.proofs.Decoupled.{no_passage}
 use Rattle.run_outcome.proofs.PlanLemmas.{no_fourphase}
 use Rattle.run_tests.proofs.transports.none_passes.Goals as goal
 

@@ -2,7 +2,7 @@ use Rattle.std.proofs.Common.{sym, subst}
 use Rattle.initiator_run.specs.Run.{Run}
 use Rattle.decoupled_run.specs.End.{IsFinished as IsDecoupledFinished}
 use Rattle.run_jobs.specs.Actors.{number_of}
-use Rattle.grant_end.specs.Finished.{IsFinished}
+use Rattle.net_end.specs.Leaves.{IsFinished}
 use Rattle.run_jobs.proofs.SealLemmas.{decoupled_finished}
 use Rattle.run_jobs.proofs.actor.Actor.finish.Goals as goal
 

@@ -1,5 +1,5 @@
 use Rattle.std.proofs.Common.{ap, subst, ◌∙◌}
-use Rattle.grant_end.specs.Finished.{IsFinished}
+use Rattle.net_end.specs.Leaves.{IsFinished}
 use Rattle.run_jobs.specs.Ports.{PortRun}
 use Rattle.run_jobs.proofs.PortLemmas.{port_finished}
 use Rattle.run_jobs.proofs.port_job.PortJob.finish.Goals as goal

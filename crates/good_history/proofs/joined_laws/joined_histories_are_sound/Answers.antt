@@ -1,0 +1,5 @@
+use Rattle.good_history.proofs.WholeLemmas.{joined_is_sound}
+use Rattle.good_history.proofs.joined_laws.joined_histories_are_sound.Goals as goal
+
+pub returns : goal.returns
+returns c = joined_is_sound

@@ -1,0 +1,54 @@
+// The outcome of what is left.
+ghost use Rattle.std.specs.Prelude.{◌≡◌, IfOk};
+ghost use Rattle.plat_net.specs.Objects.{frame_of};
+ghost use Rattle.route_plan.specs.Valid.{IsValid};
+ghost use Rattle.run_outcome.specs.Outcome.{IsWhole};
+ghost use Rattle.plat_end.specs.End.{HaveAllLeft};
+ghost use Rattle.plat_end.specs.Entries.{entries_read};
+ghost use Rattle.plat_end.specs.Run.{IsCoreRun};
+
+use crate::apart::Apart;
+use one_history::{Closed, Sealed};
+use plat_net::{PlatHistory, PlatNote, TlmLaw};
+use route_plan::Plan;
+use run_outcome::{MergedLog, Outcome};
+use shared_object::Naming;
+use tlm_model::Rows;
+use tlm_types::{Content, EndOf, Memory};
+
+/// The history of a run that has ended.
+pub type PlatSealed = Sealed<Content, Plan, TlmLaw>;
+
+/// Seals the history, and makes the outcome of what the initiators and the objects have left. Its only error is
+/// want of memory.
+pub fn seal<N: Naming<Plan, TlmLaw>>(
+    history: PlatHistory,
+    ends: Vec<EndOf>,
+    notes: Vec<PlatNote>,
+    apart: Apart,
+) -> Result<(Outcome, PlatSealed), Memory>
+    requires history { (history.table ≡ N.table) × (history.frame ≡ N.frame) }
+    requires frame { N.frame ≡ frame_of N.frame.world }
+    requires valid { IsValid N.frame.world }
+    requires left { HaveAllLeft N.table N.tokens N.frame ends.items notes.items apart.logs.items apart.stores.items apart.seats.items }
+    ensures whole { IfOk result (λ r. IsWhole N.frame.world r.0) }
+    ensures core { IfOk result (λ r. IsCoreRun N.frame.world r.0.history.entries) }
+    ensures sealed { IfOk result (λ r. entries_read N.frame.world.platform r.1.entries ≡ r.0.history.entries) }
+    ensures world { IfOk result (λ r. (r.1.table ≡ N.table) × (r.1.world ≡ N.frame.world)) }
+{
+    let Apart {
+        logs,
+        stores,
+        seats,
+    } = apart;
+    let Closed::Done(sealed) = history.close(seats, notes) else {
+        unreachable!()
+    };
+    let outcome = Outcome {
+        history: MergedLog::of_logs(logs, sealed.len()),
+        stores: Rows::from_vec(stores),
+        ends: Rows::from_vec(ends),
+        complete: true,
+    };
+    Ok((outcome, sealed))
+}

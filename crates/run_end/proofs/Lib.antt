@@ -1,3 +1,0 @@
-pub mod OrderLemmas
-pub mod LogLemmas
-pub mod WholeLemmas

@@ -1,3 +1,0 @@
-pub mod Entries
-pub mod Run
-pub mod End
