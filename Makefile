@@ -8,6 +8,8 @@ tlmrun: crates.txt $(shell find crates -name '*.rt' -o -name '*.antt')
 	@tools/prove --bare tlmrun
 	@cp crates/tlmrun/out/tlmrun tlmrun
 
+# As in .ci/run: one prover a crate, and four crates side by side at most.
+test: export RT_JOBS ?= $(shell n=$$(nproc 2>/dev/null || echo 2); echo $$((n < 4 ? n : 4)))
 test:
 	rt ci
 

@@ -90,7 +90,8 @@ def table_of(sums):
 
 def run(names, anew, table):
     began = time.time()
-    started = subprocess.Popen(["rt", "ci", *["--anew"] * anew, *names], cwd=common.ROOT)
+    lanes = os.environ.get("RT_JOBS") or str(min(os.cpu_count() or 2, 4))
+    started = subprocess.Popen(["rt", "ci", *["--anew"] * anew, *names], cwd=common.ROOT, env={**os.environ, "RT_JOBS": lanes})
     watch = Watch(started.pid)
     watch.start()
     status = started.wait()
