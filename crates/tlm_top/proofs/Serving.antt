@@ -9,13 +9,13 @@ use Rattle.command_words.specs.Words.{CommandLine, command_of}
 use Rattle.one_history.specs.Held.{Ended}
 use Rattle.tlm_types.specs.declared.entry.Content.{Content}
 use Rattle.tlm_model.specs.Plan.{Plan}
-use Rattle.tlm_top.specs.Files.{Files}
-use Rattle.tlm_top.specs.Exits.{told_of, told_after, answer_after}
+use Rattle.plan_loads.specs.Files.{Files}
+use Rattle.plan_loads.specs.Exits.{told_of, told_after, answer_after}
 use Rattle.outside.specs.StreamState.{StreamState}
 use Rattle.tlm_top.specs.Serving.{IsWritten}
 use Rattle.tlm_top.specs.Headline.{Outside, IsReported, IsAnswer, IsExplainedBy, IsExplained}
-use Rattle.tlm_top.specs.declared.exit.Exit.{Exit}
-use Rattle.tlm_top.specs.declared.exit.Exit.TheVariants.{Done, Usage, PlatformRefused, ScriptRefused, ReadFault, WriteFault, NoMemory, TooLong}
+use Rattle.plan_loads.specs.declared.exit.Exit.{Exit}
+use Rattle.plan_loads.specs.declared.exit.Exit.TheVariants.{Done, Usage, PlatformRefused, ScriptRefused, ReadFault, WriteFault, NoMemory, TooLong}
 
 abbrev outside_by : Files → Option (List ℕ) → Option (List ℕ) → ℕ → ℕ → Outside
 outside_by files b a f g = record { files = files; out = change b a f g }

@@ -1,33 +1,14 @@
 -- When a command line has what it asks for.
-use Rattle.std.specs.Prelude.{ℕ, ◌≡◌, ◌≤◌, List, length, Some}
-use Rattle.std.specs.List.{AllByRecursion}
+use Rattle.std.specs.Prelude.{ℕ}
 use Rattle.outside.specs.Causes.{Rose}
-use Rattle.tlm_model.specs.declared.platform.InitiatorRow.{InitiatorRow}
 use Rattle.tlm_model.specs.Plan.{Plan}
 use Rattle.route_plan.specs.Valid.{IsValid}
 use Rattle.command_words.specs.Words.{CommandLine, run, script, gen}
-use Rattle.tlm_top.specs.Files.{Files, Holding, files_read, IsPlan, HasFailed, file_limit}
-use Rattle.tlm_top.specs.Generated.{platform_name}
+use Rattle.plan_loads.specs.Files.{Files, files_read, IsPlan}
+use Rattle.plan_loads.specs.Told.{AreTold}
 use Rattle.tlm_top.specs.Headline.{Outside, IsAnswer}
-use Rattle.tlm_top.specs.declared.exit.Exit.{Exit}
-use Rattle.tlm_top.specs.declared.exit.Exit.TheVariants.{Done, ReadFault, NoMemory, TooLong}
-
--- the library tells a file, and it isn't too long
-pub record IsTold (h : Holding) (name : List ℕ) : Type 0 where
-  pub bytes : List ℕ
-  pub held : h name ≡ Some bytes
-  pub fits : length bytes ≤ file_limit
-
-abbrev pub HasToldPlatform : Holding → CommandLine → Type 0
-HasToldPlatform h (run file workers trace) = IsTold h file
-HasToldPlatform h (script file) = Unit {0}
-HasToldPlatform h (gen seed workers) = IsTold h platform_name
-
--- the files of this plan are told, and no failed load was counted
-pub record AreTold (f : Files) (command : CommandLine) (plan : Plan) : Type 0 where
-  pub platform : HasToldPlatform f.holds command
-  pub scripts : AllByRecursion (λ (row : InitiatorRow). IsTold f.holds row.script) plan.platform.initiators
-  pub loads : (name : List ℕ) → ¬ HasFailed f name
+use Rattle.plan_loads.specs.declared.exit.Exit.{Exit}
+use Rattle.plan_loads.specs.declared.exit.Exit.TheVariants.{Done, ReadFault, NoMemory, TooLong}
 
 -- what the library has to tell: of generated files nothing
 abbrev pub HasToldFiles : Files → CommandLine → Plan → Type 0

@@ -13,22 +13,17 @@ use Rattle.route_plan.specs.Valid.{IsValid}
 use Rattle.plat_run.specs.Entries.{entries_read}
 use Rattle.command_words.specs.Words.{CommandLine, run, script, gen, command_of}
 use Rattle.trace_print.specs.Writes.{SinkChange}
-use Rattle.tlm_top.specs.Totals.{totals_line, totals_of}
-use Rattle.tlm_top.specs.Files.{Files, files_read, IsPlan, IsPlatformRefused, IsScriptRefused, IsLoaded, HasFailed, IsLong}
-use Rattle.tlm_top.specs.declared.exit.Exit.{Exit}
-use Rattle.tlm_top.specs.declared.exit.Exit.TheVariants.{Done, Usage, PlatformRefused, ScriptRefused, ReadFault, WriteFault, NoMemory, TooLong}
+use Rattle.plan_loads.specs.Totals.{totals_line, totals_of}
+use Rattle.plan_loads.specs.Files.{Files, files_read, IsPlan}
+use Rattle.plan_loads.specs.Plans.{IsRefusal}
+use Rattle.plan_loads.specs.declared.exit.Exit.{Exit}
+use Rattle.plan_loads.specs.declared.exit.Exit.TheVariants.{Done, Usage, WriteFault, NoMemory}
 
 -- what is written of a history of this plan: its report, or of what was generated the line of its totals
 abbrev pub written_of : CommandLine → Plan → List Entry → List ℕ
 written_of (run file workers trace) p h = report_of trace p h
 written_of (script file) p h = report_of all_entries p h
 written_of (gen seed workers) p h = totals_line seed (totals_of p h)
-
--- how many workers run it
-abbrev pub workers_of : CommandLine → ℕ
-workers_of (run file workers trace) = workers
-workers_of (script file) = 1
-workers_of (gen seed workers) = workers
 
 -- what stands outside, before and after the call: the library, and where the report goes
 pub record Outside : Type 0 where
@@ -46,17 +41,6 @@ pub record IsReported (o : Outside) (command : CommandLine) (sealed : Ended Cont
 -- `out` took nothing
 abbrev pub IsQuiet : Outside → Type 0
 IsQuiet o = o.out.taken_after ≡ o.out.taken_before
-
--- why there is no plan
-abbrev pub IsRefusal : Exit → Files → CommandLine → Type 0
-IsRefusal (Done sealed) f command = ⊥
-IsRefusal Usage f command = ⊥
-IsRefusal (PlatformRefused code table key) f command = IsPlatformRefused f.holds command (record { code = code; table = table; key = key })
-IsRefusal (ScriptRefused initiator name line code) f command = IsScriptRefused f.holds command initiator name (record { line = line; code = code })
-IsRefusal (ReadFault name) f command = IsLoaded f.holds command name × HasFailed f name
-IsRefusal (WriteFault sealed) f command = ⊥
-IsRefusal NoMemory f command = Unit {0}
-IsRefusal (TooLong name) f command = IsLoaded f.holds command name × IsLong f.holds name
 
 -- each answer to a command line, with its meaning and its cause
 abbrev pub IsAnswer : Exit → Outside → CommandLine → Type 0

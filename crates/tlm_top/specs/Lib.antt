@@ -1,9 +1,3 @@
-pub mod BuiltIn
-pub mod Generated
-pub mod Totals
-pub mod Exits
-pub mod Files
-pub mod Loads
 pub mod Headline
 pub mod Complete
 pub mod Serving

@@ -2,9 +2,9 @@
 use Rattle.std.specs.Prelude.{ℕ, ◌≡◌, [], Bool}
 use Rattle.outside.specs.StreamState.{StreamState, collected, told_by}
 use Rattle.trace_print.specs.Writes.{SinkChange}
-use Rattle.tlm_top.specs.Exits.{exit_number}
-use Rattle.tlm_top.specs.declared.exit.Exit.{Exit}
-use Rattle.tlm_top.specs.declared.exit.Exit.TheVariants.{Done}
+use Rattle.plan_loads.specs.Exits.{exit_number}
+use Rattle.plan_loads.specs.declared.exit.Exit.{Exit}
+use Rattle.plan_loads.specs.declared.exit.Exit.TheVariants.{Done}
 
 -- a sink over a stream before and after a call: what the stream holds and then what waits, if it tells that, and the
 -- counts of failures

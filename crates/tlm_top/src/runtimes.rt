@@ -1,9 +1,9 @@
 // The program over a runtime.
 ghost use Rattle.tlm_top.specs.Serving.{IsExitNumber};
 
-use crate::exit::Exit;
 use crate::streams::serve;
 use outside::{FolderLibrary, NoPace, StreamSink, Untold};
+use plan_loads::Exit;
 use std::env;
 use std::io::{ErrorKind, Write};
 use std::rt::Runtime;

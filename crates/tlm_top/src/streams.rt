@@ -5,13 +5,12 @@ ghost use Rattle.outside.specs.Causes.{Rose};
 ghost use Rattle.outside.specs.StreamState.{collected, told_by};
 ghost use Rattle.trace_print.specs.Writes.{Tells};
 ghost use Rattle.tlm_top.specs.Headline.{IsExplained};
-ghost use Rattle.tlm_top.specs.Exits.{told_of};
+ghost use Rattle.plan_loads.specs.Exits.{told_of};
 ghost use Rattle.tlm_top.specs.Serving.{stream_change, IsWritten};
 
-use crate::exit::Exit;
-use crate::tells::after_flush;
 use crate::top::run;
 use outside::{Library, Pace, Stream, StreamSink};
+use plan_loads::{Exit, after_flush};
 use std::alloc::Global;
 use std::sync::Wait;
 use std::thread::Threads;

@@ -1,25 +1,18 @@
 // The top call: from the words to the report.
-ghost use Rattle.std.specs.Prelude.{◌≡◌, ◌≤◌, ℕ, List, IfOk, IfErr};
+ghost use Rattle.std.specs.Prelude.{◌≤◌};
 ghost use Rattle.command_words.specs.Commands.{line_of, texts};
 ghost use Rattle.trace_print.specs.Writes.{Tells};
 ghost use Rattle.run_outcome.specs.Outcome.{IsReportable};
 ghost use Rattle.trace_print.specs.Writes.{IsPrinted};
-ghost use Rattle.tlm_top.specs.Files.{IsPlan, IsPlatform, files_read, generated_library};
-ghost use Rattle.tlm_top.specs.Generated.{generated};
 ghost use Rattle.route_plan.specs.Valid.{IsValid};
-ghost use Rattle.tlm_top.specs.Headline.{IsAnswer, IsExplained, IsRefusal, IsRunOf, workers_of, written_of};
-ghost use Rattle.tlm_top.specs.Exits.{told_of};
+ghost use Rattle.tlm_top.specs.Headline.{IsAnswer, IsExplained, IsRunOf, written_of};
+ghost use Rattle.plan_loads.specs.Exits.{told_of};
 
-use crate::built_in::built_in;
-use crate::exit::Exit;
-use crate::generated::{PLATFORM_NAME, generated};
-use crate::loads::{load_platform, load_scripts};
-use crate::tells::tell;
-use crate::totals::print_totals;
 use command_words::{Command, read_words};
 use outside::{Library, Pace, Sink};
+use plan_loads::{Exit, plan_of, print_totals, tell, workers_of};
 use plat_run::run_plan;
-use route_plan::{Plan, Shape, plan};
+use route_plan::Plan;
 use run_outcome::Outcome;
 use std::alloc::Global;
 use std::sync::Wait;
@@ -27,85 +20,6 @@ use std::thread::Threads;
 use tlm_model::Trace;
 use tlm_types::Memory;
 use trace_print::{PrintFault, print};
-
-// The platform that a command line asks for, of the files that it reads.
-fn shape_of<L: Library>(alloc: Global, lib: &mut L, command: Command) -> Result<Shape, Exit>
-    ensures same { (n : List ℕ) → L.holds lib.new n ≡ L.holds lib.old n }
-    ensures later { (n : List ℕ) → L.faults lib.old n ≤ L.faults lib.new n }
-    ensures platform { IfOk result (λ s. IsPlatform (L.holds lib.old) (line_of command.entry) s) }
-    ensures refused { IfErr result (λ exit. IsRefusal exit (record {
-      holds = L.holds lib.old;
-      faults_before = L.faults lib.old;
-      faults_after = L.faults lib.new;
-    }) (line_of command.entry)) }
-{
-    match command {
-        Command::Run { file, .. } => load_platform(alloc, lib, file),
-        Command::Script { file } => built_in(alloc, file),
-        Command::Gen { .. } => load_platform(alloc, lib, PLATFORM_NAME),
-    }
-}
-
-// The plan that a command line asks for, of the files that it reads.
-fn plan_over<L: Library>(alloc: Global, lib: &mut L, command: Command) -> Result<Plan, Exit>
-    ensures plan { IfOk result (λ p. IsPlan (L.holds lib.old) (line_of command.entry) p) }
-    ensures valid { IfOk result IsValid }
-    ensures refused { IfErr result (λ exit. IsRefusal exit (record {
-      holds = L.holds lib.old;
-      faults_before = L.faults lib.old;
-      faults_after = L.faults lib.new;
-    }) (line_of command.entry)) }
-{
-    let shape = shape_of(alloc, lib, command)?;
-    let scripts = load_scripts(
-        alloc,
-        lib,
-        shape.platform().version,
-        shape.platform().initiators.as_slice(),
-    )?;
-    Ok(plan(alloc, shape, scripts.as_slice())?)
-}
-
-// The plan that a command line asks for, of the files that are generated of this number. They are read as those
-// of a library are.
-fn generated_plan(alloc: Global, seed: u64, command: Command) -> Result<Plan, Exit>
-    ensures plan { IfOk result (λ p. IsPlan (generated seed) (line_of command.entry) p) }
-    ensures valid { IfOk result IsValid }
-    ensures refused { IfErr result (λ exit. IsRefusal exit (generated_library seed) (line_of command.entry)) }
-{
-    let mut files = generated(alloc, seed)?;
-    plan_over(alloc, &mut files, command)
-}
-
-// The plan that a command line asks for.
-fn plan_of<L: Library>(alloc: Global, lib: &mut L, command: Command) -> Result<Plan, Exit>
-    ensures plan { IfOk result (λ p. IsPlan (files_read (record {
-      holds = L.holds lib.old;
-      faults_before = L.faults lib.old;
-      faults_after = L.faults lib.new;
-    }) (line_of command.entry)).holds (line_of command.entry) p) }
-    ensures valid { IfOk result IsValid }
-    ensures refused { IfErr result (λ exit. IsRefusal exit (files_read (record {
-      holds = L.holds lib.old;
-      faults_before = L.faults lib.old;
-      faults_after = L.faults lib.new;
-    }) (line_of command.entry)) (line_of command.entry)) }
-{
-    match command {
-        Command::Gen { seed, .. } => generated_plan(alloc, seed, command),
-        _ => plan_over(alloc, lib, command),
-    }
-}
-
-fn workers_of(command: Command) -> u32
-    ensures { result ≡ workers_of (line_of command.entry) }
-{
-    match command {
-        Command::Run { workers, .. } => workers,
-        Command::Script { .. } => 1,
-        Command::Gen { workers, .. } => workers,
-    }
-}
 
 // Writes what a command line wants of a run: its report, or the line of its totals.
 fn print_asked<K: Sink>(

@@ -1,7 +1,7 @@
 use Rattle.std.proofs.Common.{ℕ, List, Option, arith}
 use Rattle.command_words.specs.Commands.{texts}
 use Rattle.outside.specs.StreamState.{collected, told_by}
-use Rattle.tlm_top.specs.Files.{Files}
+use Rattle.plan_loads.specs.Files.{Files}
 use Rattle.tlm_top.proofs.Serving.{explained_after, tells_in_all, written_after, emptied}
 use Rattle.tlm_top.proofs.streams.serve.Goals as goal
 

@@ -1,9 +1,9 @@
 use Rattle.std.proofs.Common.{subst}
 use Rattle.trace_print.specs.Writes.{IsPrinted}
 use Rattle.trace_print.proofs.Writing.{change}
-use Rattle.tlm_top.specs.Totals.{totals_line}
-use Rattle.tlm_top.specs.declared.totals.Totals.{Totals}
-use Rattle.tlm_top.proofs.Sums.{totals-are, totals-are-small}
+use Rattle.plan_loads.specs.Totals.{totals_line}
+use Rattle.plan_loads.specs.declared.totals.Totals.{Totals}
+use Rattle.plan_loads.proofs.Sums.{totals-are, totals-are-small}
 use Rattle.tlm_top.proofs.top.print_asked.Goals as goal
 
 pub print_totals-requires : goal.print_totals-requires
