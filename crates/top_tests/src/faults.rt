@@ -1,7 +1,7 @@
 // Words, loads and writes that fail.
 use crate::bench::{Came, answer, call, call_over, check, failing_sink, fails_at_load, library};
-use crate::direct::{LONE, LONE_REPORT, LONE_SCRIPT};
 use crate::paces::Pacing;
+use crate::runs::{LONE, LONE_REPORT, LONE_SCRIPT};
 use outside::{FailingWrite, VecSink};
 use std::process::Abort;
 use std::sync::Wait;
