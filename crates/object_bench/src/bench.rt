@@ -10,7 +10,7 @@ use tlm_types::Memory;
 use token_book::{Book, Tokens};
 
 /// The seats of two objects.
-pub fn pair<E, W: Law<E, ()>>(
+pub(crate) fn pair<E, W: Law<E, ()>>(
     past: &History<E, (), W>,
     mut seats: Vec<ObjectSeat<E, (), W>>,
 ) -> (ObjectSeat<E, (), W>, ObjectSeat<E, (), W>)
@@ -29,7 +29,7 @@ pub fn pair<E, W: Law<E, ()>>(
 }
 
 /// The books of two objects.
-pub fn two_books(alloc: Global) -> Result<(Tokens, Book, Book), Memory>
+pub(crate) fn two_books(alloc: Global) -> Result<(Tokens, Book, Book), Memory>
     ensures { IfOk result (λ r. (r.1 ≡ fresh_book r.0 0) × (r.2 ≡ fresh_book r.0 1)) }
 {
     let (tokens, mut books) = Tokens::new(alloc, 2)?;

@@ -1,7 +1,7 @@
 //! Tests of nets, of transport along their routes, and of runs by worker threads, over public calls:
 //! `plat_build`, `blocking_path` and `plat_run` have the contracts, and what they can't say is shown here.
 //!
-//! - `bench` makes plans of blocking initiators.
+//! - `bench` makes plans of texts.
 //! - `nets` has a net that was just built, `transports` accesses along their routes.
 //! - `runs` has runs by 1 to 4 workers: that they end, that workers run at once, that rounds hold
 //!   initiators back, and whom the pace is told of. `paces` has the paces that hold initiators and count.

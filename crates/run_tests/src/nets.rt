@@ -2,7 +2,7 @@
 ghost use Rattle.std.specs.Prelude.{◌≡◌, ◌<◌, length};
 ghost use Rattle.plat_net.specs.Objects.{frame_of};
 
-use net_bench::plan_of;
+use crate::bench::plan_of;
 use plat_build::{Opened, build, close_unused};
 use plat_net::{Net, TlmLaw};
 use route_plan::Plan;

@@ -1,7 +1,7 @@
 // Runs of four-phase initiators by worker threads.
+use crate::bench::plan_of;
 use crate::paces::Pacing;
 use crate::runs::run_of;
-use net_bench::plan_of;
 use std::alloc::Global;
 use std::process::Abort;
 use std::sync::Wait;

@@ -1,6 +1,6 @@
 // Runs by worker threads.
+use crate::bench::plan_of;
 use crate::paces::{Holding, InTurn, Pacing, Watching};
-use net_bench::plan_of;
 use plat_run::run_plan;
 use route_plan::Plan;
 use run_outcome::{MergedLog, Outcome};

@@ -13,7 +13,7 @@ use Rattle.payload_pool.specs.declared.baton.Baton.{Baton}
 use Rattle.payload_pool.specs.Slots.{SlotView, acquired_of}
 use Rattle.payload_pool.specs.Pool.{PoolView, IsOut, changed, first_baton}
 use Rattle.payload_pool.specs.Calls.{Takes, Acquires, Releases}
-use Rattle.hop_bench.specs.Ready.{IsReady, IsMine, IsBaton}
+use Rattle.object_bench.specs.Ready.{IsReady, IsMine, IsBaton}
 
 -- a new pool
 pub ready_new : (n : ℕ) (tokens : TableId) (v : PoolView) → n < 1000 → v.book.table ≡ tokens → v.book.owner ≡ 1 → v.room ≡ 16 → v.log ≡ record { events = []; room = n } → IsReady n tokens 0 v

@@ -1,11 +1,11 @@
 use Rattle.std.proofs.Common.{sym, ap, ◌∙◌}
 use Rattle.std.proofs.lemmas.List.Elements.{All-weaker}
-use Rattle.hop_bench.specs.declared.bench.Held.{Held}
+use Rattle.object_bench.specs.declared.hop_steps.Held.{Held}
 use Rattle.hop_object.specs.Laws.{IsHeld}
-use Rattle.hop_bench.proofs.Benches.{held_next, may_write, past_next, room_next, same_table, table_or}
+use Rattle.object_bench.proofs.Benches.{held_next, may_write, past_next, room_next, same_table, table_or}
 use Rattle.hop_object.proofs.LegLaws.{legs_fit}
 use Rattle.hop_object.proofs.Meanings.{leaves}
-use Rattle.hop_bench.proofs.bench.Bench.call.Goals as goal
+use Rattle.object_bench.proofs.hop_steps.Bench.call.Goals as goal
 
 pub apply-reply-requires-clause-tokens : goal.apply-reply-requires-clause-tokens
 apply-reply-requires-clause-tokens c = λ b is. let s = c.args.self.now in ap (table_or s.hop.book.table) (sym is) ∙ s.table

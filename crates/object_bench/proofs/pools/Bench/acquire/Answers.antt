@@ -1,5 +1,5 @@
-use Rattle.hop_bench.proofs.ReadyPools.{ready_acquires}
-use Rattle.hop_bench.proofs.pools.Bench.acquire.Goals as goal
+use Rattle.object_bench.proofs.ReadyPools.{ready_acquires}
+use Rattle.object_bench.proofs.pools.Bench.acquire.Goals as goal
 
 pub invariant_of-self : goal.invariant_of-self
 invariant_of-self c =

@@ -1,5 +1,5 @@
 // A hop by itself: its calls one after another.
-use crate::bench::{Bench, Step, Told};
+use crate::hop_steps::{Bench, Step, Told};
 use tlm_types::{ReqMode, RespMode};
 
 // Transaction 0 holds the request, then transaction 1, whose response implies its end. Transaction 2

@@ -1,7 +1,7 @@
 // A pool by itself: its calls one after another.
 ghost use Rattle.std.specs.Prelude.{◌≡◌, ◌+◌, ◌<◌, ◌≤◌, []};
 ghost use Rattle.payload_pool.specs.Slots.{acquired_of};
-ghost use Rattle.hop_bench.specs.Ready.{IsReady, IsMine, IsBaton};
+ghost use Rattle.object_bench.specs.Ready.{IsReady, IsMine, IsBaton};
 
 use payload_pool::{Baton, Hold, Pool};
 use std::alloc::Global;

@@ -1,2 +1,0 @@
-pub mod Benches
-pub mod ReadyPools
