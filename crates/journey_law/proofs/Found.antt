@@ -31,11 +31,11 @@ use Rattle.flow_model.specs.Answers.{request_answer, response_answer}
 use Rattle.hop_object.specs.declared.lane.Side.TheVariants.{Down as Downward, Up as Upward}
 use Rattle.cargo_model.specs.Travel.{Back as IsBackAt, GoesDown, GoesUp, IsVouched, Ready, There}
 use Rattle.plat_net.specs.HopCalls.{CanRespond}
-use Rattle.router_node.specs.Items.{IsDown as MayGoDown, IsHolding}
+use Rattle.router_moves.specs.Items.{IsDown as MayGoDown, IsHolding}
 use Rattle.router_node.specs.Stages.{IsRestUnder, IsStage}
-use Rattle.router_node.specs.declared.items.Down.{Down as ToPass}
-use Rattle.router_node.specs.declared.items.Held.{Held}
-use Rattle.router_node.specs.declared.items.Rest.{Rest}
+use Rattle.router_moves.specs.declared.items.Down.{Down as ToPass}
+use Rattle.router_moves.specs.declared.items.Held.{Held}
+use Rattle.router_moves.specs.declared.items.Rest.{Rest}
 use Rattle.router_node.specs.declared.stage.Stage.{Stage}
 use Rattle.router_node.specs.declared.stage.Stage.TheVariants.{Down, Below, Up, Sent}
 use Rattle.journey_law.specs.Found.{IsFoundStage, IsPartAbove, IsPartBelow, IsPlaceAt, RequestsAreFound, RequestsFetched, RequestsInLanes, ResponsesAreFound, ResponsesFetched, ResponsesInLanes, StagesAreFound}

@@ -26,9 +26,9 @@ use Rattle.begun_traffic.proofs.CallCounts.{called_first}
 use Rattle.begun_traffic.proofs.PartLemmas.{released_calls_are_whole}
 use Rattle.cargo_model.proofs.Called.{called_counts}
 use Rattle.port_model.proofs.Origins.{has_address}
-use Rattle.router_node.specs.Items.{IsEnd}
-use Rattle.router_node.specs.declared.items.End.{End}
-use Rattle.router_node.specs.declared.items.End.TheVariants.{Owed, At}
+use Rattle.router_moves.specs.Items.{IsEnd}
+use Rattle.router_moves.specs.declared.items.End.{End}
+use Rattle.router_moves.specs.declared.items.End.TheVariants.{Owed, At}
 use Rattle.journey_law.specs.Homes.{IsHome, IsStowed, kept_by, stow_tickets}
 use Rattle.journey_law.specs.Parts.{IsBelow, Left, Nothing, Part, Passed, ends_owed, tickets_of}
 use Rattle.journey_law.specs.Tells.{CoversPool, HomesTell, OwesHop}

@@ -18,8 +18,8 @@ use Rattle.flow_model.specs.Valid.{HasNoCycle}
 use Rattle.flow_model.proofs.Ways.{world_law}
 use Rattle.cargo_model.specs.Counts.{calls_down}
 use Rattle.cargo_model.specs.Known.{Known}
-use Rattle.router_node.specs.Items.{HasDebt, IsHeld}
-use Rattle.router_node.specs.declared.items.Held.{Held}
+use Rattle.router_moves.specs.Items.{HasDebt, IsHeld}
+use Rattle.router_moves.specs.declared.items.Held.{Held}
 use Rattle.begun_end.specs.Cargos.{CoversHop, IsRequested}
 use Rattle.begun_end.proofs.CargoLemmas.{hops_are_covered}
 use Rattle.journey_law.specs.Parts.{IsAbove, IsPassed, Left, Nothing, Part, Passed, Stand, one_if, tickets_of}

@@ -17,10 +17,10 @@ use Rattle.joined_traffic.specs.Accesses.{sum_below}
 use Rattle.joined_traffic.proofs.MemoryLemmas.{has_among}
 use Rattle.begun_traffic.proofs.PartLemmas.{released_calls_are_whole}
 use Rattle.cargo_model.specs.Called.{IsCalled}
-use Rattle.router_node.specs.Items.{IsEnd}
-use Rattle.router_node.specs.declared.items.End.{End}
-use Rattle.router_node.specs.declared.items.End.TheVariants.{Owed, At}
-use Rattle.router_node.specs.declared.items.Rest.{Rest}
+use Rattle.router_moves.specs.Items.{IsEnd}
+use Rattle.router_moves.specs.declared.items.End.{End}
+use Rattle.router_moves.specs.declared.items.End.TheVariants.{Owed, At}
+use Rattle.router_moves.specs.declared.items.Rest.{Rest}
 use Rattle.begun_end.specs.Cargos.{CoversHop}
 use Rattle.begun_end.proofs.CargoLemmas.{hops_are_covered}
 use Rattle.journey_law.specs.Parts.{IsBelow, IsLeft, Left, Nothing, Part, Passed, ends_owed, tickets_of}

@@ -25,8 +25,8 @@ use Rattle.target_node.specs.Items.{IsWaiting}
 use Rattle.target_node.specs.declared.items.Request.{Request}
 use Rattle.target_node.specs.declared.items.Response.{Response}
 use Rattle.router_node.specs.Stages.{IsStage}
-use Rattle.router_node.specs.declared.items.Held.{Held}
-use Rattle.router_node.specs.declared.items.Rest.{Rest}
+use Rattle.router_moves.specs.declared.items.Held.{Held}
+use Rattle.router_moves.specs.declared.items.Rest.{Rest}
 use Rattle.router_node.specs.declared.stage.Stage.{Stage}
 use Rattle.router_node.specs.declared.stage.Stage.TheVariants.{Down, Below, Up, Sent}
 use Rattle.journey_law.specs.Parts.{IsAbove, IsBelow, Left, Passed, Stand}

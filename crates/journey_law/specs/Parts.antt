@@ -12,11 +12,11 @@ use Rattle.token_book.specs.declared.ticket.Ticket.{Ticket}
 use Rattle.flow_model.specs.World.{Passage, hop_at}
 use Rattle.flow_model.specs.Events.{Among, Event, Finds, IsReleased}
 use Rattle.cargo_model.specs.Known.{Known}
-use Rattle.router_node.specs.Items.{IsHolding, IsRest}
-use Rattle.router_node.specs.declared.items.End.{End}
-use Rattle.router_node.specs.declared.items.End.TheVariants.{Owed, At}
-use Rattle.router_node.specs.declared.items.Held.{Held}
-use Rattle.router_node.specs.declared.items.Rest.{Rest}
+use Rattle.router_moves.specs.Items.{IsHolding, IsRest}
+use Rattle.router_moves.specs.declared.items.End.{End}
+use Rattle.router_moves.specs.declared.items.End.TheVariants.{Owed, At}
+use Rattle.router_moves.specs.declared.items.Held.{Held}
+use Rattle.router_moves.specs.declared.items.Rest.{Rest}
 
 -- What a router has of an access for one hop of its way: nothing; what it keeps of a request that it fetched from there and passed on; or what it is
 -- still to make there, once the response has ended above.

@@ -22,20 +22,20 @@ use Rattle.cargo_model.specs.Stops.{response_at}
 use Rattle.cargo_net.specs.Forwards.{IsRouterMode}
 use Rattle.plat_net.specs.Places.{LeadsTo}
 use Rattle.plat_net.proofs.Forwarding.{router_answers}
-use Rattle.router_node.specs.Items.{HasGone, IsBegun, latency_of}
-use Rattle.router_node.specs.Moves.{HasServedBelow, TurnsUp}
+use Rattle.router_moves.specs.Items.{HasGone, IsBegun, latency_of}
+use Rattle.router_moves.specs.Moves.{HasServedBelow, TurnsUp}
 use Rattle.router_node.specs.Stages.{IsServed, IsServedAs, Moves, WentDown}
-use Rattle.router_node.specs.declared.items.Back.{Back}
-use Rattle.router_node.specs.declared.items.Begun.{Begun}
-use Rattle.router_node.specs.declared.items.Down.{Down as ToPass}
-use Rattle.router_node.specs.declared.items.Held.{Held}
-use Rattle.router_node.specs.declared.items.Response.{Response}
-use Rattle.router_node.specs.declared.items.Rest.{Rest}
+use Rattle.router_moves.specs.declared.items.Back.{Back}
+use Rattle.router_moves.specs.declared.items.Begun.{Begun}
+use Rattle.router_moves.specs.declared.items.Down.{Down as ToPass}
+use Rattle.router_moves.specs.declared.items.Held.{Held}
+use Rattle.router_moves.specs.declared.items.Response.{Response}
+use Rattle.router_moves.specs.declared.items.Rest.{Rest}
 use Rattle.router_node.specs.declared.stage.Stage.{Stage}
 use Rattle.router_node.specs.declared.stage.Stage.TheVariants.{Below, Down, Sent, Up}
 use Rattle.router_node.specs.declared.stage.Step.TheVariants.{Pass}
-use Rattle.router_node.proofs.Grown.{finds_at_more}
-use Rattle.router_node.proofs.Windows.{ends_are}
+use Rattle.router_moves.proofs.Grown.{finds_at_more}
+use Rattle.router_moves.proofs.Windows.{ends_are}
 
 no_router : (refused : Bool) (mode : ReqMode) (answer : TlmSync) → IsRouterMode mode → responses (row_by refused mode) answer ≡ 0 → ⊥
 no_router refused mode answer router none = grind (arith, common_steps)

@@ -20,17 +20,17 @@ use Rattle.route_plan.specs.Valid.{hop_count}
 use Rattle.plat_net.specs.Places.{LeadsTo}
 use Rattle.plat_net.proofs.Forwarding.{latency_at, latency_by}
 use Rattle.router_node.specs.Finds.{IsFound}
-use Rattle.router_node.specs.Items.{latency_of}
+use Rattle.router_moves.specs.Items.{latency_of}
 use Rattle.router_node.specs.Node.{IsRouter, IsStray, left, router_latency, row_latency, stage_of}
 use Rattle.router_node.specs.Stages.{IsSettled, IsStage, IsUp}
-use Rattle.router_node.specs.Turns.{HasTurned}
-use Rattle.router_node.specs.declared.choice.Turned.{Turned}
-use Rattle.router_node.specs.declared.choice.Turned.TheVariants as Turns
+use Rattle.router_moves.specs.Turns.{HasTurned}
+use Rattle.router_moves.specs.declared.choice.Turned.{Turned}
+use Rattle.router_moves.specs.declared.choice.Turned.TheVariants as Turns
 use Rattle.router_node.specs.declared.finds.Found.{Found}
-use Rattle.router_node.specs.declared.items.Held.{Held}
-use Rattle.router_node.specs.declared.items.Request.{Request}
-use Rattle.router_node.specs.declared.items.Response.{Response}
-use Rattle.router_node.specs.declared.items.Rest.{Rest}
+use Rattle.router_moves.specs.declared.items.Held.{Held}
+use Rattle.router_moves.specs.declared.items.Request.{Request}
+use Rattle.router_moves.specs.declared.items.Response.{Response}
+use Rattle.router_moves.specs.declared.items.Rest.{Rest}
 use Rattle.router_node.specs.declared.node.RouterNode.{RouterNode}
 use Rattle.router_node.specs.declared.stage.Stage.{Stage}
 use Rattle.router_node.specs.declared.stage.Stage.TheVariants.{Below, Down, Sent, Up}

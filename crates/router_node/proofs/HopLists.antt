@@ -20,7 +20,7 @@ use Rattle.route_plan.specs.Valid.{hop_count}
 use Rattle.plat_net.specs.Places.{LeadsTo}
 use Rattle.router_node.specs.Finds.{IsHopAbove, IsHopBelow}
 use Rattle.router_node.specs.Hops.{IsNew, ends_lead, hops_below, hops_to, is_router, leads_to, row_lanes, row_windows, windows_of}
-use Rattle.router_node.specs.Items.{is_accepting}
+use Rattle.router_moves.specs.Items.{is_accepting}
 use Rattle.router_node.specs.Node.{IsStray, router_latency}
 use Rattle.router_node.specs.Stages.{IsStage}
 use Rattle.router_node.specs.declared.finds.Found.{Found}

@@ -8,13 +8,13 @@ use Rattle.tlm_model.specs.Plan.{Plan}
 use Rattle.route_plan.specs.Valid.{hop_count}
 use Rattle.router_node.specs.Finds.{IsFound}
 use Rattle.router_node.specs.Joins.{IsOf}
-use Rattle.router_node.specs.Moves.{IsBackFor, TurnsUp}
+use Rattle.router_moves.specs.Moves.{IsBackFor, TurnsUp}
 use Rattle.router_node.specs.Stages.{IsSettled, IsUp}
 use Rattle.router_node.specs.declared.finds.Found.{Found}
-use Rattle.router_node.specs.declared.items.Back.{Back}
-use Rattle.router_node.specs.declared.items.Held.{Held}
-use Rattle.router_node.specs.declared.items.Response.{Response}
-use Rattle.router_node.specs.declared.items.Rest.{Rest}
+use Rattle.router_moves.specs.declared.items.Back.{Back}
+use Rattle.router_moves.specs.declared.items.Held.{Held}
+use Rattle.router_moves.specs.declared.items.Response.{Response}
+use Rattle.router_moves.specs.declared.items.Rest.{Rest}
 
 module _ (frame : Frame Plan) (tokens : TableId) (known : List (Entry Content)) (h : Held) (is : IsSettled frame tokens known h) where
   pub is_back : (f : Found) → IsFound frame tokens known f → IsOf h f → IsBackFor frame tokens known h f.fetched.back

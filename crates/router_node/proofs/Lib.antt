@@ -1,13 +1,4 @@
-pub mod Grown
-pub mod Windows
-pub mod Downs
-pub mod Passes
-pub mod Turns
-pub mod TurnsUp
-pub mod Sends
-pub mod Ended
 pub mod Stays
-pub mod Hops
 pub mod Staged
 pub mod Looks
 pub mod Joined

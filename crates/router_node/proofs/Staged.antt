@@ -14,14 +14,14 @@ use Rattle.flow_model.specs.Numbers.{IsEnder}
 use Rattle.cargo_model.specs.Known.{Known}
 use Rattle.route_plan.specs.Valid.{hop_count}
 use Rattle.plat_net.specs.HopCalls.{CanRespond}
-use Rattle.router_node.specs.Items.{HasGone}
-use Rattle.router_node.specs.Moves.{EndsAbove, HasBegunOn, HasEndedAbove}
+use Rattle.router_moves.specs.Items.{HasGone}
+use Rattle.router_moves.specs.Moves.{EndsAbove, HasBegunOn, HasEndedAbove}
 use Rattle.router_node.specs.Stages.{HasSettled, IsAway, IsRestUnder, IsUp}
-use Rattle.router_node.specs.declared.items.Held.{Held}
-use Rattle.router_node.specs.declared.items.Response.{Response}
-use Rattle.router_node.specs.declared.items.Rest.{Rest}
+use Rattle.router_moves.specs.declared.items.Held.{Held}
+use Rattle.router_moves.specs.declared.items.Response.{Response}
+use Rattle.router_moves.specs.declared.items.Rest.{Rest}
 use Rattle.router_node.specs.declared.stage.Away.{Away}
-use Rattle.router_node.proofs.Grown.{finds_at_more, finds_more}
+use Rattle.router_moves.proofs.Grown.{finds_at_more, finds_more}
 use Rattle.router_node.proofs.Stays.{holds_on, stays}
 
 pub not_true : IsTrue false → ⊥

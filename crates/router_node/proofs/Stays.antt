@@ -23,18 +23,18 @@ use Rattle.cargo_model.proofs.More.{goes_down_more, goes_up_more}
 use Rattle.cargo_net.specs.Begins.{HasOwedLeg}
 use Rattle.plat_net.specs.HopCalls.{CanRespond}
 use Rattle.plat_net.specs.Places.{hop_place}
-use Rattle.router_node.specs.Items.{HasEndedAt, HasGone, IsBack, IsBegun, IsDown, IsEnd, IsHeld, IsHolding, IsRest, OwesEnd}
+use Rattle.router_moves.specs.Items.{HasEndedAt, HasGone, IsBack, IsBegun, IsDown, IsEnd, IsHeld, IsHolding, IsRest, OwesEnd}
 use Rattle.router_node.specs.Laws.{HoldsOn, StaysKnown}
-use Rattle.router_node.specs.Moves.{EndsAbove, HasBegunOn, HasEndedAbove, IsBackFor}
-use Rattle.router_node.specs.declared.items.Back.{Back}
-use Rattle.router_node.specs.declared.items.Begun.{Begun}
-use Rattle.router_node.specs.declared.items.Down.{Down}
-use Rattle.router_node.specs.declared.items.End.{End}
-use Rattle.router_node.specs.declared.items.End.TheVariants.{Owed, At}
-use Rattle.router_node.specs.declared.items.Held.{Held}
-use Rattle.router_node.specs.declared.items.Response.{Response}
-use Rattle.router_node.specs.declared.items.Rest.{Rest}
-use Rattle.router_node.proofs.Grown.{arrival_more, finds_at_more, finds_more, held_more, hold_more, known_more, leg_more}
+use Rattle.router_moves.specs.Moves.{EndsAbove, HasBegunOn, HasEndedAbove, IsBackFor}
+use Rattle.router_moves.specs.declared.items.Back.{Back}
+use Rattle.router_moves.specs.declared.items.Begun.{Begun}
+use Rattle.router_moves.specs.declared.items.Down.{Down}
+use Rattle.router_moves.specs.declared.items.End.{End}
+use Rattle.router_moves.specs.declared.items.End.TheVariants.{Owed, At}
+use Rattle.router_moves.specs.declared.items.Held.{Held}
+use Rattle.router_moves.specs.declared.items.Response.{Response}
+use Rattle.router_moves.specs.declared.items.Rest.{Rest}
+use Rattle.router_moves.proofs.Grown.{arrival_more, finds_at_more, finds_more, held_more, hold_more, known_more, leg_more}
 
 module _ (frame : Frame Plan) (tokens : TableId) (xs ys : List (Entry Content)) (w : Within xs ys) where
   abbrev p : Plan

@@ -9,10 +9,10 @@ use Rattle.tlm_model.specs.declared.platform.Target.TheVariants.{Router}
 use Rattle.tlm_model.specs.Plan.{Plan}
 use Rattle.route_plan.specs.Valid.{hop_count}
 use Rattle.plat_net.specs.Places.{LeadsTo, hop_place}
-use Rattle.router_node.specs.Items.{IsRequest}
-use Rattle.router_node.specs.Moves.{HasFetchedUp}
+use Rattle.router_moves.specs.Items.{IsRequest}
+use Rattle.router_moves.specs.Moves.{HasFetchedUp}
 use Rattle.router_node.specs.declared.finds.Found.{Found}
-use Rattle.router_node.specs.declared.items.Request.{Request}
+use Rattle.router_moves.specs.declared.items.Request.{Request}
 
 -- a hop to this router, and the hop of a window
 pub record IsHopAbove (p : Plan) (router hop : ℕ) : Type 0 where

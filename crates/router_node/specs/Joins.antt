@@ -3,7 +3,7 @@ use Rattle.std.specs.Prelude.{ℕ, ◌≡◌, List, ◌∷◌, ◌++◌, Option,
 use Rattle.std.specs.List.{AllByRecursion}
 use Rattle.router_node.specs.Places.{StandsAt}
 use Rattle.router_node.specs.declared.finds.Found.{Found}
-use Rattle.router_node.specs.declared.items.Held.{Held}
+use Rattle.router_moves.specs.declared.items.Held.{Held}
 use Rattle.router_node.specs.declared.stage.Stage.{Stage}
 use Rattle.router_node.specs.declared.stage.Stage.TheVariants.{Below, Up}
 

@@ -9,14 +9,14 @@ use Rattle.tlm_types.specs.declared.words.TxnId.{TxnId}
 use Rattle.tlm_model.specs.Plan.{Plan}
 use Rattle.flow_model.specs.World.{Passage}
 use Rattle.plat_net.specs.HopCalls.{CanRespond}
-use Rattle.router_node.specs.declared.items.Back.{Back}
-use Rattle.router_node.specs.declared.items.Begun.{Begun}
-use Rattle.router_node.specs.declared.items.Down.{Down}
-use Rattle.router_node.specs.declared.items.Held.{Held}
-use Rattle.router_node.specs.declared.items.Response.{Response}
-use Rattle.router_node.specs.declared.items.Rest.{Rest}
-use Rattle.router_node.specs.Items.{HasGone, IsBegun, IsDown, IsHolding, IsRest}
-use Rattle.router_node.specs.Moves.{EndsAbove, HasBegunOn, HasEndedAbove, IsBackFor}
+use Rattle.router_moves.specs.declared.items.Back.{Back}
+use Rattle.router_moves.specs.declared.items.Begun.{Begun}
+use Rattle.router_moves.specs.declared.items.Down.{Down}
+use Rattle.router_moves.specs.declared.items.Held.{Held}
+use Rattle.router_moves.specs.declared.items.Response.{Response}
+use Rattle.router_moves.specs.declared.items.Rest.{Rest}
+use Rattle.router_moves.specs.Items.{HasGone, IsBegun, IsDown, IsHolding, IsRest}
+use Rattle.router_moves.specs.Moves.{EndsAbove, HasBegunOn, HasEndedAbove, IsBackFor}
 
 -- Who knows more knows no less of what a router holds.
 pub record StaysKnown (frame : Frame Plan) (tokens : TableId) (known more : List (Entry Content)) : Type 0 where

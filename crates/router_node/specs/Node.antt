@@ -12,16 +12,16 @@ use Rattle.tlm_types.specs.declared.entry.Content.{Content}
 use Rattle.tlm_model.specs.declared.platform.RouterRow.{RouterRow}
 use Rattle.tlm_model.specs.Plan.{Plan}
 use Rattle.tlm_model.specs.Route.{window_hop}
-use Rattle.router_node.specs.Items.{IsRequest, is_accepting}
+use Rattle.router_moves.specs.Items.{IsRequest, is_accepting}
 use Rattle.router_node.specs.Finds.{AreLookedAt, IsFirst, IsFound, IsHopAbove, IsHopBelow, vain_looks}
 use Rattle.router_node.specs.Joins.{HasJoinedOne}
 use Rattle.router_node.specs.Places.{StandsAt}
 use Rattle.router_node.specs.Stages.{ComesBy, IsStage, Standing, standing, vain}
-use Rattle.router_node.specs.Turns.{HasTurned}
-use Rattle.router_node.specs.declared.choice.Turned.{Turned}
-use Rattle.router_node.specs.declared.choice.Turned.TheVariants as Turns
+use Rattle.router_moves.specs.Turns.{HasTurned}
+use Rattle.router_moves.specs.declared.choice.Turned.{Turned}
+use Rattle.router_moves.specs.declared.choice.Turned.TheVariants as Turns
 use Rattle.router_node.specs.declared.finds.Found.{Found}
-use Rattle.router_node.specs.declared.items.Request.{Request}
+use Rattle.router_moves.specs.declared.items.Request.{Request}
 use Rattle.router_node.specs.declared.node.Pumped.{Pumped}
 use Rattle.router_node.specs.declared.node.Pumped.TheVariants.{Did, Nothing}
 use Rattle.router_node.specs.declared.node.RouterNode.{RouterNode}

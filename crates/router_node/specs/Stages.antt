@@ -16,13 +16,13 @@ use Rattle.cargo_model.specs.Known.{Known}
 use Rattle.route_plan.specs.Valid.{hop_count}
 use Rattle.plat_net.specs.HopCalls.{CanRespond}
 use Rattle.plat_net.specs.Places.{hop_place}
-use Rattle.router_node.specs.Items.{IsBegun, IsDown, IsHolding, IsRest, latency_of}
-use Rattle.router_node.specs.Moves.{HasBegunOn}
-use Rattle.router_node.specs.declared.items.Begun.{Begun}
-use Rattle.router_node.specs.declared.items.Down.{Down as ToPass}
-use Rattle.router_node.specs.declared.items.Held.{Held}
-use Rattle.router_node.specs.declared.items.Response.{Response}
-use Rattle.router_node.specs.declared.items.Rest.{Rest}
+use Rattle.router_moves.specs.Items.{IsBegun, IsDown, IsHolding, IsRest, latency_of}
+use Rattle.router_moves.specs.Moves.{HasBegunOn}
+use Rattle.router_moves.specs.declared.items.Begun.{Begun}
+use Rattle.router_moves.specs.declared.items.Down.{Down as ToPass}
+use Rattle.router_moves.specs.declared.items.Held.{Held}
+use Rattle.router_moves.specs.declared.items.Response.{Response}
+use Rattle.router_moves.specs.declared.items.Rest.{Rest}
 use Rattle.router_node.specs.declared.stage.Away.{Away}
 use Rattle.router_node.specs.declared.stage.Stage.{Stage}
 use Rattle.router_node.specs.declared.stage.Stage.TheVariants.{Down, Below, Up, Sent}

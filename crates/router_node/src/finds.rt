@@ -5,11 +5,9 @@ ghost use Rattle.one_history.specs.Lists.{StandBelow};
 ghost use Rattle.shared_object.specs.Steps.{IsNote};
 ghost use Rattle.router_node.specs.Finds.{HasFoundBack, HasFoundRequest, IsHopAbove, IsHopBelow};
 
-use crate::down::fetch_down;
-use crate::items::Request;
-use crate::up::{Fetched, fetch_up};
 use plat_net::{Net, PlatNote, TlmLaw};
 use route_plan::Plan;
+use router_moves::{Fetched, Request, fetch_down, fetch_up};
 use shared_object::Naming;
 use std::sync::Wait;
 

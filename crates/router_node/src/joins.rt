@@ -5,11 +5,10 @@ ghost use Rattle.router_node.specs.Joins.{HasJoined, IsOf, IsTheOne};
 ghost use Rattle.router_node.specs.Stages.{IsStage};
 
 use crate::finds::Found;
-use crate::items::Held;
 use crate::stage::Stage;
-use crate::up::turn_up;
 use plat_net::{Net, PlatNote, TlmLaw};
 use route_plan::Plan;
+use router_moves::{Held, turn_up};
 use shared_object::Naming;
 
 // Whether a response from below is that of a transaction that has gone down there.

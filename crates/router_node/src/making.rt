@@ -3,7 +3,7 @@ ghost use Rattle.std.specs.Prelude.{◌≡◌, ◌+◌, ◌^◌, ◌<◌, ◌≤
 ghost use Rattle.std.specs.List.{range_with_len};
 ghost use Rattle.tlm_model.specs.Route.{window_hop};
 ghost use Rattle.router_node.specs.Hops.{IsNew, hops_to, is_router, leads_to, row_lanes, row_windows};
-ghost use Rattle.router_node.specs.Items.{accepts, is_accepting};
+ghost use Rattle.router_moves.specs.Items.{accepts, is_accepting};
 ghost use Rattle.router_node.specs.Node.{router_latency};
 
 use crate::node::RouterNode;

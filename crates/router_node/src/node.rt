@@ -13,13 +13,13 @@ ghost use Rattle.router_node.specs.Stages.{IsStage};
 ghost use Rattle.router_node.specs.declared.stage.Stage.TheVariants as Stages;
 ghost use Rattle.router_node.specs.declared.stage.Step.TheVariants as Steps;
 
-use crate::choice::{Turned, turn};
 use crate::finds::{Found, find_back, find_request};
 use crate::haste::{Wanted, hops_at, leaves_out};
 use crate::joins::{is_joined, join};
 use crate::stage::{Away, Stage, Step, finish_away, is_about, look_for_end, move_on};
 use plat_net::{Net, PlatNote, TlmLaw};
 use route_plan::Plan;
+use router_moves::{Turned, turn};
 use shared_object::Naming;
 use std::collections::VecDeque;
 use std::mem::replace;

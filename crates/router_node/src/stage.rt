@@ -10,18 +10,18 @@ ghost use Rattle.cargo_model.specs.Known.{Known};
 ghost use Rattle.route_plan.specs.Shape.{IsShape};
 ghost use Rattle.route_plan.specs.Valid.{hop_count};
 ghost use Rattle.plat_net.specs.Places.{LeadsTo};
-ghost use Rattle.router_node.specs.Items.{HasGone, IsBegun, IsDown, latency_of};
-ghost use Rattle.router_node.specs.Moves.{HasEndedAbove};
+ghost use Rattle.router_moves.specs.Items.{HasGone, IsBegun, IsDown, latency_of};
+ghost use Rattle.router_moves.specs.Moves.{HasEndedAbove};
 ghost use Rattle.router_node.specs.Stages.{HasEnded, HasLookedForEnd, HasSettled, HasStepped, IsAway, IsServed, IsSettled, IsStage, IsUp, WasReleased, is_about};
 ghost use Rattle.router_node.specs.declared.stage.Stage.TheVariants as Stages;
 ghost use Rattle.router_node.specs.declared.stage.Step.TheVariants as Steps;
 
-use crate::down::{Passed, end_above, pass_on, serve_below};
-use crate::items::{Begun, Down, End, Held, Response, Rest};
-use crate::up;
-use crate::up::{end_below, has_ended_above, release, send_up, turn_up};
 use plat_net::{Net, PlatNote, TlmLaw};
 use route_plan::{Down as Behind, HopEnds, Plan};
+use router_moves::{
+    Begun, Down, End, Held, Passed, Response, Rest, Sent, end_above, end_below, has_ended_above,
+    pass_on, release, send_up, serve_below, turn_up,
+};
 use shared_object::Naming;
 use std::sync::Wait;
 use tlm_types::{Ps, TxnId};
@@ -174,7 +174,7 @@ pub fn send<N: Naming<Plan, TlmLaw>, R: Wait>(
     let txn = response.cargo.baton.txn();
     let above = response.hop;
     match send_up(net, rt, note, response) {
-        up::Sent::Open { at, note } => {
+        Sent::Open { at, note } => {
             let away = Away {
                 txn,
                 above,
@@ -184,7 +184,7 @@ pub fn send<N: Naming<Plan, TlmLaw>, R: Wait>(
             };
             (Some(Stage::Sent(away)), true, note)
         }
-        up::Sent::Ended { at, note } => {
+        Sent::Ended { at, note } => {
             let away = Away {
                 txn,
                 above,
@@ -194,7 +194,7 @@ pub fn send<N: Naming<Plan, TlmLaw>, R: Wait>(
             };
             (Some(Stage::Sent(away)), true, note)
         }
-        up::Sent::Refused { response, note } => (Some(Stage::Up(response, rest)), false, note),
+        Sent::Refused { response, note } => (Some(Stage::Up(response, rest)), false, note),
     }
 }
 

@@ -1,8 +1,8 @@
 use Rattle.std.proofs.Common.{◌≡◌, ◌++◌, ℕ, [], ◌∷◌, get_or, Option, subst}
 use Rattle.plat_net.specs.Places.{hop_place}
 use Rattle.router_node.specs.Finds.{IsHopBelow}
-use Rattle.router_node.specs.Moves.{HasFetchedUp, up_look}
-use Rattle.router_node.specs.declared.up.Fetched.{Fetched}
+use Rattle.router_moves.specs.Moves.{HasFetchedUp, up_look}
+use Rattle.router_moves.specs.declared.up.Fetched.{Fetched}
 use Rattle.router_node.proofs.Looks.{each_at, is_first, looks_more, of_some, within_on, none_found, none_yet}
 use Rattle.router_node.proofs.finds.find_back.Goals as goal
 

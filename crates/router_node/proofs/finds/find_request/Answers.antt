@@ -2,9 +2,9 @@ use Rattle.std.proofs.Common.{◌≡◌, ◌++◌, ℕ, ◌<◌, [], ◌∷◌, 
 use Rattle.plat_net.specs.Places.{hop_place}
 use Rattle.route_plan.specs.Valid.{hop_count}
 use Rattle.router_node.specs.Finds.{IsFirst, IsHopAbove}
-use Rattle.router_node.specs.Items.{IsRequest}
-use Rattle.router_node.specs.Moves.{fetch_look}
-use Rattle.router_node.specs.declared.items.Request.{Request}
+use Rattle.router_moves.specs.Items.{IsRequest}
+use Rattle.router_moves.specs.Moves.{fetch_look}
+use Rattle.router_moves.specs.declared.items.Request.{Request}
 use Rattle.router_node.proofs.Looks.{each_at, is_first, looks_more, of_some, within_on, none_found, none_yet}
 use Rattle.router_node.proofs.finds.find_request.Goals as goal
 

@@ -2,8 +2,8 @@ use Rattle.router_node.proofs.Staged.{ends_above}
 use Rattle.std.proofs.Common.{Option, sym, subst}
 use Rattle.std.specs.Prelude.{IfSome}
 use Rattle.router_node.specs.Stages.{WasReleased}
-use Rattle.router_node.specs.declared.items.Rest.{Rest}
-use Rattle.router_node.proofs.Grown.{finds_more}
+use Rattle.router_moves.specs.declared.items.Rest.{Rest}
+use Rattle.router_moves.proofs.Grown.{finds_more}
 use Rattle.router_node.proofs.stage.finish_away.Goals as goal
 
 pub finish_below-requires-clause-ended : goal.finish_below-requires-clause-ended

@@ -5,11 +5,11 @@ use Rattle.one_history.specs.declared.view.Frame.{Frame}
 use Rattle.tlm_types.specs.declared.entry.Content.{Content}
 use Rattle.tlm_types.specs.declared.words.TxnId.{TxnId}
 use Rattle.tlm_model.specs.Plan.{Plan}
-use Rattle.router_node.specs.Moves.{HasReleasedAt, IsDone, IsOwing}
+use Rattle.router_moves.specs.Moves.{HasReleasedAt, IsDone, IsOwing}
 use Rattle.router_node.specs.Stages.{WasReleased}
-use Rattle.router_node.specs.declared.items.End.{End}
-use Rattle.router_node.specs.declared.items.End.TheVariants.{Owed, At}
-use Rattle.router_node.specs.declared.items.Rest.{Rest}
+use Rattle.router_moves.specs.declared.items.End.{End}
+use Rattle.router_moves.specs.declared.items.End.TheVariants.{Owed, At}
+use Rattle.router_moves.specs.declared.items.Rest.{Rest}
 use Rattle.router_node.proofs.stage.finish_below.Goals as goal
 
 -- END_RESP was made

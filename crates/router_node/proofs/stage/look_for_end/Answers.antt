@@ -8,7 +8,7 @@ use Rattle.flow_model.specs.Events.{Finds}
 use Rattle.flow_model.specs.Numbers.{IsEnder}
 use Rattle.cargo_model.specs.Known.{Known}
 use Rattle.plat_net.specs.Places.{hop_place}
-use Rattle.router_node.specs.Moves.{ended_look}
+use Rattle.router_moves.specs.Moves.{ended_look}
 use Rattle.router_node.specs.Stages.{HasLookedForEnd}
 use Rattle.router_node.specs.declared.stage.Away.{Away}
 use Rattle.router_node.proofs.stage.look_for_end.Goals as goal

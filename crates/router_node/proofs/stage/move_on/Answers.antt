@@ -9,10 +9,10 @@ use Rattle.one_history.specs.declared.view.Frame.{Frame}
 use Rattle.one_history.specs.declared.view.View.{View}
 use Rattle.tlm_types.specs.declared.entry.Content.{Content}
 use Rattle.tlm_model.specs.Plan.{Plan}
-use Rattle.router_node.specs.declared.items.Down.{Down as ToPass}
-use Rattle.router_node.specs.declared.items.Held.{Held}
-use Rattle.router_node.specs.declared.items.Response.{Response}
-use Rattle.router_node.specs.declared.items.Rest.{Rest}
+use Rattle.router_moves.specs.declared.items.Down.{Down as ToPass}
+use Rattle.router_moves.specs.declared.items.Held.{Held}
+use Rattle.router_moves.specs.declared.items.Response.{Response}
+use Rattle.router_moves.specs.declared.items.Rest.{Rest}
 use Rattle.router_node.specs.declared.stage.Away.{Away}
 use Rattle.router_node.proofs.stage.move_on.Goals as goal
 

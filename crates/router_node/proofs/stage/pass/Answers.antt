@@ -1,5 +1,5 @@
 use Rattle.std.proofs.Common.{ap, ◌∙◌}
-use Rattle.router_node.specs.declared.items.Held.{Held}
+use Rattle.router_moves.specs.declared.items.Held.{Held}
 use Rattle.router_node.proofs.ByReturn.{came_back, gone_of, went_down}
 use Rattle.router_node.proofs.Looks.{within_on}
 use Rattle.router_node.proofs.stage.pass.Goals as goal

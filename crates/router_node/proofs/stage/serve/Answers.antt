@@ -1,6 +1,6 @@
 use Rattle.std.proofs.Common.{◌+◌}
 use Rattle.router_node.proofs.ByReturn.{by_memory}
-use Rattle.router_node.proofs.Hops.{on_plan}
+use Rattle.router_moves.proofs.Hops.{on_plan}
 use Rattle.router_node.proofs.stage.serve.Goals as goal
 
 pub memory_behind-requires : goal.memory_behind-requires

@@ -3,7 +3,7 @@ use Rattle.std.specs.VecDeque.{deque_capacity}
 use Rattle.router_node.specs.Finds.{AreLookedAt, HasFoundRequest, IsHopAbove}
 use Rattle.router_node.specs.Node.{stage_of}
 use Rattle.router_node.specs.Stages.{IsStage}
-use Rattle.router_node.specs.declared.items.Request.{Request}
+use Rattle.router_moves.specs.declared.items.Request.{Request}
 use Rattle.router_node.specs.declared.stage.Stage.{Stage}
 use Rattle.router_node.proofs.Hasty.{each_looked, full_in, not_in}
 use Rattle.router_node.proofs.Holds.{all_more, all_next, keeps, last_is, latency_to, router_more, stray_more, turned_stage}

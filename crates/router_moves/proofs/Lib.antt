@@ -1,0 +1,9 @@
+pub mod Grown
+pub mod Windows
+pub mod Downs
+pub mod Passes
+pub mod Turns
+pub mod TurnsUp
+pub mod Sends
+pub mod Ended
+pub mod Hops
