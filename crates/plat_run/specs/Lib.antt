@@ -1,1 +1,5 @@
 pub mod Entries
+pub mod Ports
+pub mod Nodes
+pub mod Actors
+pub mod Turn

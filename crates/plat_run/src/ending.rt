@@ -1,12 +1,12 @@
 // What is gathered once all jobs have finished.
 ghost use Rattle.std.specs.Prelude.{◌≡◌, true, All, length, IfOk};
 ghost use Rattle.run_queue.specs.Queue.{AreNumbered};
-ghost use Rattle.run_jobs.specs.Actors.{is_done, number_of};
+ghost use Rattle.plat_run.specs.Actors.{is_done, number_of};
 ghost use Rattle.plat_end.specs.End.{AreFinished};
 
+use crate::actor::Actor;
 use plat_net::{PlatNote, TlmLaw};
 use route_plan::Plan;
-use run_jobs::Actor;
 use shared_object::Naming;
 use std::alloc::Global;
 use tlm_types::{EndOf, Memory};

@@ -1,17 +1,35 @@
 //! The run of a platform by threads.
 //!
-//! `run` takes the jobs of a net that was just built (`run_jobs`), lets workers give them turns until all initiators have
-//! finished, and makes the outcome of what the jobs and the memories have (`plat_end`). `run_plan` builds the net as
-//! well.
+//! - `run` makes the jobs of a net that was just built (`begin_jobs`), lets workers give them turns until all initiators
+//!   have finished, and makes the outcome of what the jobs and the memories have (`plat_end`). `run_plan` builds the net
+//!   as well.
+//! - `Actor` is a job of any kind, in a box: workers hand the box on, and a turn works in place. It answers a
+//!   `Turn`: whether the job went on, let others go on, is held back by the board, or found nothing to do. A pump that would
+//!   find nothing, by what the net tells, is passed over (`Waits`).
+//! - A turn of a blocking or direct initiator, `decoupled_run::DecoupledInitiator`, is at most one operation, or one access
+//!   of it with the grant that is asked for after it, and the sync that is due after it. `PortJob` is a four-phase initiator
+//!   as a job: a turn of it is one pump of its port. `MemoryJob` and `RouterJob` are the memories and routers, which are jobs
+//!   where some initiator is of four phases; a turn is one pump.
 //!
 //! Promises: whatever the threads do in which order, the history is good for the plan, it is the sealed
-//! one, and the stores and ends are those of the definitions. Workers take no memory.
+//! one, and the stores and ends are those of the definitions. The jobs stand in the order of their numbers, initiators
+//! first; what an initiator leaves that has finished says that its script is done. Workers take no memory.
 #![tactic(auto)]
 
+mod actor;
+mod begin;
+mod decoupled;
 mod ending;
+mod nodes;
+mod port_job;
 mod running;
+mod turn;
+mod waits;
 mod workers;
 
+pub use actor::Actor;
+pub use nodes::{MemoryJob, RouterJob};
 pub use plat_end::PlatSealed;
-pub use run_jobs::{Actor, MemoryJob, PortJob, RouterJob, Turn};
+pub use port_job::PortJob;
 pub use running::{run, run_plan};
+pub use turn::Turn;

@@ -1,11 +1,12 @@
 // The workers.
 ghost use Rattle.std.specs.Prelude.{◌≡◌, ◌<◌, true, false, map, length, All};
-ghost use Rattle.run_jobs.specs.Actors.{is_done, number_of};
+ghost use Rattle.plat_run.specs.Actors.{is_done, number_of};
 
+use crate::actor::Actor;
+use crate::turn::Turn;
 use outside::Pace;
 use plat_net::{Net, Reach, TlmLaw};
 use route_plan::Plan;
-use run_jobs::{Actor, Turn};
 use run_queue::{Job, RunQueue, Taken};
 use shared_object::Naming;
 use std::sync::Wait;

@@ -5,7 +5,7 @@ use Rattle.tlm_types.specs.declared.ends.EndOf.{EndOf}
 use Rattle.tlm_types.specs.declared.entry.Content.{Content}
 use Rattle.tlm_model.specs.Plan.{Plan}
 use Rattle.plat_build.proofs.KeptLemmas.{next_is, whole_next}
-use Rattle.run_jobs.specs.Actors.{is_done, number_of}
+use Rattle.plat_run.specs.Actors.{is_done, number_of}
 use Rattle.net_end.specs.Leaves.{IsFinished}
 use Rattle.plat_end.specs.End.{AreFinished}
 use Rattle.plat_run.proofs.GatherLemmas.{each_there, finished_more}

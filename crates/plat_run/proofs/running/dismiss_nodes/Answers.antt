@@ -1,6 +1,6 @@
 use Rattle.std.proofs.Common.{◌<◌, ◌≤◌, ℕ, length, sym, subst, arith}
 use Rattle.std.specs.Prelude.{count_by}
-use Rattle.run_jobs.specs.Actors.{is_done, number_of}
+use Rattle.plat_run.specs.Actors.{is_done, number_of}
 use Rattle.plat_run.proofs.GatherLemmas.{all_pass, one_let_go}
 use Rattle.plat_run.proofs.running.dismiss_nodes.Goals as goal
 

@@ -1,5 +1,5 @@
 use Rattle.std.proofs.Common.{length}
-use Rattle.run_jobs.specs.Actors.{is_done, number_of}
+use Rattle.plat_run.specs.Actors.{is_done, number_of}
 use Rattle.plat_run.proofs.GatherLemmas.{StillEnough}
 use Rattle.plat_run.proofs.running.dismiss_nodes.Given as goal
 

@@ -3,8 +3,8 @@ use Rattle.std.specs.Prelude.{count_by}
 use Rattle.std.specs.Vec.{with_items}
 use Rattle.std.proofs.lemmas.List.{length-map, with_items_is}
 use Rattle.run_queue.specs.Queue.{AreNumbered}
-use Rattle.run_jobs.specs.declared.actor.Actor.{Actor}
-use Rattle.run_jobs.specs.Actors.{is_done, number_of}
+use Rattle.plat_run.specs.declared.actor.Actor.{Actor}
+use Rattle.plat_run.specs.Actors.{is_done, number_of}
 use Rattle.plat_run.proofs.GatherLemmas.{numbered_again, numbered_pass}
 use Rattle.plat_run.proofs.running.give_all_turns.Goals as goal
 

@@ -1,7 +1,7 @@
 use Rattle.std.proofs.Common.{◌≡◌, ◌<◌, length, true, sym, ◌∙◌, arith}
 use Rattle.std.proofs.Math.Seq.{map-set_same}
 use Rattle.std.proofs.lemmas.List.Elements.{AllWithin-more_set}
-use Rattle.run_jobs.specs.Actors.{is_done, number_of}
+use Rattle.plat_run.specs.Actors.{is_done, number_of}
 use Rattle.plat_run.proofs.workers.give_round.Goals as goal
 use Rattle.plat_run.proofs.workers.give_round.Goals.{then-turn_leaves_more, else-turn_leaves_more}
 

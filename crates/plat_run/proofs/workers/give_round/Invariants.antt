@@ -1,6 +1,6 @@
 use Rattle.std.proofs.Common.{◌≡◌, ◌<◌, map, true, false}
 use Rattle.std.specs.List.{AllWithin}
-use Rattle.run_jobs.specs.Actors.{is_done, number_of}
+use Rattle.plat_run.specs.Actors.{is_done, number_of}
 use Rattle.plat_run.proofs.workers.give_round.Given as goal
 
 abbrev pub invariant-loop-job : goal.invariant-loop-job

@@ -1,5 +1,5 @@
 use Rattle.std.proofs.Common.{◌≡◌}
-use Rattle.run_jobs.specs.Actors.{number_of}
+use Rattle.plat_run.specs.Actors.{number_of}
 use Rattle.plat_run.proofs.workers.give_share.Given as goal
 
 abbrev pub invariant-loop-turn : goal.invariant-loop-turn

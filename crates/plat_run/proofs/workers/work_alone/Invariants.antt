@@ -1,5 +1,5 @@
 use Rattle.std.proofs.Common.{◌≡◌, map}
-use Rattle.run_jobs.specs.Actors.{number_of}
+use Rattle.plat_run.specs.Actors.{number_of}
 use Rattle.plat_run.proofs.workers.work_alone.Given as goal
 
 abbrev pub invariant-loop : goal.invariant-loop

@@ -1,4 +1,0 @@
-pub mod SealLemmas
-pub mod BeginLemmas
-pub mod PortLemmas
-pub mod NodeLemmas

@@ -1,4 +1,0 @@
-pub mod Ports
-pub mod Nodes
-pub mod Actors
-pub mod Turn
