@@ -1,5 +1,5 @@
 -- What each initiator of a plan may add to each object, as it is counted and as it is kept.
-use Rattle.std.specs.Prelude.{ℕ, ◌+◌, ◌*◌, List, map, length, sum_by, Option, Some, None, slice_get, Result, Ok, Err, if◌then◌else◌, nat_lt, codes}
+use Rattle.std.specs.Prelude.{◌≡◌, ℕ, ◌+◌, ◌*◌, List, map, length, sum_by, Option, Some, None, slice_get, Result, Ok, Err, if◌then◌else◌, nat_lt, codes}
 use Rattle.std.specs.List.{range_with_len}
 use Rattle.platform_model.specs.declared.fault.PlatformCode.TheVariants.{TooManyEntries, TooMuchData}
 use Rattle.platform_model.specs.declared.place.Place.TheVariants as place
@@ -72,3 +72,7 @@ checked_shares shares =
     if nat_lt most_entries (sum_by entries_in shares) then Err (refusal TooManyEntries place.Top (codes "-"))
     else if nat_lt most_logged (sum_by logged_in shares) then Err (refusal TooMuchData place.Top (codes "-"))
     else Ok tt
+
+-- what is counted is within the limits
+abbrev pub HavePassed : List (List Share) → Type 0
+HavePassed shares = checked_shares shares ≡ Ok tt

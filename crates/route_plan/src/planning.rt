@@ -1,7 +1,7 @@
 // The making of plans.
-ghost use Rattle.std.specs.Prelude.{◌≡◌, length, IfOk};
-ghost use Rattle.platform_model.specs.Reading.{Gives};
-ghost use Rattle.route_plan.specs.Shares.{checked_shares};
+ghost use Rattle.std.specs.Prelude.{◌≡◌, length, IfErr, IfOk};
+ghost use Rattle.platform_model.specs.Reading.{Fails, Gives};
+ghost use Rattle.route_plan.specs.Shares.{checked_shares, shares_of, with_scripts, HavePassed};
 ghost use Rattle.route_plan.specs.Valid.{planned, IsValid};
 
 use crate::copies::copy_scripts;
@@ -34,6 +34,22 @@ fn check_shares(alloc: Global, shares: &[Rows<Share>]) -> Result<(), PlatformFau
     Ok(())
 }
 
+/// What each initiator may add to each object, where it is within the limits.
+fn counted_shares(
+    alloc: Global,
+    routes: &Routes,
+    scripts: &[Script],
+) -> Result<Rows<Rows<Share>>, PlatformFault>
+    requires { length scripts.now ≡ length routes.now.initiators }
+    ensures counted { IfOk result (λ shares. shares ≡ shares_of (with_scripts routes.now scripts.now)) }
+    ensures passed { IfOk result (λ shares. HavePassed shares) }
+    ensures refused { IfErr result (λ f. Fails f (checked_shares (shares_of (with_scripts routes.now scripts.now)))) }
+{
+    let shares = shares(alloc, routes, scripts)?;
+    check_shares(alloc, shares.as_slice())?;
+    Ok(shares)
+}
+
 /// The plan of a shape with the script of each initiator in order, which are copied. It is refused
 /// where its scripts may add more than 1,000,000 entries to the objects (`TooManyEntries`), or else
 /// log more than 67,108,864 bytes (`TooMuchData`). The only other error is want of memory.
@@ -44,9 +60,9 @@ pub fn plan(alloc: Global, shape: Shape, scripts: &[Script]) -> Result<Plan, Pla
     ensures valid { IfOk result IsValid }
     ensures platform { IfOk result (λ p. p.platform ≡ shape) }
 {
-    let scripts = copy_scripts(alloc, scripts)?;
     let routes = Routes::of_shape(alloc, shape)?;
-    let shares = shares(alloc, &routes, scripts.as_slice())?;
-    check_shares(alloc, shares.as_slice())?;
+    let _ = routes.platform();
+    let scripts = copy_scripts(alloc, scripts)?;
+    let shares = counted_shares(alloc, &routes, scripts.as_slice())?;
     Ok(Plan::of_parts(routes, scripts, shares))
 }

@@ -22,12 +22,23 @@ use tlm_types::ObjectNo;
 pub(crate) const MOST_VISITED: u32 = 9;
 
 /// A platform of a good shape, with tables of its windows and hops. Contracts see the platform.
-#[derive(Drop)]
 pub struct Routes {
     platform: Platform,
     windows: Vec<Windows>,
     first_hops: Vec<u32>,
     ends: Vec<HopEnds>,
+}
+
+// Written out, so that each early return calls it.
+impl Drop for Routes {
+    fn drop(self) {
+        let Routes {
+            platform: _,
+            windows: _,
+            first_hops: _,
+            ends: _,
+        } = self;
+    }
 }
 
 impl Model for Routes {

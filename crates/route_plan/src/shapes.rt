@@ -9,9 +9,15 @@ use tlm_model::Platform;
 /// format, each router has a window, each component is named, no router leads back to itself, no path
 /// has more than 8 routers, and no two paths lead from an initiator to one component. Its initiators may
 /// have every style.
-#[derive(Drop)]
 pub struct Shape {
     platform: Platform,
+}
+
+// Written out, so that each early return calls it.
+impl Drop for Shape {
+    fn drop(self) {
+        let Shape { platform: _ } = self;
+    }
 }
 
 impl Model for Shape {
@@ -47,6 +53,7 @@ impl Shape {
         ensures same { result ≡ self }
         ensures shape { IsShape self }
     {
-        self.platform
+        let Shape { platform } = self;
+        platform
     }
 }
