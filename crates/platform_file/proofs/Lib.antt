@@ -8,3 +8,4 @@ pub mod KeyLemmas
 pub mod WorkedDocuments
 pub mod OwnNames
 pub mod BoundLemmas
+pub mod Apart

@@ -5,5 +5,6 @@ pub mod Tables
 pub mod Names
 pub mod NamesView
 pub mod Platform
+pub mod Bound
 pub mod Document
 pub mod Worked

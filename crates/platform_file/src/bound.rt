@@ -1,13 +1,18 @@
 // Rows with what their names lead to.
+ghost use Rattle.std.specs.Prelude.{◌≤◌, length};
+ghost use Rattle.platform_model.specs.Reading.{Gives};
+ghost use Rattle.platform_file.specs.Bound.{bound_rows};
 ghost use Rattle.platform_file.specs.NamesView.{names_view};
 ghost use Rattle.platform_file.specs.Platform.{bound_initiator, bound_window, bound_router};
 
 use crate::initiators::InitiatorKeys;
-use crate::names::{NameMap, target};
+use crate::names::{NameMap, names, target};
 use crate::routers::{RouterKeys, WindowKeys};
+use crate::top::PlatformKeys;
+use crate::windows::RouterWindows;
 use platform_model::{Place, PlatformFault, RowKind, rows};
 use std::alloc::Global;
-use tlm_model::{InitiatorRow, RouterRow, WindowRow};
+use tlm_model::{InitiatorRow, RouterRow, Rows, WindowRow};
 use tlm_types::Text;
 
 /// Initiators with what their sockets are bound to.
@@ -106,4 +111,31 @@ impl<'n> RowKind<RouterKeys> for BoundRouters<'n> {
             windows,
         })
     }
+}
+
+/// The initiators and the routers of a platform with what they lead to.
+#[derive(Drop)]
+pub struct BoundRows {
+    pub initiators: Rows<InitiatorRow>,
+    pub routers: Rows<RouterRow>,
+}
+
+/// The names of a platform, what its initiators and its routers lead to by them, and then the test of the routers' windows.
+#[tactic(auto, unfolding(crate::specs::Bound::bound_rows))]
+pub fn bound_rows(alloc: Global, keys: &PlatformKeys) -> Result<BoundRows, PlatformFault>
+    requires initiators { length keys.now.initiators ≤ 32 }
+    requires routers { length keys.now.routers ≤ 16 }
+    requires memories { length keys.now.memories ≤ 16 }
+    ensures { Gives result (bound_rows keys.now) }
+{
+    let names = names(alloc, keys)?;
+    let kind = BoundInitiators { names: &names };
+    let initiators = rows(alloc, &kind, keys.initiators.as_slice())?;
+    let kind = BoundRouters { names: &names };
+    let routers = rows(alloc, &kind, keys.routers.as_slice())?;
+    rows(alloc, &RouterWindows, routers.as_slice())?;
+    Ok(BoundRows {
+        initiators,
+        routers,
+    })
 }

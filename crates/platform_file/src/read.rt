@@ -6,12 +6,10 @@ ghost use Rattle.platform_model.specs.Reading.{Gives};
 ghost use Rattle.platform_file.specs.Platform.{platform_of, platform_of_table, document_of};
 ghost use Rattle.platform_file.specs.Document.{GivesDocument};
 
-use crate::bound::{BoundInitiators, BoundRouters};
-use crate::names::names;
+use crate::bound::bound_rows;
 use crate::sums::check_sums;
 use crate::top::platform_keys;
-use crate::windows::RouterWindows;
-use platform_model::{Place, PlatformCode, PlatformFault, rows};
+use platform_model::{Place, PlatformCode, PlatformFault};
 use std::alloc::{AllocError, Global};
 use tlm_model::Platform;
 use toml::Table;
@@ -23,18 +21,13 @@ fn platform(alloc: Global, table: &Table) -> Result<Platform, PlatformFault>
     ensures { Gives result (platform_of_table (table_view table.now)) }
 {
     let keys = platform_keys(alloc, table)?;
-    let names = names(alloc, &keys)?;
-    let kind = BoundInitiators { names: &names };
-    let initiators = rows(alloc, &kind, keys.initiators.as_slice())?;
-    let kind = BoundRouters { names: &names };
-    let routers = rows(alloc, &kind, keys.routers.as_slice())?;
-    rows(alloc, &RouterWindows, routers.as_slice())?;
+    let bound = bound_rows(alloc, &keys)?;
     check_sums(alloc, keys.memories.as_slice())?;
     Ok(Platform {
         version: keys.version,
         quantum: keys.quantum,
-        initiators,
-        routers,
+        initiators: bound.initiators,
+        routers: bound.routers,
         memories: keys.memories,
     })
 }
