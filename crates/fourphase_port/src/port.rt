@@ -1,6 +1,7 @@
 // A port: a four-phase initiator under way.
-ghost use Rattle.std.specs.Prelude.{◌≡◌, ◌<◌, ◌≤◌, IfOk, Some, length, slice_get};
+ghost use Rattle.std.specs.Prelude.{◌≡◌, ◌<◌, ◌≤◌, [], IfOk, Some, length, slice_get};
 ghost use Rattle.view_lists.specs.Lists.{AreDistinct};
+ghost use Rattle.token_book.specs.Purse.{empty_purse};
 ghost use Rattle.tlm_model.specs.Plan.{Initiator, initiators_of};
 ghost use Rattle.script_engine.specs.State.{next_of};
 ghost use Rattle.port_model.specs.Ends.{IsEndOfPort};
@@ -80,6 +81,30 @@ fn room_for<N: Naming<Plan, TlmLaw>>(net: &Net<N>, initiator: u32) -> u32
     2 * net.plan().script(initiator).len() as u32
 }
 
+// What a port has room in, with nothing in it.
+#[derive(Drop)]
+struct Rooms {
+    away: Away,
+    refused: RefusedList,
+    purse: Wallet,
+}
+
+// Room for so much that may be outstanding or refused, and for the ticket of a debug read. Its only error is want of memory.
+fn make_rooms(alloc: Global, room: u32) -> Result<Rooms, Memory>
+    ensures away { IfOk result (λ rooms. rooms.away ≡ record { numbers = []; room = room }) }
+    ensures refused { IfOk result (λ rooms. rooms.refused ≡ record { items = []; room = room }) }
+    ensures purse { IfOk result (λ rooms. rooms.purse ≡ empty_purse 1) }
+{
+    let away = Away::with_room(alloc, room)?;
+    let refused = RefusedList::with_room(alloc, room)?;
+    let purse = Wallet::new(alloc, 1)?;
+    Ok(Rooms {
+        away,
+        refused,
+        purse,
+    })
+}
+
 impl<N: Naming<Plan, TlmLaw>> Port<N> {
     /// A port with its whole script before it. It makes the room for all that may be outstanding or refused,
     /// and takes no memory afterwards. Its only error is want of memory, by which what was handed in is spent.
@@ -97,18 +122,19 @@ impl<N: Naming<Plan, TlmLaw>> Port<N> {
     {
         let _ = net.plan().platform();
         let room = room_for(net, engine.initiator());
+        let rooms = make_rooms(alloc, room)?;
         let state = PortState {
             engine,
             waiting: false,
             time: 0,
             latest: 0,
-            away: Away::with_room(alloc, room)?,
-            refused: RefusedList::with_room(alloc, room)?,
+            away: rooms.away,
+            refused: rooms.refused,
             hand: Hand::Free,
             held: None,
             payload: Some(payload),
             wallet,
-            purse: Wallet::new(alloc, 1)?,
+            purse: rooms.purse,
         };
         Ok(Port {
             state,

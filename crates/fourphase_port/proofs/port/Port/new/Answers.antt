@@ -13,6 +13,6 @@ room_for-room-requires g c = within g.N.Naming.table g.N.Naming.tokens g.N.Namin
 pub invariant_of-result : goal.invariant_of-result
 invariant_of-result g c =
     let f = c.requires.fresh in
-    begun_by g.N.Naming.table g.N.Naming.tokens g.N.Naming.frame c.args.engine.initiator c.args.engine c.args.payload c.args.note c.args.wallet c.requires.fresh (subst IsValid (c.plan.ensures.plan ∙ c.plan.ensures.world) c.platform.ensures.valid) c.in_ok-with_room.field-0.numbers c.in_ok-with_room-2.field-0.items c.room_for-room.result c.in_ok-with_room.field-0.room _
-    (ap (λ (a : Outstanding). a.numbers) c.in_ok-with_room.ensures) (ap (λ (a : Refusals). a.items) c.in_ok-with_room-2.ensures) (ap (λ (a : Outstanding). a.room) c.in_ok-with_room.ensures) refl
+    begun_by g.N.Naming.table g.N.Naming.tokens g.N.Naming.frame c.args.engine.initiator c.args.engine c.args.payload c.args.note c.args.wallet c.requires.fresh (subst IsValid (c.plan.ensures.plan ∙ c.plan.ensures.world) c.platform.ensures.valid) c.in_ok-rooms.rooms.away.numbers c.in_ok-rooms.rooms.refused.items c.room_for-room.result c.in_ok-rooms.rooms.away.room _
+    (ap (λ (a : Outstanding). a.numbers) c.in_ok-rooms.ensures.away) (ap (λ (a : Refusals). a.items) c.in_ok-rooms.ensures.refused) (ap (λ (a : Outstanding). a.room) c.in_ok-rooms.ensures.away) refl
     (c.room_for-room.ensures f.initiator (ap (λ (k : ℕ). slice_get (initiators_of g.N.Naming.frame.world) k) c.initiator.ensures ∙ f.is))
