@@ -23,7 +23,7 @@ use Rattle.cargo_model.specs.declared.cargo.Cargo.{Cargo}
 use Rattle.cargo_model.specs.Counts.{calls_down, request_ends}
 use Rattle.cargo_model.specs.Known.{Known, object_number}
 use Rattle.cargo_model.specs.Travel.{GoesDown, IsAsked, Moment, Ready, There, memory_number, route_for, with_wallet}
-use Rattle.target_node.specs.declared.items.Request.{Request}
+use Rattle.target_node.specs.declared.items.MemoryRequest.{MemoryRequest}
 use Rattle.port_model.specs.Stages.{price}
 use Rattle.begun_end.specs.Cargos.{CoversHop, IsRequested}
 use Rattle.begun_end.proofs.CargoLemmas.{hops_are_covered}
@@ -159,7 +159,7 @@ module _ (frame : Frame Plan) (tokens : TableId) (h : List Event) (i : Initiator
         memory = λ o q. (g.tickets.memory o q).0;
       }
 
-  waiting : (j : ℕ) (r : Request) → WaitsAt frame tokens h x pass j r → Goes r.cargo.baton.wallet j
+  waiting : (j : ℕ) (r : MemoryRequest) → WaitsAt frame tokens h x pass j r → Goes r.cargo.baton.wallet j
   waiting j r s =
       let g = wait_here frame tokens h x pass free journey.passes j r s in
       let d = g.fetched.down in

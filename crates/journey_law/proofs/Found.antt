@@ -34,7 +34,7 @@ use Rattle.plat_net.specs.HopCalls.{CanRespond}
 use Rattle.router_moves.specs.Items.{IsDown as MayGoDown, IsHolding}
 use Rattle.router_node.specs.Stages.{IsRestUnder, IsStage}
 use Rattle.router_moves.specs.declared.items.Down.{Down as ToPass}
-use Rattle.router_moves.specs.declared.items.Held.{Held}
+use Rattle.router_moves.specs.declared.items.PassedOn.{PassedOn}
 use Rattle.router_moves.specs.declared.items.Rest.{Rest}
 use Rattle.router_node.specs.declared.stage.Stage.{Stage}
 use Rattle.router_node.specs.declared.stage.Stage.TheVariants.{Down, Below, Up, Sent}
@@ -75,7 +75,7 @@ module _ (frame : Frame Plan) (tokens : TableId) (h : List Event) (known : List 
         txn = may.down.held.txn;
       }
 
-  part_above : (held : Held) → IsHolding frame tokens known held → IsPartAbove frame tokens h held
+  part_above : (held : PassedOn) → IsHolding frame tokens known held → IsPartAbove frame tokens h held
   part_above held holding pass k here = record { known = known; stand = stand; holding = holding; txn = refl; here = here }
 
   part_below : (above : ℕ) (x : TxnId) (rest : Rest) → IsRestUnder frame tokens known above x rest → IsPartBelow frame tokens h x rest

@@ -19,7 +19,7 @@ use Rattle.flow_model.proofs.Ways.{world_law}
 use Rattle.cargo_model.specs.Counts.{calls_down}
 use Rattle.cargo_model.specs.Known.{Known}
 use Rattle.router_moves.specs.Items.{HasDebt, IsHeld}
-use Rattle.router_moves.specs.declared.items.Held.{Held}
+use Rattle.router_moves.specs.declared.items.PassedOn.{PassedOn}
 use Rattle.begun_end.specs.Cargos.{CoversHop, IsRequested}
 use Rattle.begun_end.proofs.CargoLemmas.{hops_are_covered}
 use Rattle.journey_law.specs.Parts.{IsAbove, IsPassed, Left, Nothing, Part, Passed, Stand, one_if, tickets_of}
@@ -37,7 +37,7 @@ module _ (frame : Frame Plan) (tokens : TableId) (h : List Event) (x : TxnId) (p
   distinct = ((world_law frame.world free).passages x pass passes).distinct
 
   -- what a router holds, of the way of x
-  held_here : (k : ℕ) → k < hop_count pass → (held : Held) (a : IsPassed frame tokens h x pass k held) → (state : LaneState) × IsHeld frame tokens a.known held pass k state
+  held_here : (k : ℕ) → k < hop_count pass → (held : PassedOn) (a : IsPassed frame tokens h x pass k held) → (state : LaneState) × IsHeld frame tokens a.known held pass k state
   held_here k less held a =
       let g = a.holding in
       let way : g.pass ≡ pass = same_some g.pass pass (passage_of frame.world x) (subst (λ (y : TxnId). passage_of frame.world y ≡ Some g.pass) a.txn g.held.passes) passes in
@@ -47,7 +47,7 @@ module _ (frame : Frame Plan) (tokens : TableId) (h : List Event) (x : TxnId) (p
       (g.state, subst (λ (j : ℕ). IsHeld frame tokens a.known held pass j g.state) same (subst (λ (q : Passage). IsHeld frame tokens a.known held q g.hop g.state) way g.held))
 
   -- the calls above that are known, with the tickets that the request has left and the router's
-  pub passed_covers : (k left : ℕ) → k < hop_count pass → (held : Held) → IsPassed frame tokens h x pass k held → left + calls_down (row_of w pass k) ≡ 4 → CoversHop w h x pass k (left + one_if held.owed)
+  pub passed_covers : (k left : ℕ) → k < hop_count pass → (held : PassedOn) → IsPassed frame tokens h x pass k held → left + calls_down (row_of w pass k) ≡ 4 → CoversHop w h x pass k (left + one_if held.owed)
   passed_covers k left less held a sum =
       let g = held_here k less held a in
       by g.0 held.owed (subst (λ (y : TxnId). HasDebt frame tokens a.known y pass k g.0 held.owed) a.txn g.1.debt)

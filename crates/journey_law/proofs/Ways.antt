@@ -30,7 +30,7 @@ use Rattle.cargo_model.specs.Tickets.{AreApart, PullsOwed, Stocks}
 use Rattle.cargo_model.specs.Travel.{Back as IsBackAt, GoesDown, GoesUp, IsAsked, IsFetched, Moment, Ready, logged_by, numbers_for, route_for, with_wallet}
 use Rattle.cargo_model.proofs.Origins.{apart_law}
 use Rattle.cargo_model.proofs.There.{there_law}
-use Rattle.target_node.specs.declared.items.Request.{Request}
+use Rattle.target_node.specs.declared.items.MemoryRequest.{MemoryRequest}
 use Rattle.journey_law.specs.Places.{HasEnded, IsDown, IsStarting, IsUp, MayGoUp, WaitsAt}
 use Rattle.journey_law.proofs.Sums.{same_some}
 
@@ -66,14 +66,14 @@ module _ (frame : Frame Plan) (tokens : TableId) (h : List Event) (x : TxnId) (p
       subst (λ (q : Passage). Starts s.known b x q) (same_some c.pass pass (passage_of frame.world x) g.asked.passes passes) g
 
   -- a request that waits at its memory
-  pub record Waits (known : List (Entry Content)) (r : Request) (y : TxnId) (q : Passage) (j : ℕ) : Type 0 where
+  pub record Waits (known : List (Entry Content)) (r : MemoryRequest) (y : TxnId) (q : Passage) (j : ℕ) : Type 0 where
     pub fetched : IsFetched frame.world tokens (Known frame.world.platform known) y q j r.cargo
     pub answer : TlmSync
     pub begun : Finds (Known frame.world.platform known) (IsCall y (hop_at q j) BeginReq answer)
     pub fits : IsAnswerIn (row_of w q j) answer
     pub ended : row_of w q j ≡ Accept → Finds (Known frame.world.platform known) (IsCall y (hop_at q j) EndReq Accepted)
 
-  pub wait_here : (j : ℕ) (r : Request) (s : WaitsAt frame tokens h x pass j r) → Waits s.known r x pass j
+  pub wait_here : (j : ℕ) (r : MemoryRequest) (s : WaitsAt frame tokens h x pass j r) → Waits s.known r x pass j
   wait_here j r s =
       let q = s.waiting in
       let first : Waits s.known r r.cargo.baton.txn q.pass q.hop = record {

@@ -22,10 +22,10 @@ use Rattle.cargo_net.specs.declared.fetches.FetchedRequest.{FetchedRequest}
 use Rattle.cargo_net.specs.declared.fetches.FetchedResponse.{FetchedResponse}
 use Rattle.plat_net.specs.HopCalls.{CanRespond}
 use Rattle.target_node.specs.Items.{IsWaiting}
-use Rattle.target_node.specs.declared.items.Request.{Request}
-use Rattle.target_node.specs.declared.items.Response.{Response}
+use Rattle.target_node.specs.declared.items.MemoryRequest.{MemoryRequest}
+use Rattle.target_node.specs.declared.items.MemoryResponse.{MemoryResponse}
 use Rattle.router_node.specs.Stages.{IsStage}
-use Rattle.router_moves.specs.declared.items.Held.{Held}
+use Rattle.router_moves.specs.declared.items.PassedOn.{PassedOn}
 use Rattle.router_moves.specs.declared.items.Rest.{Rest}
 use Rattle.router_node.specs.declared.stage.Stage.{Stage}
 use Rattle.router_node.specs.declared.stage.Stage.TheVariants.{Down, Below, Up, Sent}
@@ -37,7 +37,7 @@ module _ (frame : Frame Plan) (tokens : TableId) (h : List Event) where
   abbrev pub IsPlaceAt : ℕ → TxnId → (ℕ → Place) → Type 0
   IsPlaceAt number x place = (pass : Passage) (j : ℕ) → passage_of frame.world x ≡ Some pass → j < hop_count pass → hop_at pass j ≡ number → IsAt frame tokens h x pass (place j)
 
-  abbrev pub IsPartAbove : Held → Type 0
+  abbrev pub IsPartAbove : PassedOn → Type 0
   IsPartAbove held = (pass : Passage) (k : ℕ) → held.above ≡ hop_at pass k → IsAbove frame tokens h held.txn pass k (Passed held)
 
   abbrev pub IsPartBelow : TxnId → Rest → Type 0
@@ -57,11 +57,11 @@ StagesAreFound = (frame : Frame Plan) (tokens : TableId) (h : List Event) (known
 
 -- So are the requests and the responses of a memory.
 abbrev pub RequestsAreFound : Type 0
-RequestsAreFound = (frame : Frame Plan) (tokens : TableId) (h : List Event) (known : List (Entry Content)) (memory : ℕ) (r : Request) → HasNoCycle frame.world.platform → Stand frame.world h known
+RequestsAreFound = (frame : Frame Plan) (tokens : TableId) (h : List Event) (known : List (Entry Content)) (memory : ℕ) (r : MemoryRequest) → HasNoCycle frame.world.platform → Stand frame.world h known
     → IsWaiting frame tokens memory known r → IsPlaceAt frame tokens h r.hop r.cargo.baton.txn (λ j. Waiting j r)
 
 abbrev pub ResponsesAreFound : Type 0
-ResponsesAreFound = (frame : Frame Plan) (tokens : TableId) (h : List Event) (known : List (Entry Content)) (r : Response) → HasNoCycle frame.world.platform → Stand frame.world h known
+ResponsesAreFound = (frame : Frame Plan) (tokens : TableId) (h : List Event) (known : List (Entry Content)) (r : MemoryResponse) → HasNoCycle frame.world.platform → Stand frame.world h known
     → CanRespond frame tokens r.hop r.leg r.cargo r.due known → IsPlaceAt frame tokens h r.hop r.cargo.baton.txn (λ j. ToGoUp j r.cargo)
 
 -- So is the payload in a lane of a hop, where the hop has made its BEGIN_REQ or its BEGIN_RESP, with the answer of its modes.

@@ -15,14 +15,14 @@ use Rattle.cargo_model.specs.Known.{Known}
 use Rattle.router_moves.specs.Items.{IsHolding, IsRest}
 use Rattle.router_moves.specs.declared.items.End.{End}
 use Rattle.router_moves.specs.declared.items.End.TheVariants.{Owed, At}
-use Rattle.router_moves.specs.declared.items.Held.{Held}
+use Rattle.router_moves.specs.declared.items.PassedOn.{PassedOn}
 use Rattle.router_moves.specs.declared.items.Rest.{Rest}
 
 -- What a router has of an access for one hop of its way: nothing; what it keeps of a request that it fetched from there and passed on; or what it is
 -- still to make there, once the response has ended above.
 pub data Part : Type 0 where
   Nothing : Part
-  Passed : Held → Part
+  Passed : PassedOn → Part
   Left : Rest → Part
 
 -- how many tickets for END_REQ, and for END_RESP, it has
@@ -50,7 +50,7 @@ Stand p h known = (e : Event) → Known p.platform known e → Among h e
 
 module _ (frame : Frame Plan) (tokens : TableId) (h : List Event) (x : TxnId) (pass : Passage) (k : ℕ) where
   -- A router holds x, which it fetched from hop k and passed on.
-  pub record IsPassed (held : Held) : Type 0 where
+  pub record IsPassed (held : PassedOn) : Type 0 where
     pub known : List (Entry Content)
     pub stand : Stand frame.world h known
     pub holding : IsHolding frame tokens known held

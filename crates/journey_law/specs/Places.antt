@@ -23,7 +23,7 @@ use Rattle.cargo_model.specs.Travel.{Back as IsBackAt, GoesDown, GoesUp, Moment,
 use Rattle.plat_net.specs.HopCalls.{CanRespond}
 use Rattle.plat_net.specs.PoolCalls.{CanStart}
 use Rattle.target_node.specs.Items.{IsWaiting}
-use Rattle.target_node.specs.declared.items.Request.{Request}
+use Rattle.target_node.specs.declared.items.MemoryRequest.{MemoryRequest}
 use Rattle.begun_end.specs.Cargos.{IsRequested}
 use Rattle.journey_law.specs.Parts.{Stand}
 
@@ -35,7 +35,7 @@ pub data Place : Type 0 where
   Taken : Baton → Place
   ToGoDown : ℕ → Cargo → Place
   GoneDown : ℕ → Cargo → Place
-  Waiting : ℕ → Request → Place
+  Waiting : ℕ → MemoryRequest → Place
   ToGoUp : ℕ → Cargo → Place
   GoneUp : ℕ → Cargo → Place
   Back : ℕ → Cargo → Place
@@ -92,7 +92,7 @@ module _ (frame : Frame Plan) (tokens : TableId) (h : List Event) (x : TxnId) (p
     pub txn : c.baton.txn ≡ x
 
   -- its memory has fetched it from hop j, and serves it when it is due
-  pub record WaitsAt (j : ℕ) (r : Request) : Type 0 where
+  pub record WaitsAt (j : ℕ) (r : MemoryRequest) : Type 0 where
     pub known : List (Entry Content)
     pub stand : Stand frame.world h known
     pub memory : ℕ

@@ -7,12 +7,12 @@ use Rattle.tlm_model.specs.Text.{line_of}
 use Rattle.line_text.specs.declared.event.Event.{Event}
 use Rattle.line_text.specs.declared.event.Event.TheVariants.{Call, Take, Acquire, Release}
 use Rattle.line_text.specs.declared.event.EventLine.{EventLine}
-use Rattle.line_text.specs.declared.event.Place.{Place}
-use Rattle.line_text.specs.declared.event.Place.TheVariants.{Hop, Pool}
+use Rattle.line_text.specs.declared.event.EventPlace.{EventPlace}
+use Rattle.line_text.specs.declared.event.EventPlace.TheVariants.{Hop, Pool}
 use Rattle.line_text.specs.Pieces.{seq_text, times_text}
 
 -- the name of a hop or a pool
-abbrev pub place_text : Place → List ℕ
+abbrev pub place_text : EventPlace → List ℕ
 place_text (Hop up down) = hop_word up.now down.now
 place_text (Pool initiator) = initiator.now ++ codes ".pool"
 
@@ -35,7 +35,7 @@ event_text a =
     (codes " " ++ line_of (what_words (what_of a.event))))))
 
 -- its names are as short as those of a run
-abbrev pub IsBriefPlace : Place → Type 0
+abbrev pub IsBriefPlace : EventPlace → Type 0
 IsBriefPlace (Hop up down) = (length up.now ≤ 1024) × (length down.now ≤ 1024)
 IsBriefPlace (Pool initiator) = length initiator.now ≤ 1024
 

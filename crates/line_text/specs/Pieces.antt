@@ -5,8 +5,8 @@ use Rattle.tlm_types.specs.declared.entry.Facts.{Facts}
 use Rattle.tlm_types.specs.declared.words.Response.{Response}
 use Rattle.report_model.specs.Report.{command_word, status_word, way_word}
 use Rattle.tlm_model.specs.Text.{address_word}
-use Rattle.line_text.specs.declared.pieces.Piece.{Piece}
-use Rattle.line_text.specs.declared.pieces.Piece.TheVariants.{Number, Address, Times, Seq, Asked, Width, Status}
+use Rattle.line_text.specs.declared.pieces.LinePiece.{LinePiece}
+use Rattle.line_text.specs.declared.pieces.LinePiece.TheVariants.{Number, Address, Times, Seq, Asked, Width, Status}
 
 -- This text was written from a place on, up to another. What stands before it stays, and what stands behind it doesn't
 -- matter.
@@ -40,7 +40,7 @@ abbrev pub status_text : Response → List ℕ
 status_text status = codes " " ++ (status_word status ++ codes "\n")
 
 -- the bytes of a piece
-abbrev pub piece_text : Piece → List ℕ
+abbrev pub piece_text : LinePiece → List ℕ
 piece_text (Number n) = decimal n
 piece_text (Address a) = address_word a
 piece_text (Times position time) = times_text position time

@@ -12,7 +12,7 @@ use tlm_types::{Head, Phase, TlmSync};
 
 /// The name of a hop, by those of its two ends, or of a pool, by that of its initiator.
 #[derive(Clone, Copy)]
-pub enum Place<'a> {
+pub enum EventPlace<'a> {
     Hop { up: &'a [u8], down: &'a [u8] },
     Pool { initiator: &'a [u8] },
 }
@@ -31,22 +31,22 @@ pub enum Event {
 pub struct EventLine<'a> {
     pub head: Head,
     pub initiator: &'a [u8],
-    pub place: Place<'a>,
+    pub place: EventPlace<'a>,
     pub event: Event,
 }
 
 /// How many bytes such a line takes at most, where its names are short.
 pub const EVENT_MAX: usize = 3173;
 
-impl Place<'_> {
+impl EventPlace<'_> {
     // Its names are as short as those of a run are.
     #[inline(always)]
     fn is_brief(&self) -> bool
         ensures { IsTrue result → IsBriefPlace self.now }
     {
         match self {
-            Place::Hop { up, down } => up.len() <= NAME_MAX && down.len() <= NAME_MAX,
-            Place::Pool { initiator } => initiator.len() <= NAME_MAX,
+            EventPlace::Hop { up, down } => up.len() <= NAME_MAX && down.len() <= NAME_MAX,
+            EventPlace::Pool { initiator } => initiator.len() <= NAME_MAX,
         }
     }
 }
@@ -63,19 +63,19 @@ impl EventLine<'_> {
 
 // The name of a hop or a pool.
 #[inline(always)]
-fn write_place(bytes: &mut [u8], start: usize, place: Place<'_>) -> usize
+fn write_place(bytes: &mut [u8], start: usize, place: EventPlace<'_>) -> usize
     requires brief { IsBriefPlace place }
     requires room { start + 2049 ≤ length bytes.old }
     ensures adds { Adds bytes.old bytes.new start result (place_text place.entry) }
     ensures within { result ≤ start + 2049 }
 {
     match place {
-        Place::Hop { up, down } => {
+        EventPlace::Hop { up, down } => {
             let mark = write_name(bytes, start, up);
             let name = write_word(bytes, mark, b">");
             write_name(bytes, name, down)
         }
-        Place::Pool { initiator } => {
+        EventPlace::Pool { initiator } => {
             let mark = write_name(bytes, start, initiator);
             write_word(bytes, mark, b".pool")
         }

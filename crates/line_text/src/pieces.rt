@@ -17,7 +17,7 @@ pub const PIECE_MAX: usize = 128;
 
 /// Words of a line that follow one another, with the spaces between them.
 #[derive(Clone, Copy)]
-pub enum Piece {
+pub enum LinePiece {
     Number(u64),
     Address(u64),
     // A position and a time, each with a space after it.
@@ -502,18 +502,18 @@ pub fn write_status(bytes: &mut [u8], start: usize, status: Response) -> usize
 
 /// Writes a piece.
 #[inline(always)]
-pub fn write_piece(bytes: &mut [u8], start: usize, piece: Piece) -> usize
+pub fn write_piece(bytes: &mut [u8], start: usize, piece: LinePiece) -> usize
     requires { start + 128 ≤ length bytes.old }
     ensures adds { Adds bytes.old bytes.new start result (piece_text piece) }
     ensures within { result ≤ start + 128 }
 {
     match piece {
-        Piece::Number(number) => write_number(bytes, start, number),
-        Piece::Address(address) => write_address(bytes, start, address),
-        Piece::Times { position, time } => write_times(bytes, start, position, time),
-        Piece::Seq(seq) => write_seq(bytes, start, seq),
-        Piece::Asked(facts) => write_asked(bytes, start, facts),
-        Piece::Width(width) => write_width(bytes, start, width),
-        Piece::Status(status) => write_status(bytes, start, status),
+        LinePiece::Number(number) => write_number(bytes, start, number),
+        LinePiece::Address(address) => write_address(bytes, start, address),
+        LinePiece::Times { position, time } => write_times(bytes, start, position, time),
+        LinePiece::Seq(seq) => write_seq(bytes, start, seq),
+        LinePiece::Asked(facts) => write_asked(bytes, start, facts),
+        LinePiece::Width(width) => write_width(bytes, start, width),
+        LinePiece::Status(status) => write_status(bytes, start, status),
     }
 }

@@ -2,7 +2,7 @@
 ghost use Rattle.std.specs.Prelude.{◌≡◌, ◌==◌, IfOk};
 ghost use Rattle.run_queue.specs.Queue.{AreNumbered};
 
-use run_queue::{Job, RunQueue, Taken};
+use run_queue::{Job, RunQueue, TakenJob};
 use std::alloc::Global;
 use std::process::Abort;
 use std::sync::Wait;
@@ -62,11 +62,11 @@ const fn finished(number: u32) -> Countdown
 }
 
 // The number of the job that was taken, or -1 for Nothing and -2 for AllDone.
-fn told(taken: Taken<Countdown>) -> i64 {
+fn told(taken: TakenJob<Countdown>) -> i64 {
     match taken {
-        Taken::Took(job) => i64::from(job.number),
-        Taken::Nothing => -1,
-        Taken::AllDone => -2,
+        TakenJob::Took(job) => i64::from(job.number),
+        TakenJob::Nothing => -1,
+        TakenJob::AllDone => -2,
     }
 }
 
@@ -193,9 +193,9 @@ fn work<R: Wait>(rt: &R, queue: &RunQueue<Countdown>) -> u64 {
     let mut taken = queue.take(rt);
     for _ in rt.forever() {
         taken = match taken {
-            Taken::AllDone => break,
-            Taken::Nothing => queue.wait_and_take(rt).0,
-            Taken::Took(job) => {
+            TakenJob::AllDone => break,
+            TakenJob::Nothing => queue.wait_and_take(rt).0,
+            TakenJob::Took(job) => {
                 turns = turns.saturating_add(1);
                 give_turn(rt, queue, job)
             }
@@ -204,7 +204,11 @@ fn work<R: Wait>(rt: &R, queue: &RunQueue<Countdown>) -> u64 {
     turns
 }
 
-fn give_turn<R: Wait>(rt: &R, queue: &RunQueue<Countdown>, mut job: Countdown) -> Taken<Countdown> {
+fn give_turn<R: Wait>(
+    rt: &R,
+    queue: &RunQueue<Countdown>,
+    mut job: Countdown,
+) -> TakenJob<Countdown> {
     if job.done() {
         queue.finish_and_take(rt, job, 0).0
     } else {

@@ -9,9 +9,6 @@ use std::alloc::{AllocError, AllocFailed};
 use tlm_types::{Content, Memory, Text};
 use traffic_script::ScriptCode;
 
-/// The history of a run that has ended, as `plat_end` names it, which stands beside this crate.
-pub type PlatSealed = Sealed<Content, Plan, TlmLaw>;
-
 /// What came of a call. The order of refusals is: the words; the load of the platform file, its
 /// reading, its shape; for each initiator in order the load of its script, then its reading; the
 /// counted limits; the run; the writing. What is generated is refused in the same order, and its loads
@@ -19,7 +16,7 @@ pub type PlatSealed = Sealed<Content, Plan, TlmLaw>;
 #[derive(Drop)]
 pub enum Exit {
     /// The report of this history, which was closed, was written whole, or for `gen` the line of its totals.
-    Done(PlatSealed),
+    Done(Sealed<Content, Plan, TlmLaw>),
     /// The words are no command line.
     Usage,
     /// The platform is refused: its file, its shape or its counted limits, with the code, and the texts of
@@ -41,7 +38,7 @@ pub enum Exit {
         name: Text,
     },
     /// The sink failed, and has taken a prefix of the report of this history, or of that line.
-    WriteFault(PlatSealed),
+    WriteFault(Sealed<Content, Plan, TlmLaw>),
     /// Memory was refused, and nothing was written.
     NoMemory,
     /// The file of this name has more than 4,194,304 bytes.

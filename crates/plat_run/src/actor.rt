@@ -7,7 +7,7 @@ ghost use Rattle.plat_run.specs.Turn.{HasTurned};
 use crate::decoupled;
 use crate::nodes::{MemoryJob, RouterJob};
 use crate::port_job::PortJob;
-use crate::turn::Turn;
+use crate::turn::JobTurn;
 use decoupled_run::DecoupledInitiator;
 use outside::Pace;
 use plat_net::{Net, PlatNote, Reach, TlmLaw};
@@ -97,7 +97,7 @@ impl<N: Naming<Plan, TlmLaw>> Actor<N> {
         reach: &mut B,
         board: &Board,
         pace: &P,
-    ) -> Turn
+    ) -> JobTurn
         ensures number { number_of self.new ≡ number_of self.old }
         ensures turned { HasTurned N.frame self.old self.new result }
     {

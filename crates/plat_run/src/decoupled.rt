@@ -3,7 +3,7 @@ ghost use Rattle.std.specs.Prelude.{◌≡◌, ◌≢◌, ◌↔◌, true};
 ghost use Rattle.initiator_run.specs.Steps.{StepsOnce};
 ghost use Rattle.plat_run.specs.Turn.{is_held_back};
 
-use crate::turn::Turn;
+use crate::turn::JobTurn;
 use decoupled_run::DecoupledInitiator;
 use outside::Pace;
 use plat_net::{Reach, TlmLaw};
@@ -21,7 +21,7 @@ pub(crate) fn turn<N: Naming<Plan, TlmLaw>, B: Reach<N>, P: Pace, R: Wait>(
     reach: &mut B,
     board: &Board,
     pace: &P,
-) -> Turn
+) -> JobTurn
     ensures number { job.new.engine.initiator ≡ job.old.engine.initiator }
     ensures once { StepsOnce job.old.engine job.new.engine }
     ensures held { (is_held_back result ≡ true) ↔ (job.new.round ≢ job.new.syncs) }
@@ -40,21 +40,21 @@ fn sync<N: Naming<Plan, TlmLaw>, R: Wait>(
     job: &mut DecoupledInitiator<N>,
     rt: &R,
     board: &Board,
-) -> Turn
+) -> JobTurn
     ensures engine { job.new.engine ≡ job.old.engine }
     ensures held { (is_held_back result ≡ true) ↔ (job.new.round ≢ job.new.syncs) }
 {
     if !job.owes_sync() {
-        return Turn::WentOn;
+        return JobTurn::WentOn;
     }
     let (answer, reached) = board.advance_and_look(rt, job.number());
     let Advance::Advanced { round } = answer else {
-        return Turn::HeldBack { reached };
+        return JobTurn::HeldBack { reached };
     };
     job.pass_sync();
     if reached == round {
-        Turn::Opened { round }
+        JobTurn::Opened { round }
     } else {
-        Turn::WentOn
+        JobTurn::WentOn
     }
 }

@@ -4,7 +4,7 @@
 //!   have finished, and makes the outcome of what the jobs and the memories have (`plat_end`). `run_plan` builds the net
 //!   as well.
 //! - `Actor` is a job of any kind, in a box: workers hand the box on, and a turn works in place. It answers a
-//!   `Turn`: whether the job went on, let others go on, is held back by the board, or found nothing to do. A pump that would
+//!   `JobTurn`: whether the job went on, let others go on, is held back by the board, or found nothing to do. A pump that would
 //!   find nothing, by what the net tells, is passed over (`Waits`).
 //! - A turn of a blocking or direct initiator, `decoupled_run::DecoupledInitiator`, is at most one operation, or one access
 //!   of it with the grant that is asked for after it, and the sync that is due after it. `PortJob` is a four-phase initiator
@@ -32,4 +32,4 @@ pub use nodes::{MemoryJob, RouterJob};
 pub use plat_end::PlatSealed;
 pub use port_job::PortJob;
 pub use running::{run, run_plan};
-pub use turn::Turn;
+pub use turn::JobTurn;

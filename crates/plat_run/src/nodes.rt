@@ -3,7 +3,7 @@ ghost use Rattle.std.specs.Prelude.{◌≡◌, false};
 ghost use Rattle.plat_run.specs.Nodes.{IsMemoryNode, IsRouterNode};
 ghost use Rattle.plat_run.specs.Turn.{is_held_back};
 
-use crate::turn::Turn;
+use crate::turn::JobTurn;
 use crate::waits::Waits;
 use plat_net::{Net, PlatNote, TlmLaw};
 use route_plan::Plan;
@@ -58,7 +58,7 @@ impl<N: Naming<Plan, TlmLaw>> MemoryJob<N> {
     }
 
     /// One pump.
-    pub fn turn<R: Wait>(&mut self, rt: &R, net: &Net<N>) -> Turn
+    pub fn turn<R: Wait>(&mut self, rt: &R, net: &Net<N>) -> JobTurn
         ensures number { self.new ≡ self.old }
         ensures turn { is_held_back result ≡ false }
     {
@@ -66,8 +66,8 @@ impl<N: Naming<Plan, TlmLaw>> MemoryJob<N> {
         let (pumped, note) = self.node.pump(net, rt, note);
         self.note = Some(note);
         match pumped {
-            MemoryPumped::Did => Turn::WentOn,
-            MemoryPumped::Nothing => Turn::Idle,
+            MemoryPumped::Did => JobTurn::WentOn,
+            MemoryPumped::Nothing => JobTurn::Idle,
         }
     }
 
@@ -124,7 +124,7 @@ impl<N: Naming<Plan, TlmLaw>> RouterJob<N> {
     }
 
     /// One pump.
-    pub fn turn<R: Wait>(&mut self, rt: &R, net: &Net<N>) -> Turn
+    pub fn turn<R: Wait>(&mut self, rt: &R, net: &Net<N>) -> JobTurn
         ensures number { self.new ≡ self.old }
         ensures turn { is_held_back result ≡ false }
     {
@@ -132,8 +132,8 @@ impl<N: Naming<Plan, TlmLaw>> RouterJob<N> {
         let (pumped, note) = self.node.pump(net, rt, note);
         self.note = Some(note);
         match pumped {
-            RouterPumped::Did => Turn::WentOn,
-            RouterPumped::Nothing => Turn::Idle,
+            RouterPumped::Did => JobTurn::WentOn,
+            RouterPumped::Nothing => JobTurn::Idle,
         }
     }
 

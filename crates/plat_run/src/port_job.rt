@@ -3,7 +3,7 @@ ghost use Rattle.std.specs.Prelude.{◌≡◌, ◌<◌, true, false, length};
 ghost use Rattle.net_end.specs.Leaves.{IsFinished};
 ghost use Rattle.plat_run.specs.Turn.{IsPortTurn, finishes, turn_by};
 
-use crate::turn::Turn;
+use crate::turn::JobTurn;
 use crate::waits::Waits;
 use fourphase_port::{Port, Pumped};
 use outside::Pace;
@@ -41,12 +41,12 @@ impl<N: Naming<Plan, TlmLaw>> Model for PortJob<N> {
 }
 
 // What a turn comes to, by its pump.
-fn turn_by(pumped: Pumped) -> Turn
+fn turn_by(pumped: Pumped) -> JobTurn
     ensures { result ≡ turn_by pumped }
 {
     match pumped {
-        Pumped::Did | Pumped::Finished => Turn::WentOn,
-        Pumped::Nothing => Turn::Idle,
+        Pumped::Did | Pumped::Finished => JobTurn::WentOn,
+        Pumped::Nothing => JobTurn::Idle,
     }
 }
 
@@ -106,7 +106,7 @@ impl<N: Naming<Plan, TlmLaw>> PortJob<N> {
 
     /// One pump. The pace is told of each access and debug read once, before the first pump at which it is next,
     /// while no lock is held.
-    pub fn turn<P: Pace, R: Wait>(&mut self, rt: &R, net: &Net<N>, pace: &P) -> Turn
+    pub fn turn<P: Pace, R: Wait>(&mut self, rt: &R, net: &Net<N>, pace: &P) -> JobTurn
         ensures number { self.new.port.port.engine.initiator ≡ self.old.port.port.engine.initiator }
         ensures pumped { IsPortTurn N.frame self.old self.new result }
     {

@@ -4,7 +4,7 @@ ghost use Rattle.plat_run.specs.Turn.{is_held_back};
 
 /// What a turn of a job has come to. Rounds are those of the board.
 #[derive(Clone, Copy)]
-pub enum Turn {
+pub enum JobTurn {
     /// The job went on, or has finished.
     WentOn,
     /// The job was the last to reach this round: others that were held back can go on.
@@ -15,21 +15,21 @@ pub enum Turn {
     Idle,
 }
 
-impl Turn {
+impl JobTurn {
     /// Whether the job's last sync was not let through.
     pub fn is_held_back(self) -> bool
         ensures { result ≡ is_held_back self }
     {
-        matches!(self, Turn::HeldBack { .. })
+        matches!(self, JobTurn::HeldBack { .. })
     }
 
     // What this turn has come to, where it began with another sync that was let through.
-    pub(crate) fn after(self, first: Turn) -> Turn
+    pub(crate) fn after(self, first: JobTurn) -> JobTurn
         requires { is_held_back first ≡ false }
         ensures { is_held_back result ≡ is_held_back self }
     {
         match self {
-            Turn::WentOn => first,
+            JobTurn::WentOn => first,
             last => last,
         }
     }

@@ -3,11 +3,11 @@ ghost use Rattle.std.specs.Prelude.{◌≡◌, ◌<◌, true, false, map, length
 ghost use Rattle.plat_run.specs.Actors.{is_done, number_of};
 
 use crate::actor::Actor;
-use crate::turn::Turn;
+use crate::turn::JobTurn;
 use outside::Pace;
 use plat_net::{Net, Reach, TlmLaw};
 use route_plan::Plan;
-use run_queue::{Job, RunQueue, Taken};
+use run_queue::{Job, RunQueue, TakenJob};
 use shared_object::Naming;
 use std::sync::Wait;
 use std::thread;
@@ -33,9 +33,9 @@ fn work<N: Naming<Plan, TlmLaw>, P: Pace, R: Wait>(
     for _ in rt.forever() {
         let (taken, moves) = next;
         next = match taken {
-            Taken::Took(job) => give_turns(rt, &mut reach, board, queue, pace, job, moves),
-            Taken::Nothing if waits => queue.wait_and_take(rt),
-            Taken::Nothing | Taken::AllDone => return,
+            TakenJob::Took(job) => give_turns(rt, &mut reach, board, queue, pace, job, moves),
+            TakenJob::Nothing if waits => queue.wait_and_take(rt),
+            TakenJob::Nothing | TakenJob::AllDone => return,
         };
     }
 }
@@ -52,21 +52,21 @@ fn give_share<N: Naming<Plan, TlmLaw>, B: Reach<N>, P: Pace, R: Wait>(
     board: &Board,
     pace: &P,
     job: &mut Actor<N>,
-) -> (Turn, bool)
+) -> (JobTurn, bool)
     ensures { number_of job.new ≡ number_of job.old }
 {
     let mut moved = false;
     for _turn in 0..TURNS {
         if job.rests(reach.net()) {
-            return (Turn::Idle, moved);
+            return (JobTurn::Idle, moved);
         }
         let turn = job.turn(rt, reach, board, pace);
-        if job.done() || !matches!(turn, Turn::WentOn) {
+        if job.done() || !matches!(turn, JobTurn::WentOn) {
             return (turn, moved);
         }
         moved = true;
     }
-    (Turn::WentOn, moved)
+    (JobTurn::WentOn, moved)
 }
 
 // Hands in a job that went on, and takes the next one. One that is pumped lets those go on that rest.
@@ -74,7 +74,7 @@ fn hand_on<N: Naming<Plan, TlmLaw>, R: Wait>(
     rt: &R,
     queue: &RunQueue<Actor<N>>,
     job: Actor<N>,
-) -> (Taken<Actor<N>>, u64) {
+) -> (TakenJob<Actor<N>>, u64) {
     if job.is_pumped() {
         queue.move_and_take(rt, job)
     } else {
@@ -92,17 +92,17 @@ fn give_turns<N: Naming<Plan, TlmLaw>, B: Reach<N>, P: Pace, R: Wait>(
     pace: &P,
     mut job: Actor<N>,
     moves: u64,
-) -> (Taken<Actor<N>>, u64) {
+) -> (TakenJob<Actor<N>>, u64) {
     let (turn, moved) = give_share(rt, reach, board, pace, &mut job);
     if job.done() {
         let reached = board.finish_and_look(rt, job.number());
         return queue.finish_and_take(rt, job, reached);
     }
     match turn {
-        Turn::WentOn => hand_on(rt, queue, job),
-        Turn::Opened { round } => queue.give_back_and_take(rt, job, round),
-        Turn::HeldBack { reached } => queue.park_and_take(rt, job, reached),
-        Turn::Idle => queue.rest_and_take(rt, job, moves, moved),
+        JobTurn::WentOn => hand_on(rt, queue, job),
+        JobTurn::Opened { round } => queue.give_back_and_take(rt, job, round),
+        JobTurn::HeldBack { reached } => queue.park_and_take(rt, job, reached),
+        JobTurn::Idle => queue.rest_and_take(rt, job, moves, moved),
     }
 }
 

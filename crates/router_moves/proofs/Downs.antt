@@ -44,8 +44,8 @@ use Rattle.plat_net.proofs.Given.{took}
 use Rattle.plat_net.proofs.NumberLemmas.{hop_there}
 use Rattle.router_moves.specs.Items.{HasDebt, IsDown, IsHeld, IsRequest, is_accepting, latency_of, way_of}
 use Rattle.router_moves.specs.Moves.{owed_above}
-use Rattle.router_moves.specs.declared.items.Request.{Request}
-use Rattle.router_moves.specs.declared.items.Way.{Way}
+use Rattle.router_moves.specs.declared.items.RouterRequest.{RouterRequest}
+use Rattle.router_moves.specs.declared.items.WayBehind.{WayBehind}
 use Rattle.router_moves.proofs.Grown.{debt_more, finds_more, hold_more, known_more, leaves, leg_more}
 use Rattle.router_moves.proofs.Windows.{above_is, goes_on, next_address, next_hop, to_no_memory}
 
@@ -89,7 +89,7 @@ request_is frame tokens known router hop below leads r h =
 requested : (row : ReqMode) (answer : TlmSync) (state : LaneState) → IsAnswerIn row answer → next_state Free BeginReq answer ≡ Some state → row ≡ Accept → state ≡ Requested
 requested row answer state fits leads is = grind (arith, common_steps)
 
-module _ (frame : Frame Plan) (tokens : TableId) (known : List (Entry Content)) (shape : IsShape frame.world.platform) (router : ℕ) (r : Request) (req : IsRequest frame tokens known router r) where
+module _ (frame : Frame Plan) (tokens : TableId) (known : List (Entry Content)) (shape : IsShape frame.world.platform) (router : ℕ) (r : RouterRequest) (req : IsRequest frame tokens known router r) where
   abbrev p : Plan
   p = frame.world
 
@@ -114,7 +114,7 @@ module _ (frame : Frame Plan) (tokens : TableId) (known : List (Entry Content)) 
     sum = at ∙ ap (λ (n : ℕ). later r.at n) (is ∙ ap (λ (h : ℕ). latency_of p h) (sym req.here));
   }
 
-  module _ (way : Way) (is : way_of p router r.cargo.baton.payload.address ≡ Some way) where
+  module _ (way : WayBehind) (is : way_of p router r.cargo.baton.payload.address ≡ Some way) where
     pub there : way_of p router (stop_for p tokens (Known p.platform known) x req.pass req.down.asked req.hop).address ≡ Some way
     there = subst (λ (a : ℕ). way_of p router a ≡ Some way) address_is is
 

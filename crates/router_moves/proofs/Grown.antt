@@ -18,7 +18,7 @@ use Rattle.cargo_model.specs.Known.{Known}
 use Rattle.cargo_model.specs.Travel.{IsHoldOf}
 use Rattle.cargo_net.specs.Hops.{IsLegOfLane}
 use Rattle.router_moves.specs.Items.{HasDebt, IsHeld}
-use Rattle.router_moves.specs.declared.items.Held.{Held}
+use Rattle.router_moves.specs.declared.items.PassedOn.{PassedOn}
 
 pub known_more : (p : Plan) (xs ys : List (Entry Content)) → Within xs ys → (e : Event) → Known p.platform xs e → Known p.platform ys e
 known_more p xs ys w e k = record { entry = k.entry; has = w k.entry k.has; is = k.is }
@@ -53,7 +53,7 @@ module _ (frame : Frame Plan) (tokens : TableId) (xs ys : List (Entry Content)) 
   debt_more x pass k state (Some ticket) d = d
 
   -- a transaction that it holds
-  abbrev pub held_more : (h : Held) (pass : Passage) (k : ℕ) (state : LaneState) → IsHeld frame tokens xs h pass k state → IsHeld frame tokens ys h pass k state
+  abbrev pub held_more : (h : PassedOn) (pass : Passage) (k : ℕ) (state : LaneState) → IsHeld frame tokens xs h pass k state → IsHeld frame tokens ys h pass k state
   held_more h pass k state d = record {
     passes = d.passes;
     next = d.next;

@@ -45,9 +45,9 @@ use Rattle.plat_net.specs.Places.{LeadsTo, hop_place}
 use Rattle.router_moves.specs.Items.{HasDebt, HasGone, IsBegun, IsDown, OwesEnd, latency_of}
 use Rattle.router_moves.specs.Moves.{EndsAbove, HasPassed, HasServedBelow}
 use Rattle.router_moves.specs.declared.down.Passed.TheVariants as Passes
-use Rattle.router_moves.specs.declared.items.Begun.{Begun}
+use Rattle.router_moves.specs.declared.items.BegunBelow.{BegunBelow}
 use Rattle.router_moves.specs.declared.items.Down.{Down}
-use Rattle.router_moves.specs.declared.items.Held.{Held}
+use Rattle.router_moves.specs.declared.items.PassedOn.{PassedOn}
 use Rattle.router_moves.proofs.Grown.{arrival_more, held_more, known_more}
 
 -- the hops behind hop k
@@ -154,7 +154,7 @@ owed_one row resp fits none = grind (arith, common_steps)
 owed_none : (row : ReqMode) (resp : RespMode) → IsAnswerIn row Completed → responses row Completed ≡ 0 → response_ends row resp Completed ≡ 0
 owed_none row resp fits none = grind (arith, common_steps)
 
-module _ (frame : Frame Plan) (tokens : TableId) (known : List (Entry Content)) (memory : ℕ) (h : Held) (b : Begun) (begun : IsBegun frame tokens known h b) (leads : LeadsTo frame.world.platform h.below (Memory memory)) where
+module _ (frame : Frame Plan) (tokens : TableId) (known : List (Entry Content)) (memory : ℕ) (h : PassedOn) (b : BegunBelow) (begun : IsBegun frame tokens known h b) (leads : LeadsTo frame.world.platform h.below (Memory memory)) where
   abbrev plan : Plan
   plan = frame.world
 
@@ -242,7 +242,7 @@ module _ (frame : Frame Plan) (tokens : TableId) (known : List (Entry Content)) 
         }
 
 -- END ABOVE
-module _ (frame : Frame Plan) (tokens : TableId) (known : List (Entry Content)) (h : Held) (at : ℕ) (gone : HasGone frame tokens known h at) (ticket : Ticket) (is : h.owed ≡ Some ticket) where
+module _ (frame : Frame Plan) (tokens : TableId) (known : List (Entry Content)) (h : PassedOn) (at : ℕ) (gone : HasGone frame tokens known h at) (ticket : Ticket) (is : h.owed ≡ Some ticket) where
   abbrev its_plan : Plan
   its_plan = frame.world
 

@@ -36,7 +36,7 @@ use Rattle.plat_net.specs.PoolCalls.{CanRelease}
 use Rattle.router_moves.specs.Items.{HasEndedAt, IsEnd}
 use Rattle.router_moves.specs.Moves.{EndsBelow, HasEndedAbove, HasReleased, HasReleasedAt, HasSent, IsReleasing, sent_as, sent_note}
 use Rattle.router_moves.specs.declared.items.End.TheVariants.{Owed, At}
-use Rattle.router_moves.specs.declared.items.Response.{Response}
+use Rattle.router_moves.specs.declared.items.RouterResponse.{RouterResponse}
 use Rattle.router_moves.specs.declared.items.Rest.{Rest}
 use Rattle.router_moves.specs.declared.up.Sent.TheVariants as Sents
 use Rattle.router_moves.proofs.Grown.{finds_more, hold_more, known_more, leg_more}
@@ -48,7 +48,7 @@ note_of (Updated phase) at note = refl
 note_of Completed at note = refl
 
 -- SEND UP
-module _ (frame : Frame Plan) (tokens : TableId) (known : List (Entry Content)) (r : Response) (can : CanRespond frame tokens r.hop r.leg r.cargo r.due known) (old : View Content Plan) where
+module _ (frame : Frame Plan) (tokens : TableId) (known : List (Entry Content)) (r : RouterResponse) (can : CanRespond frame tokens r.hop r.leg r.cargo r.due known) (old : View Content Plan) where
   pub sent_up : (answer : TlmSync) (at : ℕ) (note : HeldNote Content Plan) → IsAnsweredAs frame tokens (hop_place frame.world r.hop) r.leg r.cargo r.due can.pass can.hop old (Sent answer at note) → HasSent frame tokens r old (sent_as answer at note)
   sent_up answer at note a = by answer (subst (λ (h : ℕ). FindsAt (Known frame.world.platform note.knows.known) (IsCall r.cargo.baton.txn h Phases.BeginResp answer) at) can.here a.0.made)
     where

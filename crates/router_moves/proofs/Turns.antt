@@ -46,8 +46,8 @@ use Rattle.plat_net.proofs.NoCycle.{shapes_law}
 use Rattle.plat_net.proofs.Targets.{back_at}
 use Rattle.router_moves.specs.Items.{IsBack, IsHeld, IsRequest, OwesEnd, latency_of, way_of}
 use Rattle.router_moves.specs.Moves.{HasFetchedUp, IsRefused}
-use Rattle.router_moves.specs.declared.items.Held.{Held}
-use Rattle.router_moves.specs.declared.items.Request.{Request}
+use Rattle.router_moves.specs.declared.items.PassedOn.{PassedOn}
+use Rattle.router_moves.specs.declared.items.RouterRequest.{RouterRequest}
 use Rattle.router_moves.proofs.Downs.{address_is, hop_here, leads_here, leaves_at}
 use Rattle.router_moves.proofs.Passes.{tail}
 use Rattle.router_moves.proofs.Windows.{ends_here, leads_nowhere, row_is_no_accept, to_no_memory}
@@ -56,7 +56,7 @@ drop_all : (k : ℕ) (hops : List ℕ) → k ≡ length hops → drop k hops ≡
 drop_all k hops q = subst (λ (i : ℕ). drop i hops ≡ []) (sym q) (drop-length hops)
 
 -- REFUSE
-module _ (frame : Frame Plan) (tokens : TableId) (known : List (Entry Content)) (shape : IsShape frame.world.platform) (router : ℕ) (r : Request) (req : IsRequest frame tokens known router r) (none : way_of frame.world router r.cargo.baton.payload.address ≡ None) where
+module _ (frame : Frame Plan) (tokens : TableId) (known : List (Entry Content)) (shape : IsShape frame.world.platform) (router : ℕ) (r : RouterRequest) (req : IsRequest frame tokens known router r) (none : way_of frame.world router r.cargo.baton.payload.address ≡ None) where
   abbrev p : Plan
   p = frame.world
 
@@ -154,7 +154,7 @@ module _ (frame : Frame Plan) (tokens : TableId) (known : List (Entry Content)) 
       owes pass k at (Some l) e = (refl, subst (λ (n : ℕ). IsLegOfLane frame tokens (hop_place plan n) known r.txn Responding l) (sym at) e)
       owes pass k at None e = absurd e
 
-      by : (h : Held) (pass : Passage) (k : ℕ) (state : LaneState) → IsHeld frame tokens known h pass k state → h.txn ≡ r.txn → h.below ≡ hop → IsBack frame tokens known h (record { at = r.at; leg = r.leg; cargo = r.cargo }) pass k 1
+      by : (h : PassedOn) (pass : Passage) (k : ℕ) (state : LaneState) → IsHeld frame tokens known h pass k state → h.txn ≡ r.txn → h.below ≡ hop → IsBack frame tokens known h (record { at = r.at; leg = r.leg; cargo = r.cargo }) pass k 1
       by h pass k state held txn below =
           let same : f.pass ≡ pass = one f.pass pass (sym f.up.asked.passes ∙ subst (λ (x : TxnId). passage_of plan x ≡ Some pass) txn held.passes) in
           let at : hop_at pass (k + 1) ≡ hop = held.below ∙ below in

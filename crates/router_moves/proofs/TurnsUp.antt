@@ -37,9 +37,9 @@ use Rattle.router_moves.specs.Moves.{IsBackFor, IsEndOf, PullsFor, TurnsUp}
 use Rattle.router_moves.specs.declared.items.Back.{Back}
 use Rattle.router_moves.specs.declared.items.End.{End}
 use Rattle.router_moves.specs.declared.items.End.TheVariants.{Owed, At}
-use Rattle.router_moves.specs.declared.items.Held.{Held}
+use Rattle.router_moves.specs.declared.items.PassedOn.{PassedOn}
 
-module _ (frame : Frame Plan) (tokens : TableId) (known : List (Entry Content)) (shape : IsShape frame.world.platform) (h : Held) (b : Back) (back : IsBackFor frame tokens known h b) where
+module _ (frame : Frame Plan) (tokens : TableId) (known : List (Entry Content)) (shape : IsShape frame.world.platform) (h : PassedOn) (b : Back) (back : IsBackFor frame tokens known h b) where
   abbrev p : Plan
   p = frame.world
 

@@ -37,7 +37,7 @@ use Rattle.plat_net.proofs.Given.{few_passed}
 use Rattle.plat_net.proofs.Targets.{ends_stop}
 use Rattle.router_moves.specs.Items.{accepts, is_accepting, row_accepts, way_in, way_of, way_over}
 use Rattle.router_moves.specs.Moves.{owed_above}
-use Rattle.router_moves.specs.declared.items.Way.{Way}
+use Rattle.router_moves.specs.declared.items.WayBehind.{WayBehind}
 
 mapped_at : {X Y : Type 0} (f : X → Y) (xs : List X) (k : ℕ) (x : X) → slice_get xs k ≡ Some x → slice_get (map f xs) k ≡ Some (f x)
 mapped_at f [] k x at = cc
@@ -56,7 +56,7 @@ one_of : {X : Type 0} (y x : X) → Some y ≡ Some x → y ≡ x
 one_of y x q = cc
 
 -- what an address was decoded to, as a way
-abbrev pub way_decoded : Platform → ℕ → Option (ℕ × ℕ) → Option Way
+abbrev pub way_decoded : Platform → ℕ → Option (ℕ × ℕ) → Option WayBehind
 way_decoded p r None = None
 way_decoded p r (Some d) = Some (record { hop = window_hop p r d.0; address = d.1 })
 
@@ -166,7 +166,7 @@ module _ (p : Plan) (tokens : TableId) (known : List (Entry Content)) (shape : I
   to_no_memory = ap (λ (e : HopEnds). e.to_memory) ends_are ∙ router_ends_at (response_at asked.initiator k) (slice_get p.platform.routers r)
 
   -- behind the window that has the address
-  module _ (way : Way) (is : way_of p r stop.address ≡ Some way) where
+  module _ (way : WayBehind) (is : way_of p r stop.address ≡ Some way) where
     -- the window that was found
     record IsOver : Type 0 where
       found : Found
@@ -182,7 +182,7 @@ module _ (p : Plan) (tokens : TableId) (known : List (Entry Content)) (shape : I
           where
             none : None ≡ Some way → ⊥
             none s = cc
-        by (Some f) q s = (let e = one_of _ way s in record { found = f; at = q; hop = ap (λ (w : Way). w.hop) (sym e); address = ap (λ (w : Way). w.address) (sym e) })
+        by (Some f) q s = (let e = one_of _ way s in record { found = f; at = q; hop = ap (λ (w : WayBehind). w.hop) (sym e); address = ap (λ (w : WayBehind). w.address) (sym e) })
 
     pub goes_on : k + 1 < hop_count pass
     goes_on = let l = (on.on over.found (window_is ∙ over.at)).0 in subst (λ (l : List ℕ). k + 1 < length l) (sym hops_are) l

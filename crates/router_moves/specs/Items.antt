@@ -33,14 +33,14 @@ use Rattle.cargo_net.specs.Begins.{HasOwedLeg}
 use Rattle.cargo_net.specs.Hops.{IsLegOfLane}
 use Rattle.plat_net.specs.Places.{LeadsTo, hop_place, own_pool}
 use Rattle.router_moves.specs.declared.items.Back.{Back}
-use Rattle.router_moves.specs.declared.items.Begun.{Begun}
+use Rattle.router_moves.specs.declared.items.BegunBelow.{BegunBelow}
 use Rattle.router_moves.specs.declared.items.Down.{Down}
 use Rattle.router_moves.specs.declared.items.End.{End}
 use Rattle.router_moves.specs.declared.items.End.TheVariants.{Owed, At}
-use Rattle.router_moves.specs.declared.items.Held.{Held}
-use Rattle.router_moves.specs.declared.items.Request.{Request}
+use Rattle.router_moves.specs.declared.items.PassedOn.{PassedOn}
+use Rattle.router_moves.specs.declared.items.RouterRequest.{RouterRequest}
 use Rattle.router_moves.specs.declared.items.Rest.{Rest}
-use Rattle.router_moves.specs.declared.items.Way.{Way}
+use Rattle.router_moves.specs.declared.items.WayBehind.{WayBehind}
 
 -- the mode of a router is that BEGIN_REQ is accepted and END_REQ is a call of its own
 abbrev pub accepts : ReqMode → Bool
@@ -59,16 +59,16 @@ abbrev pub latency_of : Plan → ℕ → ℕ
 latency_of p hop = (hop_in p.platform hop).latency
 
 -- what is behind the window of a router that was found
-abbrev pub way_over : Platform → ℕ → ℕ → Option Found → Option Way
+abbrev pub way_over : Platform → ℕ → ℕ → Option Found → Option WayBehind
 way_over p r a None = None
 way_over p r a (Some f) = Some (record { hop = window_hop p r f.index; address = a - f.window.first + f.window.base })
 
 -- behind the one that has the address
-abbrev pub way_in : Platform → ℕ → ℕ → Option RouterRow → Option Way
+abbrev pub way_in : Platform → ℕ → ℕ → Option RouterRow → Option WayBehind
 way_in p r a None = None
 way_in p r a (Some row) = way_over p r a (window_of 0 row.windows a)
 
-abbrev pub way_of : Plan → ℕ → ℕ → Option Way
+abbrev pub way_of : Plan → ℕ → ℕ → Option WayBehind
 way_of p router a = way_in p.platform router a (slice_get p.platform.routers router)
 
 module _ (frame : Frame Plan) (tokens : TableId) (known : List (Entry Content)) where
@@ -77,7 +77,7 @@ module _ (frame : Frame Plan) (tokens : TableId) (known : List (Entry Content)) 
 
   -- A request was fetched from a hop to this router: its payload is on its way down, the leg of its lane is there, and its BEGIN_REQ is known, with
   -- its time and with an answer that the row has, that left the response to come, and that led to the lane's state.
-  pub record IsRequest (router : ℕ) (r : Request) : Type 0 where
+  pub record IsRequest (router : ℕ) (r : RouterRequest) : Type 0 where
     pub pass : Passage
     pub hop : ℕ
     pub here : hop_at pass hop ≡ r.hop
@@ -99,7 +99,7 @@ module _ (frame : Frame Plan) (tokens : TableId) (known : List (Entry Content)) 
 
   -- A router holds a transaction, which it fetched from hop k of its way and passes on to the next: the leg above, whose lane is in this state, the
   -- reference that came with the request, and whether END_REQ is owed above.
-  pub record IsHeld (h : Held) (pass : Passage) (k : ℕ) (state : LaneState) : Type 0 where
+  pub record IsHeld (h : PassedOn) (pass : Passage) (k : ℕ) (state : LaneState) : Type 0 where
     pub passes : passage_of frame.world h.txn ≡ Some pass
     pub next : k + 1 < hop_count pass
     pub above : hop_at pass k ≡ h.above
@@ -124,14 +124,14 @@ module _ (frame : Frame Plan) (tokens : TableId) (known : List (Entry Content)) 
     pub least : ArrIs (world_of frame.world) knows d.held.txn pass (hop + 1) d.due
 
   -- A router holds it.
-  pub record IsHolding (h : Held) : Type 0 where
+  pub record IsHolding (h : PassedOn) : Type 0 where
     pub pass : Passage
     pub hop : ℕ
     pub state : LaneState
     pub held : IsHeld h pass hop state
 
   -- BEGIN_REQ was made below at this time.
-  pub record HasGone (h : Held) (at : ℕ) : Type 0 where
+  pub record HasGone (h : PassedOn) (at : ℕ) : Type 0 where
     pub pass : Passage
     pub hop : ℕ
     pub state : LaneState
@@ -139,7 +139,7 @@ module _ (frame : Frame Plan) (tokens : TableId) (known : List (Entry Content)) 
     pub begun : ReqIs (world_of frame.world) knows h.txn (hop_at pass (hop + 1)) at
 
   -- Its answer brought the response, which is still to be made at the memory.
-  pub record IsBegun (h : Held) (b : Begun) : Type 0 where
+  pub record IsBegun (h : PassedOn) (b : BegunBelow) : Type 0 where
     pub pass : Passage
     pub hop : ℕ
     pub state : LaneState
@@ -162,7 +162,7 @@ module _ (frame : Frame Plan) (tokens : TableId) (known : List (Entry Content)) 
   OwesEnd x pass k at owed None = (owed ≡ 0) × HasEndedAt x pass k at
 
   -- Its response is back from the hop below, with the ticket of the END_RESP that is owed there, and may go up at this time.
-  pub record IsBack (h : Held) (b : Back) (pass : Passage) (k owed : ℕ) : Type 0 where
+  pub record IsBack (h : PassedOn) (b : Back) (pass : Passage) (k owed : ℕ) : Type 0 where
     pub up : GoesUp frame.world tokens knows h.txn pass (IsBackAt owed) (k + 1) b.cargo
     pub end : OwesEnd h.txn pass (k + 1) b.at owed b.leg
     pub least : UpIs (world_of frame.world) knows h.txn pass k b.at

@@ -28,25 +28,25 @@ use Rattle.plat_net.specs.Places.{hop_place}
 use Rattle.router_moves.specs.declared.down.Passed.{Passed}
 use Rattle.router_moves.specs.declared.down.Passed.TheVariants.{Gone, Now, Busy}
 use Rattle.router_moves.specs.declared.items.Back.{Back}
-use Rattle.router_moves.specs.declared.items.Begun.{Begun}
+use Rattle.router_moves.specs.declared.items.BegunBelow.{BegunBelow}
 use Rattle.router_moves.specs.declared.items.Down.{Down}
 use Rattle.router_moves.specs.declared.items.End.{End}
 use Rattle.router_moves.specs.declared.items.End.TheVariants.{Owed, At}
-use Rattle.router_moves.specs.declared.items.Held.{Held}
-use Rattle.router_moves.specs.declared.items.Request.{Request}
-use Rattle.router_moves.specs.declared.items.Response.{Response}
+use Rattle.router_moves.specs.declared.items.PassedOn.{PassedOn}
+use Rattle.router_moves.specs.declared.items.RouterRequest.{RouterRequest}
+use Rattle.router_moves.specs.declared.items.RouterResponse.{RouterResponse}
 use Rattle.router_moves.specs.declared.items.Rest.{Rest}
-use Rattle.router_moves.specs.declared.up.Fetched.{Fetched}
+use Rattle.router_moves.specs.declared.up.FromBelow.{FromBelow}
 use Rattle.router_moves.specs.declared.up.Sent.{Sent}
 use Rattle.router_moves.specs.declared.up.Sent.TheVariants.{Open, Ended, Refused}
 use Rattle.router_moves.specs.Items.{HasGone, IsBack, IsBegun, IsDown, IsHeld, IsRest}
 
 -- the look of a fetch: 0 for something, 1 for no request, 2 for no response
-abbrev pub fetch_look : Option Request → ℕ
+abbrev pub fetch_look : Option RouterRequest → ℕ
 fetch_look None = 1
 fetch_look (Some r) = 0
 
-abbrev pub up_look : Option Fetched → ℕ
+abbrev pub up_look : Option FromBelow → ℕ
 up_look None = 2
 up_look (Some r) = 0
 
@@ -118,7 +118,7 @@ module _ (frame : Frame Plan) (tokens : TableId) where
       × (note.knows.looks ≡ old.looks ++ (hop_place frame.world d.held.below, 3) ∷ [])
 
   -- A response is back for a transaction that a router holds.
-  pub record IsBackFor (known : List (Entry Content)) (h : Held) (b : Back) : Type 0 where
+  pub record IsBackFor (known : List (Entry Content)) (h : PassedOn) (b : Back) : Type 0 where
     pub pass : Passage
     pub hop : ℕ
     pub state : LaneState
@@ -128,13 +128,13 @@ module _ (frame : Frame Plan) (tokens : TableId) where
     pub back : IsBack frame tokens known h b pass hop owed
 
   -- SERVE BELOW. The memory was called at the time of BEGIN_REQ below, and the response may go up after its latency.
-  pub record HasServedBelow (latency : ℕ) (h : Held) (begun : Begun) (known : List (Entry Content)) (b : Back) : Type 0 where
+  pub record HasServedBelow (latency : ℕ) (h : PassedOn) (begun : BegunBelow) (known : List (Entry Content)) (b : Back) : Type 0 where
     pub at : b.at ≡ later begun.at latency
     pub made : FindsAt (Known frame.world.platform known) (IsAccess h.txn) begun.at
     pub back : IsBackFor known h b
 
   -- END ABOVE. END_REQ was made above, not before this time. What was known of the transaction is known, and nothing is owed above.
-  pub record EndsAbove (known back : List (Entry Content)) (h : Held) (at : ℕ) (new : Held) : Type 0 where
+  pub record EndsAbove (known back : List (Entry Content)) (h : PassedOn) (at : ℕ) (new : PassedOn) : Type 0 where
     pub same : new ≡ record h { leg = new.leg; owed = None }
     pub time : ℕ
     pub late : at ≤ time
@@ -142,7 +142,7 @@ module _ (frame : Frame Plan) (tokens : TableId) where
     pub held : (pass : Passage) (hop : ℕ) (state : LaneState) → IsHeld frame tokens known h pass hop state → IsHeld frame tokens back new pass hop Waiting
 
   -- REFUSE. A request without a window has a response of its own, which is due after the router's latency.
-  pub record IsRefused (known : List (Entry Content)) (latency : ℕ) (r : Request) (answer : Response) : Type 0 where
+  pub record IsRefused (known : List (Entry Content)) (latency : ℕ) (r : RouterRequest) (answer : RouterResponse) : Type 0 where
     pub hop : answer.hop ≡ r.hop
     pub due : answer.due ≡ later r.at latency
     pub txn : answer.cargo.baton.txn ≡ r.cargo.baton.txn
@@ -150,12 +150,12 @@ module _ (frame : Frame Plan) (tokens : TableId) where
 
   -- FETCH UP. A response of x was fetched from a hop below: its BEGIN_RESP is known with its time, and it is back for whoever holds x with this hop
   -- below.
-  pub record HasFetchedUp (known : List (Entry Content)) (hop : ℕ) (f : Fetched) : Type 0 where
+  pub record HasFetchedUp (known : List (Entry Content)) (hop : ℕ) (f : FromBelow) : Type 0 where
     pub made : FindsAt (Known frame.world.platform known) (IsCall f.txn hop BeginResp Accepted) f.back.at
-    pub back : (h : Held) (pass : Passage) (k : ℕ) (state : LaneState) → IsHeld frame tokens known h pass k state → h.txn ≡ f.txn → h.below ≡ hop → IsBack frame tokens known h f.back pass k 1
+    pub back : (h : PassedOn) (pass : Passage) (k : ℕ) (state : LaneState) → IsHeld frame tokens known h pass k state → h.txn ≡ f.txn → h.below ≡ hop → IsBack frame tokens known h f.back pass k 1
 
   -- TURN UP. A response that is back may go up on the hop above, as soon as it is back, and what is to be made below stays.
-  pub record TurnsUp (known : List (Entry Content)) (h : Held) (b : Back) (answer : Response) (rest : Rest) : Type 0 where
+  pub record TurnsUp (known : List (Entry Content)) (h : PassedOn) (b : Back) (answer : RouterResponse) (rest : Rest) : Type 0 where
     pub pass : Passage
     pub hop : ℕ
     pub above : hop_at pass hop ≡ h.above
@@ -169,7 +169,7 @@ module _ (frame : Frame Plan) (tokens : TableId) where
 
   -- SEND UP. BEGIN_RESP was made above at the time at which the response was due or later. By its answer the transaction has ended above, or it is
   -- still open. Or it is refused, and may be sent as before.
-  abbrev pub HasSent : Response → View Content Plan → Sent → Type 0
+  abbrev pub HasSent : RouterResponse → View Content Plan → Sent → Type 0
   HasSent r old (Open at note) =
       (r.due ≤ at) × FindsAt (Known frame.world.platform note.knows.known) (IsPhase r.cargo.baton.txn r.hop BeginResp) at
       × (note.knows.looks ≡ old.looks ++ (hop_place frame.world r.hop, 0) ∷ [])

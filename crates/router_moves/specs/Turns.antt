@@ -9,15 +9,15 @@ use Rattle.tlm_model.specs.Route.{later}
 use Rattle.plat_net.specs.Places.{own_pool}
 use Rattle.router_moves.specs.Items.{IsDown, way_of}
 use Rattle.router_moves.specs.Moves.{IsRefused}
-use Rattle.router_moves.specs.declared.items.Request.{Request}
-use Rattle.router_moves.specs.declared.items.Way.{Way}
+use Rattle.router_moves.specs.declared.items.RouterRequest.{RouterRequest}
+use Rattle.router_moves.specs.declared.items.WayBehind.{WayBehind}
 use Rattle.router_moves.specs.declared.choice.Turned.{Turned}
 use Rattle.router_moves.specs.declared.choice.Turned.TheVariants.{Down, Back}
 
 -- It may go down to the hop behind its window after the router's latency; or there is no window, its response is due then, and nothing has happened.
-abbrev pub HasTurned : Frame Plan → TableId → ℕ → ℕ → Request → HeldNote Content Plan → HeldNote Content Plan → Turned → Type 0
+abbrev pub HasTurned : Frame Plan → TableId → ℕ → ℕ → RouterRequest → HeldNote Content Plan → HeldNote Content Plan → Turned → Type 0
 HasTurned frame tokens router latency r old new (Down d) =
-    ((way : Way) × (way_of frame.world router r.cargo.baton.payload.address ≡ Some way) × (d.held.below ≡ way.hop))
+    ((way : WayBehind) × (way_of frame.world router r.cargo.baton.payload.address ≡ Some way) × (d.held.below ≡ way.hop))
     × (d.held.txn ≡ r.cargo.baton.txn) × (d.held.above ≡ r.hop) × (d.due ≡ later r.at latency)
     × IsDown frame tokens new.knows.known d
     × (new.knows.looks ≡ old.knows.looks ++ (own_pool frame.world r.cargo.baton.txn.initiator, 0) ∷ [])

@@ -8,7 +8,7 @@ ghost use Rattle.router_moves.specs.Items.{IsRequest, is_accepting, latency_of};
 ghost use Rattle.router_moves.specs.Turns.{HasTurned};
 
 use crate::down::{descend, way_behind};
-use crate::items::{Down, Request, Response};
+use crate::items::{Down, RouterRequest, RouterResponse};
 use crate::up::refuse;
 use plat_net::{Net, PlatNote, TlmLaw};
 use route_plan::Plan;
@@ -22,7 +22,7 @@ pub enum Turned {
     /// It may go down.
     Down(Down),
     /// The router has no window for its address, and answers it itself.
-    Back(Response),
+    Back(RouterResponse),
 }
 
 /// Turns a request that was fetched to the hop behind its window, as `descend` does; or, where the router has
@@ -35,7 +35,7 @@ pub fn turn<N: Naming<Plan, TlmLaw>, R: Wait>(
     accepts: bool,
     latency: Ps,
     note: PlatNote,
-    request: Request,
+    request: RouterRequest,
 ) -> (Turned, PlatNote)
     requires router { router < length N.frame.world.platform.routers }
     requires first { first ≡ window_hop N.frame.world.platform router 0 }

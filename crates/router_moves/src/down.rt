@@ -10,7 +10,7 @@ ghost use Rattle.plat_net.specs.Places.{LeadsTo, hop_place, memory_place, own_po
 ghost use Rattle.router_moves.specs.Items.{HasGone, IsBegun, IsDown, IsRequest, is_accepting, latency_of, way_of};
 ghost use Rattle.router_moves.specs.Moves.{EndsAbove, HasPassed, HasServedBelow, fetch_look, owed_above, passed_note};
 
-use crate::items::{Back, Begun, Down, Held, Request, Way};
+use crate::items::{Back, BegunBelow, Down, PassedOn, RouterRequest, WayBehind};
 use cargo_net::{Descended, FetchedRequest, Tried};
 use plat_net::{Net, PlatNote, TlmLaw};
 use route_plan::Plan;
@@ -26,7 +26,7 @@ pub fn fetch_down<N: Naming<Plan, TlmLaw>, R: Wait>(
     router: u32,
     hop: u32,
     note: PlatNote,
-) -> (Option<Request>, PlatNote)
+) -> (Option<RouterRequest>, PlatNote)
     requires hop { hop < hop_count N.frame.world.platform }
     requires leads { LeadsTo N.frame.world.platform hop (Router router) }
     requires note { IsNote N.table note }
@@ -49,7 +49,7 @@ pub fn fetch_down<N: Naming<Plan, TlmLaw>, R: Wait>(
                 cargo,
             },
         ) => {
-            let request = Request {
+            let request = RouterRequest {
                 hop,
                 leg,
                 at,
@@ -67,7 +67,7 @@ pub fn way_behind<N: Naming<Plan, TlmLaw>>(
     router: u32,
     first: u32,
     address: u64,
-) -> Option<Way>
+) -> Option<WayBehind>
     requires router { router < length net.now.platform.routers }
     requires first { first ≡ window_hop net.now.platform router 0 }
     ensures { result ≡ way_of net.now router address }
@@ -75,7 +75,7 @@ pub fn way_behind<N: Naming<Plan, TlmLaw>>(
     let plan = net.plan();
     let _ = plan.platform();
     match plan.windows(router).decode(address) {
-        Some((port, address)) => Some(Way {
+        Some((port, address)) => Some(WayBehind {
             hop: first + port,
             address,
         }),
@@ -101,8 +101,8 @@ pub fn descend<N: Naming<Plan, TlmLaw>, R: Wait>(
     accepts: bool,
     latency: Ps,
     note: PlatNote,
-    request: Request,
-    way: Way,
+    request: RouterRequest,
+    way: WayBehind,
 ) -> (Down, PlatNote)
     requires router { router < length N.frame.world.platform.routers }
     requires mode { accepts ≡ is_accepting N.frame.world router }
@@ -120,7 +120,7 @@ pub fn descend<N: Naming<Plan, TlmLaw>, R: Wait>(
 {
     let _ = router;
     let _ = net.plan().platform();
-    let Request {
+    let RouterRequest {
         hop,
         leg,
         at,
@@ -135,7 +135,7 @@ pub fn descend<N: Naming<Plan, TlmLaw>, R: Wait>(
         ticket,
         note,
     } = net.descend(rt, txn.initiator, note, cargo, above, way.address, due);
-    let held = Held {
+    let held = PassedOn {
         txn,
         above: hop,
         below: way.hop,
@@ -150,14 +150,14 @@ pub fn descend<N: Naming<Plan, TlmLaw>, R: Wait>(
 pub enum Passed {
     /// BEGIN_REQ was made at this time, in picoseconds. The payload waits for the component below.
     Gone {
-        held: Held,
+        held: PassedOn,
         at: Ps,
         note: PlatNote,
     },
     /// The same, and the response comes by return. Its memory is still to be called.
     Now {
-        held: Held,
-        begun: Begun,
+        held: PassedOn,
+        begun: BegunBelow,
         note: PlatNote,
     },
     /// A request is open on the hop below, or no lane is free. The request may go down as before.
@@ -197,7 +197,7 @@ pub fn pass_on<N: Naming<Plan, TlmLaw>, R: Wait>(
             note,
         } => Passed::Now {
             held,
-            begun: Begun { at, leg, cargo },
+            begun: BegunBelow { at, leg, cargo },
             note,
         },
         Tried::Busy {
@@ -220,8 +220,8 @@ pub fn serve_below<N: Naming<Plan, TlmLaw>, R: Wait>(
     memory: u32,
     latency: Ps,
     note: PlatNote,
-    held: &Held,
-    begun: Begun,
+    held: &PassedOn,
+    begun: BegunBelow,
 ) -> (Back, PlatNote)
     requires memory { memory < length N.frame.world.platform.memories }
     requires leads { LeadsTo N.frame.world.platform held.now.below (Memory memory) }
@@ -235,7 +235,7 @@ pub fn serve_below<N: Naming<Plan, TlmLaw>, R: Wait>(
     ensures served { HasServedBelow N.frame N.tokens latency held.now begun result.1.knows.known result.0 }
 {
     let _ = held;
-    let Begun { at, leg, cargo } = begun;
+    let BegunBelow { at, leg, cargo } = begun;
     let (cargo, note) = net.serve(rt, memory, note, cargo, at);
     let back = Back {
         at: at.saturating_add(latency),
@@ -250,9 +250,9 @@ pub fn end_above<N: Naming<Plan, TlmLaw>, R: Wait>(
     net: &Net<N>,
     rt: &R,
     note: PlatNote,
-    held: Held,
+    held: PassedOn,
     at: Ps,
-) -> (Held, PlatNote)
+) -> (PassedOn, PlatNote)
     requires note { IsNote N.table note }
     requires owed { IsSome held.owed }
     requires gone { HasGone N.frame N.tokens note.knows.known held at }
@@ -262,7 +262,7 @@ pub fn end_above<N: Naming<Plan, TlmLaw>, R: Wait>(
     ensures look { result.1.knows.looks ≡ note.knows.looks ++ (hop_place N.frame.world held.above, 0) ∷ [] }
     ensures ended { EndsAbove N.frame N.tokens note.knows.known result.1.knows.known held at result.0 }
 {
-    let Held {
+    let PassedOn {
         txn,
         above,
         below,
@@ -272,7 +272,7 @@ pub fn end_above<N: Naming<Plan, TlmLaw>, R: Wait>(
     } = held;
     let Some(ticket) = owed else { unreachable!() };
     let (leg, _, note) = net.end_req(rt, above, note, leg, ticket, at);
-    let held = Held {
+    let held = PassedOn {
         txn,
         above,
         below,

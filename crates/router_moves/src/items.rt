@@ -8,7 +8,7 @@ use token_book::Ticket;
 /// A request that was fetched from a hop above: the leg of its lane, the time in picoseconds of its
 /// BEGIN_REQ, and its payload.
 #[derive(Drop)]
-pub struct Request {
+pub struct RouterRequest {
     pub hop: u32,
     pub leg: Leg,
     pub at: Ps,
@@ -17,7 +17,7 @@ pub struct Request {
 
 /// What is behind a window: its hop, and the address there, in bytes.
 #[derive(Clone, Copy, Debug, PartialEq, Eq)]
-pub struct Way {
+pub struct WayBehind {
     pub hop: u32,
     pub address: u64,
 }
@@ -25,7 +25,7 @@ pub struct Way {
 /// What a router keeps of a transaction that it passes on: the hop above with the leg of its lane, the hop
 /// below, the reference that came with the request, and the ticket of the END_REQ that is owed above.
 #[derive(Drop)]
-pub struct Held {
+pub struct PassedOn {
     pub txn: TxnId,
     pub above: u32,
     pub below: u32,
@@ -37,7 +37,7 @@ pub struct Held {
 /// A request that is to go down, not before this time in picoseconds.
 #[derive(Drop)]
 pub struct Down {
-    pub held: Held,
+    pub held: PassedOn,
     pub due: Ps,
     pub cargo: Cargo,
 }
@@ -45,7 +45,7 @@ pub struct Down {
 /// A request whose BEGIN_REQ below, at this time in picoseconds, brought the response by return. Its memory
 /// is still to be called. The leg is that of END_RESP, where it is owed.
 #[derive(Drop)]
-pub struct Begun {
+pub struct BegunBelow {
     pub at: Ps,
     pub leg: Option<Leg>,
     pub cargo: Cargo,
@@ -63,7 +63,7 @@ pub struct Back {
 /// A response that is to be sent on a hop above, by the leg of its lane and not before this time in
 /// picoseconds.
 #[derive(Drop)]
-pub struct Response {
+pub struct RouterResponse {
     pub hop: u32,
     pub leg: Leg,
     pub due: Ps,

@@ -1,9 +1,9 @@
 //! The moves of a router between four-phase hops (IEEE 1666-2011, clauses 10.4, 11.1.2, 14.7 and 15.2), each of at
 //! most one entry. `router_node` holds the transactions and makes these moves for them.
 //!
-//! - `Request` is what was fetched from a hop above, `Held` what the router keeps of a transaction that it
-//!   passes on, `Down` a request that is to go down, `Begun` and `Back` a response that came by return and
-//!   one that is back, `Response` one that is to go up, and `Rest` what is to be made below once that has
+//! - `RouterRequest` is what was fetched from a hop above, `PassedOn` what the router keeps of a transaction that it
+//!   passes on, `Down` a request that is to go down, `BegunBelow` and `Back` a response that came by return and
+//!   one that is back, `RouterResponse` one that is to go up, and `Rest` what is to be made below once that has
 //!   ended above. `specs/Items` says what is known of each, and `specs/Moves` what each move does.
 //! - `fetch_down`, `way_behind`, `descend`, `pass_on`, `serve_below` and `end_above` are the moves of a
 //!   request; `refuse`, `fetch_up`, `turn_up`, `send_up`, `has_ended_above`, `end_below` and `release`
@@ -22,7 +22,9 @@ mod up;
 
 pub use choice::{Turned, turn};
 pub use down::{Passed, descend, end_above, fetch_down, pass_on, serve_below, way_behind};
-pub use items::{Back, Begun, Down, End, Held, Request, Response, Rest, Way};
+pub use items::{
+    Back, BegunBelow, Down, End, PassedOn, Rest, RouterRequest, RouterResponse, WayBehind,
+};
 pub use up::{
-    Fetched, Sent, end_below, fetch_up, has_ended_above, refuse, release, send_up, turn_up,
+    FromBelow, Sent, end_below, fetch_up, has_ended_above, refuse, release, send_up, turn_up,
 };

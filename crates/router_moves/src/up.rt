@@ -13,7 +13,7 @@ ghost use Rattle.plat_net.specs.Places.{hop_place, own_pool};
 ghost use Rattle.router_moves.specs.Items.{IsRequest, latency_of, way_of};
 ghost use Rattle.router_moves.specs.Moves.{EndsBelow, HasBegunOn, HasEndedAbove, HasFetchedUp, HasReleased, HasSent, IsBackFor, IsDone, IsOwing, IsEndOf, IsRefused, IsReleasing, PullsFor, TurnsUp, ended_look, sent_as, sent_note, up_look};
 
-use crate::items::{Back, End, Held, Request, Response, Rest};
+use crate::items::{Back, End, PassedOn, Rest, RouterRequest, RouterResponse};
 use cargo_model::Cargo;
 use cargo_net::{Answered, FetchedResponse};
 use hop_object::Leg;
@@ -31,8 +31,8 @@ pub fn refuse<N: Naming<Plan, TlmLaw>>(
     router: u32,
     latency: Ps,
     note: &PlatNote,
-    request: Request,
-) -> Response
+    request: RouterRequest,
+) -> RouterResponse
     requires router { router < length N.frame.world.platform.routers }
     requires latency { latency ≡ latency_of N.frame.world request.hop }
     requires request { IsRequest N.frame N.tokens note.now.knows.known router request }
@@ -42,14 +42,14 @@ pub fn refuse<N: Naming<Plan, TlmLaw>>(
     let _ = router;
     let _ = note;
     let _ = net.plan().platform();
-    let Request {
+    let RouterRequest {
         hop,
         leg,
         at,
         mut cargo,
     } = request;
     cargo.baton.payload.set_status(Status::AddressError);
-    Response {
+    RouterResponse {
         hop,
         leg,
         due: at.saturating_add(latency),
@@ -59,7 +59,7 @@ pub fn refuse<N: Naming<Plan, TlmLaw>>(
 
 /// A response that was fetched from a hop below, and its transaction.
 #[derive(Drop)]
-pub struct Fetched {
+pub struct FromBelow {
     pub txn: TxnId,
     pub back: Back,
 }
@@ -71,7 +71,7 @@ pub fn fetch_up<N: Naming<Plan, TlmLaw>, R: Wait>(
     rt: &R,
     hop: u32,
     note: PlatNote,
-) -> (Option<Fetched>, PlatNote)
+) -> (Option<FromBelow>, PlatNote)
     requires hop { hop < hop_count N.frame.world.platform }
     requires window { length N.frame.world.platform.initiators ≤ hop }
     requires note { IsNote N.table note }
@@ -94,7 +94,7 @@ pub fn fetch_up<N: Naming<Plan, TlmLaw>, R: Wait>(
             },
         ) => {
             let back = Back { at, leg, cargo };
-            (Some(Fetched { txn, back }), note)
+            (Some(FromBelow { txn, back }), note)
         }
     }
 }
@@ -128,16 +128,16 @@ fn end_of<N: Naming<Plan, TlmLaw>>(
 pub fn turn_up<N: Naming<Plan, TlmLaw>>(
     net: &Net<N>,
     note: &PlatNote,
-    held: Held,
+    held: PassedOn,
     back: Back,
-) -> (Response, Rest)
+) -> (RouterResponse, Rest)
     requires settled { held.owed ≡ None }
     requires back { IsBackFor N.frame N.tokens note.now.knows.known held back }
     ensures turned { TurnsUp N.frame N.tokens note.now.knows.known held back result.0 result.1 }
 {
     let _ = note;
     let _ = net.plan().platform();
-    let Held {
+    let PassedOn {
         txn,
         above,
         below,
@@ -151,7 +151,7 @@ pub fn turn_up<N: Naming<Plan, TlmLaw>>(
     let ticket = baton
         .wallet
         .pull(net.tickets(), net.pool(txn.initiator).number(), 0);
-    let response = Response {
+    let response = RouterResponse {
         hop: above,
         leg: leg_above,
         due: at,
@@ -170,11 +170,20 @@ pub fn turn_up<N: Naming<Plan, TlmLaw>>(
 /// What a response that was to go up has come to.
 pub enum Sent {
     /// BEGIN_RESP was made at this time, in picoseconds. The component above is still to end it.
-    Open { at: Ps, note: PlatNote },
+    Open {
+        at: Ps,
+        note: PlatNote,
+    },
     /// The same, and by its answer the transaction has ended above.
-    Ended { at: Ps, note: PlatNote },
+    Ended {
+        at: Ps,
+        note: PlatNote,
+    },
     /// A response is open on the hop above. This one may be sent as before.
-    Refused { response: Response, note: PlatNote },
+    Refused {
+        response: RouterResponse,
+        note: PlatNote,
+    },
 }
 
 // BEGIN_RESP was made.
@@ -193,7 +202,7 @@ pub fn send_up<N: Naming<Plan, TlmLaw>, R: Wait>(
     net: &Net<N>,
     rt: &R,
     note: PlatNote,
-    response: Response,
+    response: RouterResponse,
 ) -> Sent
     requires note { IsNote N.table note }
     requires can { CanRespond N.frame N.tokens response.hop response.leg response.cargo response.due note.knows.known }
@@ -202,7 +211,7 @@ pub fn send_up<N: Naming<Plan, TlmLaw>, R: Wait>(
     ensures below { StandBelow (sent_note result).knows.known (sent_note result).knows.seen }
     ensures sent { HasSent N.frame N.tokens response note.knows result }
 {
-    let Response {
+    let RouterResponse {
         hop,
         leg,
         due,
@@ -216,7 +225,7 @@ pub fn send_up<N: Naming<Plan, TlmLaw>, R: Wait>(
             cargo,
             note,
         } => Sent::Refused {
-            response: Response {
+            response: RouterResponse {
                 hop,
                 leg,
                 due,

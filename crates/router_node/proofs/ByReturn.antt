@@ -26,10 +26,10 @@ use Rattle.router_moves.specs.Items.{HasGone, IsBegun, latency_of}
 use Rattle.router_moves.specs.Moves.{HasServedBelow, TurnsUp}
 use Rattle.router_node.specs.Stages.{IsServed, IsServedAs, Moves, WentDown}
 use Rattle.router_moves.specs.declared.items.Back.{Back}
-use Rattle.router_moves.specs.declared.items.Begun.{Begun}
+use Rattle.router_moves.specs.declared.items.BegunBelow.{BegunBelow}
 use Rattle.router_moves.specs.declared.items.Down.{Down as ToPass}
-use Rattle.router_moves.specs.declared.items.Held.{Held}
-use Rattle.router_moves.specs.declared.items.Response.{Response}
+use Rattle.router_moves.specs.declared.items.PassedOn.{PassedOn}
+use Rattle.router_moves.specs.declared.items.RouterResponse.{RouterResponse}
 use Rattle.router_moves.specs.declared.items.Rest.{Rest}
 use Rattle.router_node.specs.declared.stage.Stage.{Stage}
 use Rattle.router_node.specs.declared.stage.Stage.TheVariants.{Below, Down, Sent, Up}
@@ -41,7 +41,7 @@ no_router : (refused : Bool) (mode : ReqMode) (answer : TlmSync) → IsRouterMod
 no_router refused mode answer router none = grind (arith, common_steps)
 
 -- the component behind the hop is no router
-pub by_memory : (frame : Frame Plan) (tokens : TableId) (known : List (Entry Content)) (shape : IsShape frame.world.platform) (h : Held) (b : Begun) → IsBegun frame tokens known h b → (r : ℕ) → LeadsTo frame.world.platform h.below (Router r) → ⊥
+pub by_memory : (frame : Frame Plan) (tokens : TableId) (known : List (Entry Content)) (shape : IsShape frame.world.platform) (h : PassedOn) (b : BegunBelow) → IsBegun frame tokens known h b → (r : ℕ) → LeadsTo frame.world.platform h.below (Router r) → ⊥
 by_memory frame tokens known shape h b begun r leads =
     let p = frame.world in
     let here = subst (λ (n : ℕ). LeadsTo p.platform n (Router r)) (sym begun.held.below) leads in
@@ -50,27 +50,27 @@ by_memory frame tokens known shape h b begun r leads =
     no_router (is_refused (world_of p) begun.pass (begun.hop + 1)) ((world_of p).hop (hop_at begun.pass (begun.hop + 1))).req begun.answer mode begun.responds
 
 -- its BEGIN_REQ was made below
-pub gone_of : (frame : Frame Plan) (tokens : TableId) (known : List (Entry Content)) (h : Held) (b : Begun) → IsBegun frame tokens known h b → HasGone frame tokens known h b.at
+pub gone_of : (frame : Frame Plan) (tokens : TableId) (known : List (Entry Content)) (h : PassedOn) (b : BegunBelow) → IsBegun frame tokens known h b → HasGone frame tokens known h b.at
 gone_of frame tokens known h b begun =
     let f = begun.made in
     record { pass = begun.pass; hop = begun.hop; state = begun.state; held = begun.held; begun = record { event = f.event; known = f.known; is = record { answer = begun.answer; call = f.is }; time = f.time } }
 
-pub went_down : (frame : Frame Plan) (tokens : TableId) (known more : List (Entry Content)) → Within known more → (d : ToPass) (h : Held) (at : ℕ) → h ≡ d.held → d.due ≤ at → HasGone frame tokens known h at → WentDown frame more d at
+pub went_down : (frame : Frame Plan) (tokens : TableId) (known more : List (Entry Content)) → Within known more → (d : ToPass) (h : PassedOn) (at : ℕ) → h ≡ d.held → d.due ≤ at → HasGone frame tokens known h at → WentDown frame more d at
 went_down frame tokens known more w d h at same late gone =
-    let g : HasGone frame tokens known d.held at = subst (λ (x : Held). HasGone frame tokens known x at) same gone in
+    let g : HasGone frame tokens known d.held at = subst (λ (x : PassedOn). HasGone frame tokens known x at) same gone in
     record {
       late = late;
       made = finds_at_more frame.world known more w at (subst (λ (o : ℕ). FindsAt (Known frame.world.platform known) (IsPhase d.held.txn o BeginReq) at) g.held.below g.begun);
     }
 
 -- the memory was called, and the response turned up
-pub served_as : (frame : Frame Plan) (tokens : TableId) (known : List (Entry Content)) (latency : ℕ) (h : Held) (b : Begun) (back : Back) (r : Response) (rest : Rest) → latency ≡ latency_of frame.world h.below → HasServedBelow frame tokens latency h b known back → TurnsUp frame tokens known h back r rest
+pub served_as : (frame : Frame Plan) (tokens : TableId) (known : List (Entry Content)) (latency : ℕ) (h : PassedOn) (b : BegunBelow) (back : Back) (r : RouterResponse) (rest : Rest) → latency ≡ latency_of frame.world h.below → HasServedBelow frame tokens latency h b known back → TurnsUp frame tokens known h back r rest
     → IsServedAs frame known h b r
 served_as frame tokens known latency h b back r rest is served turns =
     record { hop = turns.at; txn = turns.txn; made = served.made; due = turns.due ∙ (served.at ∙ ap (λ (n : ℕ). later b.at n) is) }
 
 -- a request was passed on, and its response came by return
-pub came_back : (frame : Frame Plan) (known : List (Entry Content)) (d : ToPass) (h : Held) (b : Begun) (s : Stage) → h.txn ≡ d.held.txn → h.above ≡ d.held.above → h.below ≡ d.held.below → WentDown frame known d b.at → IsServed frame known h b s
+pub came_back : (frame : Frame Plan) (known : List (Entry Content)) (d : ToPass) (h : PassedOn) (b : BegunBelow) (s : Stage) → h.txn ≡ d.held.txn → h.above ≡ d.held.above → h.below ≡ d.held.below → WentDown frame known d b.at → IsServed frame known h b s
     → Moves frame known Pass (Down d) (Some s)
 came_back frame known d h b (Up r (Some rest)) txn above below went is = (
   is.hop ∙ above,

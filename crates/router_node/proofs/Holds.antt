@@ -27,9 +27,9 @@ use Rattle.router_moves.specs.Turns.{HasTurned}
 use Rattle.router_moves.specs.declared.choice.Turned.{Turned}
 use Rattle.router_moves.specs.declared.choice.Turned.TheVariants as Turns
 use Rattle.router_node.specs.declared.finds.Found.{Found}
-use Rattle.router_moves.specs.declared.items.Held.{Held}
-use Rattle.router_moves.specs.declared.items.Request.{Request}
-use Rattle.router_moves.specs.declared.items.Response.{Response}
+use Rattle.router_moves.specs.declared.items.PassedOn.{PassedOn}
+use Rattle.router_moves.specs.declared.items.RouterRequest.{RouterRequest}
+use Rattle.router_moves.specs.declared.items.RouterResponse.{RouterResponse}
 use Rattle.router_moves.specs.declared.items.Rest.{Rest}
 use Rattle.router_node.specs.declared.node.RouterNode.{RouterNode}
 use Rattle.router_node.specs.declared.stage.Stage.{Stage}
@@ -57,10 +57,10 @@ pub all_split : {A : Type 0} (P : A → Type 0) (old : List A) (x : A) (xs : Lis
 all_split P old x xs is all = subst (λ (l : List _). AllByRecursion P l) is all
 
 module _ (frame : Frame Plan) (tokens : TableId) (known more : List (Entry Content)) (w : Within known more) where
-  pub settled_more : (h : Held) → IsSettled frame tokens known h → IsSettled frame tokens more h
+  pub settled_more : (h : PassedOn) → IsSettled frame tokens known h → IsSettled frame tokens more h
   settled_more h i = record { there = i.there; owed = i.owed; holding = (stays frame tokens known more w).holding h i.holding }
 
-  up_more : (r : Response) (rest : Option Rest) → IsUp frame tokens known r rest → IsUp frame tokens more r rest
+  up_more : (r : RouterResponse) (rest : Option Rest) → IsUp frame tokens known r rest → IsUp frame tokens more r rest
   up_more r rest i = record { there = i.there; can = (stays frame tokens known more w).response r i.can; below = rest_more frame tokens known more w r.hop r.cargo.baton.txn rest i.below }
 
   pub stage_more : (s : Stage) → IsStage frame tokens known s → IsStage frame tokens more s
@@ -118,7 +118,7 @@ latency_to p hop router leads = sym (go (slice_get (ends_of p.platform) hop) ref
     go (Some e) at l = latency_at p.platform hop e at ∙ (ap (latency_by p.platform) l ∙ by (slice_get p.platform.routers router))
 
 -- a request that was fetched is held as what it has turned to
-module _ (frame : Frame Plan) (tokens : TableId) (router latency : ℕ) (r : Request) (old new : HeldNote Content Plan) (there : r.hop < hop_count frame.world.platform) where
+module _ (frame : Frame Plan) (tokens : TableId) (router latency : ℕ) (r : RouterRequest) (old new : HeldNote Content Plan) (there : r.hop < hop_count frame.world.platform) where
   turned_to : (t : Turned) → HasTurned frame tokens router latency r old new t → IsStage frame tokens new.knows.known (stage_of t)
   turned_to (Turns.Down d) h = (subst (λ (n : ℕ). n < hop_count frame.world.platform) (sym h.2) there, h.4)
   turned_to (Turns.Back a) h =

@@ -10,7 +10,7 @@ use Rattle.plat_net.specs.Places.{hop_place}
 use Rattle.router_node.specs.Node.{MovesAt}
 use Rattle.router_node.specs.Places.{StandsAt}
 use Rattle.router_node.specs.Stages.{ComesBy, HasEnded, HasStepped, is_about, standing, vain}
-use Rattle.router_node.specs.declared.stage.Away.{Away}
+use Rattle.router_node.specs.declared.stage.SentUp.{SentUp}
 use Rattle.router_node.specs.declared.stage.Stage.{Stage}
 use Rattle.router_node.specs.declared.stage.Stage.TheVariants.{Down, Below, Up, Sent}
 use Rattle.router_node.specs.declared.stage.Step.{Step}
@@ -63,22 +63,22 @@ module _ (frame : Frame Plan) where
   pub left_out : (hasty : Bool) (w : Step) (at : ℕ) (old : List Stage) (s : Stage) (v : View Content Plan) → hasty ≡ true → StandsAt old at s → MovesAt frame hasty w at old old v v (at + 1) false
   left_out hasty w at old s v in_a_hurry t = record { stage = s; stands = t; after = Some s; stepped = inr (in_a_hurry, refl, refl, refl); line = t.line; next_is = refl }
 
-  not_sent : (s : Stage) → ((a : Away) → s ≡ Sent a → ⊥) → is_about End s ≡ false
+  not_sent : (s : Stage) → ((a : SentUp) → s ≡ Sent a → ⊥) → is_about End s ≡ false
   not_sent (Down d) n = refl
   not_sent (Below h) n = refl
   not_sent (Up r rest) n = refl
   not_sent (Sent a) n = absurd (n a refl)
 
   -- so does one that wasn't sent, in the step that is for those
-  pub passed_by : (at : ℕ) (old : List Stage) (s : Stage) (v : View Content Plan) → StandsAt old at s → ((a : Away) → s ≡ Sent a → ⊥) → MovesAt frame false End at old old v v (at + 1) false
+  pub passed_by : (at : ℕ) (old : List Stage) (s : Stage) (v : View Content Plan) → StandsAt old at s → ((a : SentUp) → s ≡ Sent a → ⊥) → MovesAt frame false End at old old v v (at + 1) false
   passed_by at old s v t n = idle End at old s v t (not_sent s n)
 
   -- and one that was sent and hasn't ended
-  pub waits : (at : ℕ) (old : List Stage) (a : Away) (was is : View Content Plan) → StandsAt old at (Sent a) → is.looks ≡ was.looks ++ (hop_place frame.world a.above, 5) ∷ [] → MovesAt frame false End at old old was is (at + 1) false
+  pub waits : (at : ℕ) (old : List Stage) (a : SentUp) (was is : View Content Plan) → StandsAt old at (Sent a) → is.looks ≡ was.looks ++ (hop_place frame.world a.above, 5) ∷ [] → MovesAt frame false End at old old was is (at + 1) false
   waits at old a was is t look = record { stage = Sent a; stands = t; after = Some (Sent a); stepped = inl (refl, look); line = t.line; next_is = refl }
 
   -- one that has ended is forgotten
-  pub goes : (at : ℕ) (old new : List Stage) (a : Away) (was is : View Content Plan) → StandsAt old at (Sent a) → new ≡ remove old at → HasEnded frame is.known a → MovesAt frame false End at old new was is at true
+  pub goes : (at : ℕ) (old new : List Stage) (a : SentUp) (was is : View Content Plan) → StandsAt old at (Sent a) → new ≡ remove old at → HasEnded frame is.known a → MovesAt frame false End at old new was is at true
   goes at old new a was is t gone end = record { stage = Sent a; stands = t; after = None; stepped = inl end; line = gone ∙ remove_here old at (Sent a) t; next_is = omega arith }
 
   -- one that was tried stays at its place
@@ -99,5 +99,5 @@ module _ (frame : Frame Plan) where
   stays Pass (Sent a) was is true tries step = step
 
 -- one response that was sent stands at a place
-pub same_sent : (old : List Stage) (at : ℕ) (a b : Away) → StandsAt old at (Sent a) → StandsAt old at (Sent b) → a ≡ b
+pub same_sent : (old : List Stage) (at : ℕ) (a b : SentUp) → StandsAt old at (Sent a) → StandsAt old at (Sent b) → a ≡ b
 same_sent old at a b x y = let e = same_there old at (Sent a) (Sent b) x y in cc

@@ -17,10 +17,10 @@ use Rattle.plat_net.specs.HopCalls.{CanRespond}
 use Rattle.router_moves.specs.Items.{HasGone}
 use Rattle.router_moves.specs.Moves.{EndsAbove, HasBegunOn, HasEndedAbove}
 use Rattle.router_node.specs.Stages.{HasSettled, IsAway, IsRestUnder, IsUp}
-use Rattle.router_moves.specs.declared.items.Held.{Held}
-use Rattle.router_moves.specs.declared.items.Response.{Response}
+use Rattle.router_moves.specs.declared.items.PassedOn.{PassedOn}
+use Rattle.router_moves.specs.declared.items.RouterResponse.{RouterResponse}
 use Rattle.router_moves.specs.declared.items.Rest.{Rest}
-use Rattle.router_node.specs.declared.stage.Away.{Away}
+use Rattle.router_node.specs.declared.stage.SentUp.{SentUp}
 use Rattle.router_moves.proofs.Grown.{finds_at_more, finds_more}
 use Rattle.router_node.proofs.Stays.{holds_on, stays}
 
@@ -32,7 +32,7 @@ module _ (frame : Frame Plan) (tokens : TableId) (known more : List (Entry Conte
   rest_more above x None i = tt
   rest_more above x (Some r) i = record { pass = i.pass; hop = i.hop; here = i.here; of = i.of; rest = (stays frame tokens known more w).rest r i.pass i.hop i.rest }
 
-  pub away_more : (a : Away) → IsAway frame tokens known a → IsAway frame tokens more a
+  pub away_more : (a : SentUp) → IsAway frame tokens known a → IsAway frame tokens more a
   away_more a i = record {
     there = i.there;
     begun = (stays frame tokens known more w).entry a.above a.txn i.begun;
@@ -41,7 +41,7 @@ module _ (frame : Frame Plan) (tokens : TableId) (known more : List (Entry Conte
     below = rest_more a.above a.txn a.rest i.below;
   }
 
-  module _ (r : Response) (rest : Option Rest) (up : IsUp frame tokens known r rest) where
+  module _ (r : RouterResponse) (rest : Option Rest) (up : IsUp frame tokens known r rest) where
     -- a response that was sent up
     pub sent_away : (at : ℕ) (ended : Bool) → FindsAt (Known frame.world.platform more) (IsPhase r.cargo.baton.txn r.hop BeginResp) at → (IsTrue ended → Finds (Known frame.world.platform more) (IsEnder r.cargo.baton.txn r.hop))
         → IsAway frame tokens more (record { txn = r.cargo.baton.txn; above = r.hop; at = at; ended = ended; rest = rest })
@@ -57,7 +57,7 @@ module _ (frame : Frame Plan) (tokens : TableId) (known more : List (Entry Conte
         }
 
     -- or that was refused
-    pub refused_is_up : (same : Response) → same.hop ≡ r.hop → same.cargo.baton.txn ≡ r.cargo.baton.txn → CanRespond frame tokens same.hop same.leg same.cargo same.due more → IsUp frame tokens more same rest
+    pub refused_is_up : (same : RouterResponse) → same.hop ≡ r.hop → same.cargo.baton.txn ≡ r.cargo.baton.txn → CanRespond frame tokens same.hop same.leg same.cargo same.due more → IsUp frame tokens more same rest
     refused_is_up same hop txn can = record {
       there = subst (λ (h : ℕ). h < hop_count frame.world.platform) (sym hop) up.there;
       can = can;
@@ -65,7 +65,7 @@ module _ (frame : Frame Plan) (tokens : TableId) (known more : List (Entry Conte
     }
 
   -- what is to be made below for one that has ended above
-  pub ends_above : (a : Away) (r : Rest) → IsAway frame tokens known a → a.rest ≡ Some r → Finds (Known frame.world.platform more) (IsEnder a.txn a.above) → HasEndedAbove frame tokens more r a.at
+  pub ends_above : (a : SentUp) (r : Rest) → IsAway frame tokens known a → a.rest ≡ Some r → Finds (Known frame.world.platform more) (IsEnder a.txn a.above) → HasEndedAbove frame tokens more r a.at
   ends_above a r i is end = go (subst (λ (o : Option Rest). IfSome o (IsRestUnder frame tokens more a.above a.txn)) is (away_more a i).below)
     where
       go : IsRestUnder frame tokens more a.above a.txn r → HasEndedAbove frame tokens more r a.at
@@ -78,14 +78,14 @@ module _ (frame : Frame Plan) (tokens : TableId) (known more : List (Entry Conte
       }
 
   -- one that has gone down, after END_REQ above
-  pub settled : (h : Held) (at : ℕ) (new : Held) → HasGone frame tokens known h at → EndsAbove frame tokens known more h at new → HasSettled frame tokens known more h new
+  pub settled : (h : PassedOn) (at : ℕ) (new : PassedOn) → HasGone frame tokens known h at → EndsAbove frame tokens known more h at new → HasSettled frame tokens known more h new
   settled h at new gone e =
       let on = holds_on frame tokens known more w h at new e in
       record {
-        txn = ap (λ (d : Held). d.txn) e.same;
-        above = ap (λ (d : Held). d.above) e.same;
-        below = ap (λ (d : Held). d.below) e.same;
-        owed = ap (λ (d : Held). d.owed) e.same;
+        txn = ap (λ (d : PassedOn). d.txn) e.same;
+        above = ap (λ (d : PassedOn). d.above) e.same;
+        below = ap (λ (d : PassedOn). d.below) e.same;
+        owed = ap (λ (d : PassedOn). d.owed) e.same;
         holding = on.holding (record { pass = gone.pass; hop = gone.hop; state = gone.state; held = gone.held });
         begun = on.begun;
       }

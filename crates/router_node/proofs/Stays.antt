@@ -27,12 +27,12 @@ use Rattle.router_moves.specs.Items.{HasEndedAt, HasGone, IsBack, IsBegun, IsDow
 use Rattle.router_node.specs.Laws.{HoldsOn, StaysKnown}
 use Rattle.router_moves.specs.Moves.{EndsAbove, HasBegunOn, HasEndedAbove, IsBackFor}
 use Rattle.router_moves.specs.declared.items.Back.{Back}
-use Rattle.router_moves.specs.declared.items.Begun.{Begun}
+use Rattle.router_moves.specs.declared.items.BegunBelow.{BegunBelow}
 use Rattle.router_moves.specs.declared.items.Down.{Down}
 use Rattle.router_moves.specs.declared.items.End.{End}
 use Rattle.router_moves.specs.declared.items.End.TheVariants.{Owed, At}
-use Rattle.router_moves.specs.declared.items.Held.{Held}
-use Rattle.router_moves.specs.declared.items.Response.{Response}
+use Rattle.router_moves.specs.declared.items.PassedOn.{PassedOn}
+use Rattle.router_moves.specs.declared.items.RouterResponse.{RouterResponse}
 use Rattle.router_moves.specs.declared.items.Rest.{Rest}
 use Rattle.router_moves.proofs.Grown.{arrival_more, finds_at_more, finds_more, held_more, hold_more, known_more, leg_more}
 
@@ -59,7 +59,7 @@ module _ (frame : Frame Plan) (tokens : TableId) (xs ys : List (Entry Content)) 
     least = arrival_more frame tokens xs ys w d.held.txn i.pass i.hop d.due i.least;
   }
 
-  gone_more : (h : Held) (at : ℕ) → HasGone frame tokens xs h at → HasGone frame tokens ys h at
+  gone_more : (h : PassedOn) (at : ℕ) → HasGone frame tokens xs h at → HasGone frame tokens ys h at
   gone_more h at i = record {
     pass = i.pass;
     hop = i.hop;
@@ -68,7 +68,7 @@ module _ (frame : Frame Plan) (tokens : TableId) (xs ys : List (Entry Content)) 
     begun = finds_at_more p xs ys w at i.begun;
   }
 
-  holding_more : (h : Held) → IsHolding frame tokens xs h → IsHolding frame tokens ys h
+  holding_more : (h : PassedOn) → IsHolding frame tokens xs h → IsHolding frame tokens ys h
   holding_more h i = record { pass = i.pass; hop = i.hop; state = i.state; held = held_more frame tokens xs ys w h i.pass i.hop i.state i.held }
 
   owed_more : (number : ℕ) (x : TxnId) (answer : TlmSync) (leg : Option Slip) → HasOwedLeg frame tokens number xs x answer leg → HasOwedLeg frame tokens number ys x answer leg
@@ -76,7 +76,7 @@ module _ (frame : Frame Plan) (tokens : TableId) (xs ys : List (Entry Content)) 
   owed_more number x (Updated BeginResp) (Some leg) h = leg_more frame tokens number xs ys w x Responding leg h
   owed_more number x answer leg h = absurd h
 
-  begun_with : (h new : Held) (b : Begun) (i : IsBegun frame tokens xs h b) → new.txn ≡ h.txn → (s : _) → IsHeld frame tokens ys new i.pass i.hop s → IsBegun frame tokens ys new b
+  begun_with : (h new : PassedOn) (b : BegunBelow) (i : IsBegun frame tokens xs h b) → new.txn ≡ h.txn → (s : _) → IsHeld frame tokens ys new i.pass i.hop s → IsBegun frame tokens ys new b
   begun_with h new b i same s held = record {
     pass = i.pass;
     hop = i.hop;
@@ -90,7 +90,7 @@ module _ (frame : Frame Plan) (tokens : TableId) (xs ys : List (Entry Content)) 
     leg_of = subst (λ (x : TxnId). HasOwedLeg frame tokens (hop_place p (hop_at i.pass (i.hop + 1))) ys x i.answer b.leg) (sym same) (owed_more (hop_place p (hop_at i.pass (i.hop + 1))) h.txn i.answer b.leg i.leg_of);
   }
 
-  begun_more : (h : Held) (b : Begun) → IsBegun frame tokens xs h b → IsBegun frame tokens ys h b
+  begun_more : (h : PassedOn) (b : BegunBelow) → IsBegun frame tokens xs h b → IsBegun frame tokens ys h b
   begun_more h b i = begun_with h h b i refl i.state (held_more frame tokens xs ys w h i.pass i.hop i.state i.held)
 
   ended_more : (x : TxnId) (pass : Passage) (k at : ℕ) → HasEndedAt frame tokens xs x pass k at → HasEndedAt frame tokens ys x pass k at
@@ -100,14 +100,14 @@ module _ (frame : Frame Plan) (tokens : TableId) (xs ys : List (Entry Content)) 
   owes_more x pass k at owed None e = (e.0, ended_more x pass k at e.1)
   owes_more x pass k at owed (Some leg) e = (e.0, leg_more frame tokens (hop_place p (hop_at pass k)) xs ys w x Responding leg e.1)
 
-  is_back_more : (h : Held) (b : Back) (pass : Passage) (k owed : ℕ) → IsBack frame tokens xs h b pass k owed → IsBack frame tokens ys h b pass k owed
+  is_back_more : (h : PassedOn) (b : Back) (pass : Passage) (k owed : ℕ) → IsBack frame tokens xs h b pass k owed → IsBack frame tokens ys h b pass k owed
   is_back_more h b pass k owed i = record {
     up = goes_up_more p tokens K L more h.txn pass (IsBackAt owed) (k + 1) b.cargo i.up;
     end = owes_more h.txn pass (k + 1) b.at owed b.leg i.end;
     least = up_more (world_of p) K L more h.txn (hop_at pass k) (drop (k + 1) pass.hops) b.at i.least;
   }
 
-  back_with : (h new : Held) (b : Back) (i : IsBackFor frame tokens xs h b) → new.txn ≡ h.txn → (s : _) → IsHeld frame tokens ys new i.pass i.hop s → IsBackFor frame tokens ys new b
+  back_with : (h new : PassedOn) (b : Back) (i : IsBackFor frame tokens xs h b) → new.txn ≡ h.txn → (s : _) → IsHeld frame tokens ys new i.pass i.hop s → IsBackFor frame tokens ys new b
   back_with h new b i same s held = record {
     pass = i.pass;
     hop = i.hop;
@@ -125,10 +125,10 @@ module _ (frame : Frame Plan) (tokens : TableId) (xs ys : List (Entry Content)) 
         );
   }
 
-  back_more : (h : Held) (b : Back) → IsBackFor frame tokens xs h b → IsBackFor frame tokens ys h b
+  back_more : (h : PassedOn) (b : Back) → IsBackFor frame tokens xs h b → IsBackFor frame tokens ys h b
   back_more h b i = back_with h h b i refl i.state (held_more frame tokens xs ys w h i.pass i.hop i.state i.held)
 
-  response_more : (r : Response) → CanRespond frame tokens r.hop r.leg r.cargo r.due xs → CanRespond frame tokens r.hop r.leg r.cargo r.due ys
+  response_more : (r : RouterResponse) → CanRespond frame tokens r.hop r.leg r.cargo r.due xs → CanRespond frame tokens r.hop r.leg r.cargo r.due ys
   response_more r c = record {
     pass = c.pass;
     hop = c.hop;
@@ -182,9 +182,9 @@ module _ (frame : Frame Plan) (tokens : TableId) (xs ys : List (Entry Content)) 
   }
 
   -- after END_REQ above
-  pub holds_on : (h : Held) (at : ℕ) (new : Held) → EndsAbove frame tokens xs ys h at new → HoldsOn frame tokens xs ys h new
+  pub holds_on : (h : PassedOn) (at : ℕ) (new : PassedOn) → EndsAbove frame tokens xs ys h at new → HoldsOn frame tokens xs ys h new
   holds_on h at new e =
-      let same : new.txn ≡ h.txn = ap (λ (d : Held). d.txn) e.same in
+      let same : new.txn ≡ h.txn = ap (λ (d : PassedOn). d.txn) e.same in
       record {
         begun = λ b i. begun_with h new b i same Waiting (e.held i.pass i.hop i.state i.held);
         back = λ b i. back_with h new b i same Waiting (e.held i.pass i.hop i.state i.held);

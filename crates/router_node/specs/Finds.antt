@@ -12,7 +12,7 @@ use Rattle.plat_net.specs.Places.{LeadsTo, hop_place}
 use Rattle.router_moves.specs.Items.{IsRequest}
 use Rattle.router_moves.specs.Moves.{HasFetchedUp}
 use Rattle.router_node.specs.declared.finds.Found.{Found}
-use Rattle.router_moves.specs.declared.items.Request.{Request}
+use Rattle.router_moves.specs.declared.items.RouterRequest.{RouterRequest}
 
 -- a hop to this router, and the hop of a window
 pub record IsHopAbove (p : Plan) (router hop : ℕ) : Type 0 where
@@ -53,6 +53,6 @@ HasFoundBack frame tokens hops was is None = is.looks ≡ was.looks ++ vain_look
 HasFoundBack frame tokens hops was is (Some f) = IsFirst frame.world 2 hops f.hop was.looks is.looks × IsFound frame tokens is.known f
 
 -- A request was fetched from a hop above; or none waits at any.
-abbrev pub HasFoundRequest : Frame Plan → TableId → ℕ → List ℕ → View Content Plan → View Content Plan → Option Request → Type 0
+abbrev pub HasFoundRequest : Frame Plan → TableId → ℕ → List ℕ → View Content Plan → View Content Plan → Option RouterRequest → Type 0
 HasFoundRequest frame tokens router hops was is None = is.looks ≡ was.looks ++ vain_looks frame.world 1 hops
 HasFoundRequest frame tokens router hops was is (Some r) = IsFirst frame.world 1 hops r.hop was.looks is.looks × (r.hop < hop_count frame.world.platform) × IsRequest frame tokens is.known router r

@@ -3,12 +3,12 @@ use Rattle.std.specs.Prelude.{ℕ, ◌≡◌, List, ◌∷◌, ◌++◌, Option,
 use Rattle.std.specs.List.{AllByRecursion}
 use Rattle.router_node.specs.Places.{StandsAt}
 use Rattle.router_node.specs.declared.finds.Found.{Found}
-use Rattle.router_moves.specs.declared.items.Held.{Held}
+use Rattle.router_moves.specs.declared.items.PassedOn.{PassedOn}
 use Rattle.router_node.specs.declared.stage.Stage.{Stage}
 use Rattle.router_node.specs.declared.stage.Stage.TheVariants.{Below, Up}
 
 -- the response is that of a transaction that has gone down there
-abbrev pub IsOf : Held → Found → Type 0
+abbrev pub IsOf : PassedOn → Found → Type 0
 IsOf h f = (h.txn ≡ f.fetched.txn) × (h.below ≡ f.hop)
 
 -- the response is this transaction's

@@ -10,10 +10,10 @@ use Rattle.tlm_model.specs.Plan.{Plan}
 use Rattle.flow_model.specs.World.{Passage}
 use Rattle.plat_net.specs.HopCalls.{CanRespond}
 use Rattle.router_moves.specs.declared.items.Back.{Back}
-use Rattle.router_moves.specs.declared.items.Begun.{Begun}
+use Rattle.router_moves.specs.declared.items.BegunBelow.{BegunBelow}
 use Rattle.router_moves.specs.declared.items.Down.{Down}
-use Rattle.router_moves.specs.declared.items.Held.{Held}
-use Rattle.router_moves.specs.declared.items.Response.{Response}
+use Rattle.router_moves.specs.declared.items.PassedOn.{PassedOn}
+use Rattle.router_moves.specs.declared.items.RouterResponse.{RouterResponse}
 use Rattle.router_moves.specs.declared.items.Rest.{Rest}
 use Rattle.router_moves.specs.Items.{HasGone, IsBegun, IsDown, IsHolding, IsRest}
 use Rattle.router_moves.specs.Moves.{EndsAbove, HasBegunOn, HasEndedAbove, IsBackFor}
@@ -21,11 +21,11 @@ use Rattle.router_moves.specs.Moves.{EndsAbove, HasBegunOn, HasEndedAbove, IsBac
 -- Who knows more knows no less of what a router holds.
 pub record StaysKnown (frame : Frame Plan) (tokens : TableId) (known more : List (Entry Content)) : Type 0 where
   pub down : (d : Down) → IsDown frame tokens known d → IsDown frame tokens more d
-  pub gone : (h : Held) (at : ℕ) → HasGone frame tokens known h at → HasGone frame tokens more h at
-  pub holding : (h : Held) → IsHolding frame tokens known h → IsHolding frame tokens more h
-  pub begun : (h : Held) (b : Begun) → IsBegun frame tokens known h b → IsBegun frame tokens more h b
-  pub back : (h : Held) (b : Back) → IsBackFor frame tokens known h b → IsBackFor frame tokens more h b
-  pub response : (r : Response) → CanRespond frame tokens r.hop r.leg r.cargo r.due known → CanRespond frame tokens r.hop r.leg r.cargo r.due more
+  pub gone : (h : PassedOn) (at : ℕ) → HasGone frame tokens known h at → HasGone frame tokens more h at
+  pub holding : (h : PassedOn) → IsHolding frame tokens known h → IsHolding frame tokens more h
+  pub begun : (h : PassedOn) (b : BegunBelow) → IsBegun frame tokens known h b → IsBegun frame tokens more h b
+  pub back : (h : PassedOn) (b : Back) → IsBackFor frame tokens known h b → IsBackFor frame tokens more h b
+  pub response : (r : RouterResponse) → CanRespond frame tokens r.hop r.leg r.cargo r.due known → CanRespond frame tokens r.hop r.leg r.cargo r.due more
   pub entry : (hop : ℕ) (x : TxnId) → HasBegunOn frame known hop x → HasBegunOn frame more hop x
   pub rest : (r : Rest) (pass : Passage) (k : ℕ) → IsRest frame tokens known r pass k → IsRest frame tokens more r pass k
   pub ended : (r : Rest) (at : ℕ) → HasEndedAbove frame tokens known r at → HasEndedAbove frame tokens more r at
@@ -34,10 +34,10 @@ abbrev pub MoreIsKnown : Type 0
 MoreIsKnown = (frame : Frame Plan) (tokens : TableId) (known more : List (Entry Content)) → Within known more → StaysKnown frame tokens known more
 
 -- After END_REQ above the transaction is the one that it was below: its request may have gone, be called by return, or be back.
-pub record HoldsOn (frame : Frame Plan) (tokens : TableId) (known later : List (Entry Content)) (h : Held) (new : Held) : Type 0 where
-  pub begun : (b : Begun) → IsBegun frame tokens known h b → IsBegun frame tokens later new b
+pub record HoldsOn (frame : Frame Plan) (tokens : TableId) (known later : List (Entry Content)) (h : PassedOn) (new : PassedOn) : Type 0 where
+  pub begun : (b : BegunBelow) → IsBegun frame tokens known h b → IsBegun frame tokens later new b
   pub back : (b : Back) → IsBackFor frame tokens known h b → IsBackFor frame tokens later new b
   pub holding : IsHolding frame tokens known h → IsHolding frame tokens later new
 
 abbrev pub EndedHoldsOn : Type 0
-EndedHoldsOn = (frame : Frame Plan) (tokens : TableId) (known later : List (Entry Content)) (h : Held) (at : ℕ) (new : Held) → Within known later → EndsAbove frame tokens known later h at new → HoldsOn frame tokens known later h new
+EndedHoldsOn = (frame : Frame Plan) (tokens : TableId) (known later : List (Entry Content)) (h : PassedOn) (at : ℕ) (new : PassedOn) → Within known later → EndsAbove frame tokens known later h at new → HoldsOn frame tokens known later h new

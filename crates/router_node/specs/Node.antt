@@ -21,11 +21,11 @@ use Rattle.router_moves.specs.Turns.{HasTurned}
 use Rattle.router_moves.specs.declared.choice.Turned.{Turned}
 use Rattle.router_moves.specs.declared.choice.Turned.TheVariants as Turns
 use Rattle.router_node.specs.declared.finds.Found.{Found}
-use Rattle.router_moves.specs.declared.items.Request.{Request}
+use Rattle.router_moves.specs.declared.items.RouterRequest.{RouterRequest}
 use Rattle.router_node.specs.declared.node.Pumped.{Pumped}
 use Rattle.router_node.specs.declared.node.Pumped.TheVariants.{Did, Nothing}
 use Rattle.router_node.specs.declared.node.RouterNode.{RouterNode}
-use Rattle.router_node.specs.declared.stage.Away.{Away}
+use Rattle.router_node.specs.declared.stage.SentUp.{SentUp}
 use Rattle.router_node.specs.declared.stage.Stage.{Stage}
 use Rattle.router_node.specs.declared.stage.Stage.TheVariants.{Down, Sent, Up}
 use Rattle.router_node.specs.declared.stage.Step.{Step}
@@ -71,7 +71,7 @@ gap = Sent (record { txn = record { initiator = 0; seq = 0 }; above = 0; at = 0;
 
 -- a response that was sent stands at this place
 abbrev pub IsSentAt : List Stage → ℕ → Type 0
-IsSentAt held at = (a : Away) × StandsAt held at (Sent a)
+IsSentAt held at = (a : SentUp) × StandsAt held at (Sent a)
 
 -- A pump came by the transaction at this place with a step, in haste or not. The next one stands behind what is left of it, and the others are as they
 -- were.
@@ -140,7 +140,7 @@ module _ (frame : Frame Plan) (tokens : TableId) where
   -- These are all; in haste some.
   pub record TakesIn (hasty : Bool) (old new : RouterNode) (was is : HeldNote Content Plan) : Type 0 where
     pub room : length old.held.items < old.room
-    pub request : Request
+    pub request : RouterRequest
     pub mid : HeldNote Content Plan
     pub hops : List ℕ
     pub looked_at : AreLookedAt hasty old.above.items hops

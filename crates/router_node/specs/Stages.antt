@@ -18,12 +18,12 @@ use Rattle.plat_net.specs.HopCalls.{CanRespond}
 use Rattle.plat_net.specs.Places.{hop_place}
 use Rattle.router_moves.specs.Items.{IsBegun, IsDown, IsHolding, IsRest, latency_of}
 use Rattle.router_moves.specs.Moves.{HasBegunOn}
-use Rattle.router_moves.specs.declared.items.Begun.{Begun}
+use Rattle.router_moves.specs.declared.items.BegunBelow.{BegunBelow}
 use Rattle.router_moves.specs.declared.items.Down.{Down as ToPass}
-use Rattle.router_moves.specs.declared.items.Held.{Held}
-use Rattle.router_moves.specs.declared.items.Response.{Response}
+use Rattle.router_moves.specs.declared.items.PassedOn.{PassedOn}
+use Rattle.router_moves.specs.declared.items.RouterResponse.{RouterResponse}
 use Rattle.router_moves.specs.declared.items.Rest.{Rest}
-use Rattle.router_node.specs.declared.stage.Away.{Away}
+use Rattle.router_node.specs.declared.stage.SentUp.{SentUp}
 use Rattle.router_node.specs.declared.stage.Stage.{Stage}
 use Rattle.router_node.specs.declared.stage.Stage.TheVariants.{Down, Below, Up, Sent}
 use Rattle.router_node.specs.declared.stage.Step.{Step}
@@ -39,13 +39,13 @@ module _ (frame : Frame Plan) (tokens : TableId) (known : List (Entry Content)) 
     pub rest : IsRest frame tokens known r pass hop
 
   -- A response may go up, and what is to be made below then is known. Nothing is where the router made the response itself.
-  pub record IsUp (r : Response) (rest : Option Rest) : Type 0 where
+  pub record IsUp (r : RouterResponse) (rest : Option Rest) : Type 0 where
     pub there : r.hop < hop_count frame.world.platform
     pub can : CanRespond frame tokens r.hop r.leg r.cargo r.due known
     pub below : IfSome rest (IsRestUnder r.hop r.cargo.baton.txn)
 
   -- A response was sent up at this time. Where the answer ended it, its end is known.
-  pub record IsAway (a : Away) : Type 0 where
+  pub record IsAway (a : SentUp) : Type 0 where
     pub there : a.above < hop_count frame.world.platform
     pub begun : HasBegunOn frame known a.above a.txn
     pub sent : FindsAt (Known frame.world.platform known) (IsPhase a.txn a.above BeginResp) a.at
@@ -53,7 +53,7 @@ module _ (frame : Frame Plan) (tokens : TableId) (known : List (Entry Content)) 
     pub below : IfSome a.rest (IsRestUnder a.above a.txn)
 
   -- A request has gone down, and no END_REQ is owed above.
-  pub record IsSettled (h : Held) : Type 0 where
+  pub record IsSettled (h : PassedOn) : Type 0 where
     pub there : h.above < hop_count frame.world.platform
     pub owed : h.owed ≡ None
     pub holding : IsHolding frame tokens known h
@@ -80,10 +80,10 @@ is_about w s = false
 
 -- Where a transaction stands: all that it is but its payload. A try in vain leaves it as it was.
 pub data Standing : Type 0 where
-  ToGoDown : Held → ℕ → Standing
-  IsBelow : Held → Standing
+  ToGoDown : PassedOn → ℕ → Standing
+  IsBelow : PassedOn → Standing
   ToGoUp : ℕ → ℕ → TxnId → Option Rest → Standing
-  WasSent : Away → Standing
+  WasSent : SentUp → Standing
 
 abbrev pub standing : Stage → Standing
 standing (Down d) = ToGoDown d.held d.due
@@ -109,7 +109,7 @@ abbrev pub WasReleased : Frame Plan → List (Entry Content) → TxnId → Type 
 WasReleased frame known x = (time : ℕ) × (number : ℕ) × FindsAt (Known frame.world.platform known) (IsReleased x number) time
 
 -- A response that was sent has ended above, and below where it came from there.
-pub record HasEnded (frame : Frame Plan) (known : List (Entry Content)) (a : Away) : Type 0 where
+pub record HasEnded (frame : Frame Plan) (known : List (Entry Content)) (a : SentUp) : Type 0 where
   pub above : Finds (Known frame.world.platform known) (IsEnder a.txn a.above)
   pub below : IfSome a.rest (λ r. WasReleased frame known r.txn)
 
@@ -119,7 +119,7 @@ pub record WentDown (frame : Frame Plan) (known : List (Entry Content)) (d : ToP
   pub made : FindsAt (Known frame.world.platform known) (IsPhase d.held.txn d.held.below BeginReq) time
 
 -- Its response came by return: the access was made at the time of BEGIN_REQ, and the response is due above after the memory's latency.
-pub record CameBack (frame : Frame Plan) (known : List (Entry Content)) (d : ToPass) (r : Response) : Type 0 where
+pub record CameBack (frame : Frame Plan) (known : List (Entry Content)) (d : ToPass) (r : RouterResponse) : Type 0 where
   pub time : ℕ
   pub went : WentDown frame known d time
   pub made : FindsAt (Known frame.world.platform known) (IsAccess d.held.txn) time
@@ -144,26 +144,26 @@ ComesBy frame hasty w s old new moved o = HasStepped frame w s old new moved o �
 
 module _ (frame : Frame Plan) (tokens : TableId) (known back : List (Entry Content)) where
   -- END_REQ above was made where it was owed. What was known of the transaction is known of it.
-  pub record HasSettled (h : Held) (new : Held) : Type 0 where
+  pub record HasSettled (h : PassedOn) (new : PassedOn) : Type 0 where
     pub txn : new.txn ≡ h.txn
     pub above : new.above ≡ h.above
     pub below : new.below ≡ h.below
     pub owed : new.owed ≡ None
     pub holding : IsHolding frame tokens back new
-    pub begun : (b : Begun) → IsBegun frame tokens known h b → IsBegun frame tokens back new b
+    pub begun : (b : BegunBelow) → IsBegun frame tokens known h b → IsBegun frame tokens back new b
 
 -- The memory of a request whose response came by return was called at the time of its BEGIN_REQ. The response is due above after the memory's latency.
-pub record IsServedAs (frame : Frame Plan) (known : List (Entry Content)) (h : Held) (b : Begun) (r : Response) : Type 0 where
+pub record IsServedAs (frame : Frame Plan) (known : List (Entry Content)) (h : PassedOn) (b : BegunBelow) (r : RouterResponse) : Type 0 where
   pub hop : r.hop ≡ h.above
   pub txn : r.cargo.baton.txn ≡ h.txn
   pub made : FindsAt (Known frame.world.platform known) (IsAccess h.txn) b.at
   pub due : r.due ≡ later b.at (latency_of frame.world h.below)
 
-abbrev pub IsServed : Frame Plan → List (Entry Content) → Held → Begun → Stage → Type 0
+abbrev pub IsServed : Frame Plan → List (Entry Content) → PassedOn → BegunBelow → Stage → Type 0
 IsServed frame known h b (Up r (Some rest)) = IsServedAs frame known h b r
 IsServed frame known h b s = ⊥
 
 -- A response that was sent has ended above; or not, by a look.
-abbrev pub HasLookedForEnd : Frame Plan → Away → View Content Plan → View Content Plan → Bool → Type 0
+abbrev pub HasLookedForEnd : Frame Plan → SentUp → View Content Plan → View Content Plan → Bool → Type 0
 HasLookedForEnd frame a old new true = Finds (Known frame.world.platform new.known) (IsEnder a.txn a.above)
 HasLookedForEnd frame a old new false = new.looks ≡ old.looks ++ (hop_place frame.world a.above, 5) ∷ []

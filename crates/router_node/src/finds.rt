@@ -7,7 +7,7 @@ ghost use Rattle.router_node.specs.Finds.{HasFoundBack, HasFoundRequest, IsHopAb
 
 use plat_net::{Net, PlatNote, TlmLaw};
 use route_plan::Plan;
-use router_moves::{Fetched, Request, fetch_down, fetch_up};
+use router_moves::{FromBelow, RouterRequest, fetch_down, fetch_up};
 use shared_object::Naming;
 use std::sync::Wait;
 
@@ -15,7 +15,7 @@ use std::sync::Wait;
 #[derive(Drop)]
 pub struct Found {
     pub hop: u32,
-    pub fetched: Fetched,
+    pub fetched: FromBelow,
 }
 
 /// Fetches a response from the first of these hops of windows at which one waits. It makes no entry.
@@ -51,7 +51,7 @@ pub fn find_request<N: Naming<Plan, TlmLaw>, R: Wait>(
     router: u32,
     hops: &[u32],
     note: PlatNote,
-) -> (Option<Request>, PlatNote)
+) -> (Option<RouterRequest>, PlatNote)
     requires hops { AllByRecursion (λ h. IsHopAbove N.frame.world router h) hops.now }
     requires note { IsNote N.table note }
     requires below { StandBelow note.knows.known note.knows.seen }

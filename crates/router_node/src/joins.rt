@@ -8,11 +8,11 @@ use crate::finds::Found;
 use crate::stage::Stage;
 use plat_net::{Net, PlatNote, TlmLaw};
 use route_plan::Plan;
-use router_moves::{Held, turn_up};
+use router_moves::{PassedOn, turn_up};
 use shared_object::Naming;
 
 // Whether a response from below is that of a transaction that has gone down there.
-fn is_of(held: &Held, found: &Found) -> bool
+fn is_of(held: &PassedOn, found: &Found) -> bool
     ensures { IsTrue result ↔ IsOf held.now found.now }
 {
     held.txn == found.fetched.txn && held.below == found.hop

@@ -3,7 +3,7 @@
 //! - `RouterNode` is such a router: its hops above and those of its windows, and the transactions that it
 //!   holds, in order of arrival. `new` makes it by the plan of a net. `pump` is a loop's turn of it; `specs/Node`
 //!   says what a router keeps and what a pump does. `finish` ends it.
-//! - `Stage` is what a router holds of a transaction between pumps, and `Away` a response that was sent up.
+//! - `Stage` is what a router holds of a transaction between pumps, and `SentUp` a response that was sent up.
 //!   `move_on` makes one step of a pump for one: what has ended above is ended below (`end_away`), a response
 //!   is tried (`send`), or a request, with END_REQ above where it is owed (`settle`). `specs/Stages` says what
 //!   each leaves. The moves that they are made of, and what these work on, are those of `router_moves`.
@@ -32,8 +32,8 @@ pub use finds::{Found, find_back, find_request};
 pub use joins::join;
 pub use node::{Pumped, RouterNode};
 pub use router_moves::{
-    Back, Begun, Down, End, Fetched, Held, Passed, Request, Response, Rest, Sent, Turned, Way,
-    descend, end_above, end_below, fetch_down, fetch_up, has_ended_above, pass_on, refuse, release,
-    send_up, serve_below, turn, turn_up, way_behind,
+    Back, BegunBelow, Down, End, FromBelow, Passed, PassedOn, Rest, RouterRequest, RouterResponse,
+    Sent, Turned, WayBehind, descend, end_above, end_below, fetch_down, fetch_up, has_ended_above,
+    pass_on, refuse, release, send_up, serve_below, turn, turn_up, way_behind,
 };
-pub use stage::{Away, Stage, Step, end_away, move_on, send, settle};
+pub use stage::{SentUp, Stage, Step, end_away, move_on, send, settle};

@@ -16,7 +16,7 @@ ghost use Rattle.router_node.specs.declared.stage.Step.TheVariants as Steps;
 use crate::finds::{Found, find_back, find_request};
 use crate::haste::{Wanted, hops_at, leaves_out};
 use crate::joins::{is_joined, join};
-use crate::stage::{Away, Stage, Step, finish_away, is_about, look_for_end, move_on};
+use crate::stage::{SentUp, Stage, Step, finish_away, is_about, look_for_end, move_on};
 use plat_net::{Net, PlatNote, TlmLaw};
 use route_plan::Plan;
 use router_moves::{Turned, turn};
@@ -90,7 +90,7 @@ fn gap() -> Stage
         initiator: 0,
         seq: 0,
     };
-    Stage::Sent(Away {
+    Stage::Sent(SentUp {
         txn,
         above: 0,
         at: 0,
@@ -119,7 +119,7 @@ fn put_back(held: &mut VecDeque<Stage>, at: usize, stage: Stage)
 }
 
 // Takes out the response that was sent and stands at a place. What stands behind it closes up.
-fn take_sent(held: &mut VecDeque<Stage>, at: usize) -> Away
+fn take_sent(held: &mut VecDeque<Stage>, at: usize) -> SentUp
     requires { IsSentAt held.old.items at }
     ensures was { StandsAt held.old.items at (Stages.Sent result) }
     ensures items { held.new.items ≡ remove held.old.items at }

@@ -19,8 +19,8 @@ ghost use Rattle.router_node.specs.declared.stage.Step.TheVariants as Steps;
 use plat_net::{Net, PlatNote, TlmLaw};
 use route_plan::{Down as Behind, HopEnds, Plan};
 use router_moves::{
-    Begun, Down, End, Held, Passed, Response, Rest, Sent, end_above, end_below, has_ended_above,
-    pass_on, release, send_up, serve_below, turn_up,
+    BegunBelow, Down, End, Passed, PassedOn, Rest, RouterResponse, Sent, end_above, end_below,
+    has_ended_above, pass_on, release, send_up, serve_below, turn_up,
 };
 use shared_object::Naming;
 use std::sync::Wait;
@@ -29,7 +29,7 @@ use tlm_types::{Ps, TxnId};
 /// A response that was sent up at this time, in picoseconds, whether its answer has ended it, and what is to
 /// be made below then.
 #[derive(Drop)]
-pub struct Away {
+pub struct SentUp {
     pub txn: TxnId,
     pub above: u32,
     pub at: Ps,
@@ -43,11 +43,11 @@ pub enum Stage {
     /// Its request is to go down.
     Down(Down),
     /// Its request has gone down.
-    Below(Held),
+    Below(PassedOn),
     /// Its response is to go up, with what is to be made below after that.
-    Up(Response, Option<Rest>),
+    Up(RouterResponse, Option<Rest>),
     /// Its response was sent up.
-    Sent(Away),
+    Sent(SentUp),
 }
 
 /// A step of a pump.
@@ -91,7 +91,7 @@ pub(crate) fn finish_away<N: Naming<Plan, TlmLaw>, R: Wait>(
     net: &Net<N>,
     rt: &R,
     note: PlatNote,
-    away: Away,
+    away: SentUp,
 ) -> PlatNote
     requires note { IsNote N.table note }
     requires below { StandBelow note.knows.known note.knows.seen }
@@ -102,7 +102,7 @@ pub(crate) fn finish_away<N: Naming<Plan, TlmLaw>, R: Wait>(
     ensures below { StandBelow result.knows.known result.knows.seen }
     ensures ended { HasEnded N.frame result.knows.known away }
 {
-    let Away { at, rest, .. } = away;
+    let SentUp { at, rest, .. } = away;
     let Some(rest) = rest else {
         return note;
     };
@@ -114,7 +114,7 @@ pub(crate) fn look_for_end<N: Naming<Plan, TlmLaw>, R: Wait>(
     net: &Net<N>,
     rt: &R,
     note: PlatNote,
-    away: &Away,
+    away: &SentUp,
 ) -> (bool, PlatNote)
     requires note { IsNote N.table note }
     requires below { StandBelow note.knows.known note.knows.seen }
@@ -136,7 +136,7 @@ pub fn end_away<N: Naming<Plan, TlmLaw>, R: Wait>(
     net: &Net<N>,
     rt: &R,
     note: PlatNote,
-    away: Away,
+    away: SentUp,
 ) -> (Option<Stage>, bool, PlatNote)
     requires note { IsNote N.table note }
     requires below { StandBelow note.knows.known note.knows.seen }
@@ -160,7 +160,7 @@ pub fn send<N: Naming<Plan, TlmLaw>, R: Wait>(
     net: &Net<N>,
     rt: &R,
     note: PlatNote,
-    response: Response,
+    response: RouterResponse,
     rest: Option<Rest>,
 ) -> (Option<Stage>, bool, PlatNote)
     requires note { IsNote N.table note }
@@ -175,7 +175,7 @@ pub fn send<N: Naming<Plan, TlmLaw>, R: Wait>(
     let above = response.hop;
     match send_up(net, rt, note, response) {
         Sent::Open { at, note } => {
-            let away = Away {
+            let away = SentUp {
                 txn,
                 above,
                 at,
@@ -185,7 +185,7 @@ pub fn send<N: Naming<Plan, TlmLaw>, R: Wait>(
             (Some(Stage::Sent(away)), true, note)
         }
         Sent::Ended { at, note } => {
-            let away = Away {
+            let away = SentUp {
                 txn,
                 above,
                 at,
@@ -204,9 +204,9 @@ pub fn settle<N: Naming<Plan, TlmLaw>, R: Wait>(
     net: &Net<N>,
     rt: &R,
     note: PlatNote,
-    held: Held,
+    held: PassedOn,
     at: Ps,
-) -> (Held, PlatNote)
+) -> (PassedOn, PlatNote)
     requires note { IsNote N.table note }
     requires below { StandBelow note.knows.known note.knows.seen }
     requires gone { HasGone N.frame N.tokens note.knows.known held at }
@@ -249,8 +249,8 @@ fn serve<N: Naming<Plan, TlmLaw>, R: Wait>(
     net: &Net<N>,
     rt: &R,
     note: PlatNote,
-    held: Held,
-    begun: Begun,
+    held: PassedOn,
+    begun: BegunBelow,
 ) -> (Stage, PlatNote)
     requires note { IsNote N.table note }
     requires settled { IsSettled N.frame N.tokens note.knows.known held }

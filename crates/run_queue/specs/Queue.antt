@@ -2,8 +2,8 @@
 use Rattle.std.specs.Prelude.{◌≡◌, ◌+◌, ◌-◌, ◌^◌, ◌==◌, ◌&&◌, ◌<◌, ◌≤◌, min, nat_lt, ℕ, Bool, true, false, List, [], ◌∷◌, ◌++◌, Option, Some, None, length, count_by, slice_index_or, slice_set, if◌then◌else◌}
 use Rattle.run_queue.specs.declared.jobs.JobState.{JobState}
 use Rattle.run_queue.specs.declared.jobs.JobState.TheVariants.{Waiting, Out, Finished}
-use Rattle.run_queue.specs.declared.jobs.Taken.{Taken}
-use Rattle.run_queue.specs.declared.jobs.Taken.TheVariants.{Took, Nothing, AllDone}
+use Rattle.run_queue.specs.declared.jobs.TakenJob.{TakenJob}
+use Rattle.run_queue.specs.declared.jobs.TakenJob.TheVariants.{Took, Nothing, AllDone}
 
 -- where the job of each number is, the numbers in line in the order in which they are taken, those that are parked until a later
 -- round, the greatest round that the queue was told has been reached, those that rest until another job has moved, how often it was
@@ -96,13 +96,13 @@ module _ {J : Type 0} where
   ended q number job = record q { places = slice_set q.places number (Finished job) }
 
   -- a fact of the job that was taken, if one was
-  abbrev pub IfTook : Taken J → (J → Type 0) → Type 0
+  abbrev pub IfTook : TakenJob J → (J → Type 0) → Type 0
   IfTook (Took job) fact = fact job
   IfTook Nothing fact = Unit {0}
   IfTook AllDone fact = Unit {0}
 
   -- a fact that holds where no job was taken
-  abbrev pub UnlessTook : Taken J → Type 0 → Type 0
+  abbrev pub UnlessTook : TakenJob J → Type 0 → Type 0
   UnlessTook (Took job) fact = Unit {0}
   UnlessTook Nothing fact = fact
   UnlessTook AllDone fact = fact

@@ -52,7 +52,7 @@ impl<J> JobState<J> {
 
 /// What `take` answers: a job, that none waits, or that enough jobs have finished.
 #[derive(Drop)]
-pub enum Taken<J> {
+pub enum TakenJob<J> {
     Took(J),
     Nothing,
     AllDone,
@@ -174,29 +174,29 @@ impl<J: Job> Jobs<J> {
     }
 
     /// Takes out the job that has waited longest in line.
-    pub fn take(&mut self) -> Taken<J>
+    pub fn take(&mut self) -> TakenJob<J>
         ensures took { IfTook result (λ job. Takes J.number_of self.old self.new job) }
         ensures unchanged { UnlessTook result (self.new ≡ self.old) }
 
         // Each of the other two answers comes exactly where it is true.
-        ensures all_done { (result ≡ Taken.AllDone)
+        ensures all_done { (result ≡ TakenJob.AllDone)
             ↔ (self.old.unfinished ≤ finished_count self.old.places) }
-        ensures nothing { (result ≡ Taken.Nothing)
+        ensures nothing { (result ≡ TakenJob.Nothing)
             ↔ ((self.old.order ≡ []) × (finished_count self.old.places < self.old.unfinished)) }
 
         // Each number that waits is in line, parked or at rest, once, and no other is.
         ensures line { IsLine self.old }
     {
         if self.unfinished as usize <= self.finished {
-            return Taken::AllDone;
+            return TakenJob::AllDone;
         }
         let Some(number) = self.order.pop_front() else {
-            return Taken::Nothing;
+            return TakenJob::Nothing;
         };
         let JobState::Waiting(job) = mem::replace(&mut self.places[number], JobState::Out) else {
             unreachable!()
         };
-        Taken::Took(job)
+        TakenJob::Took(job)
     }
 
     /// Whether `take` would answer Nothing.

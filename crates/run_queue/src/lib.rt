@@ -19,5 +19,5 @@
 mod jobs;
 mod queue;
 
-pub use jobs::{Job, JobState, Jobs, Taken};
+pub use jobs::{Job, JobState, Jobs, TakenJob};
 pub use queue::RunQueue;

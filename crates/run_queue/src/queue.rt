@@ -2,7 +2,7 @@
 ghost use Rattle.std.specs.Prelude.{◌≡◌, ◌≤◌, count_by, IfOk, IsTrue, vec_len};
 ghost use Rattle.run_queue.specs.Queue.{AreNumbered};
 
-use crate::jobs::{Job, Jobs, Taken};
+use crate::jobs::{Job, Jobs, TakenJob};
 use std::alloc::Global;
 use std::marker::Model;
 use std::sync::{Condvar, Mutex, Wait};
@@ -43,7 +43,7 @@ impl<J: Job> RunQueue<J> {
     }
 
     /// What `Jobs::take` answers at some moment during this call, which may wait for the lock.
-    pub fn take<R: Wait>(&self, rt: &R) -> Taken<J> {
+    pub fn take<R: Wait>(&self, rt: &R) -> TakenJob<J> {
         self.lock.lock(rt).take()
     }
 
@@ -61,12 +61,12 @@ impl<J: Job> RunQueue<J> {
 
     /// What `Jobs::rouse` and then `Jobs::take` do, under one lock, with how often it was told by then that a job has moved.
     /// It may wait for the lock. So do the calls below, which hand in a job before.
-    pub fn take_and_look<R: Wait>(&self, rt: &R) -> (Taken<J>, u64) {
+    pub fn take_and_look<R: Wait>(&self, rt: &R) -> (TakenJob<J>, u64) {
         self.look(&mut self.lock.lock(rt))
     }
 
     /// `Jobs::bring_back` and `Jobs::give_back` before.
-    pub fn give_back_and_take<R: Wait>(&self, rt: &R, job: J, reached: u64) -> (Taken<J>, u64) {
+    pub fn give_back_and_take<R: Wait>(&self, rt: &R, job: J, reached: u64) -> (TakenJob<J>, u64) {
         let mut jobs = self.lock.lock(rt);
         jobs.bring_back(reached);
         jobs.give_back(job);
@@ -74,7 +74,7 @@ impl<J: Job> RunQueue<J> {
     }
 
     /// The job has moved: `Jobs::wake` and `Jobs::give_back` before.
-    pub fn move_and_take<R: Wait>(&self, rt: &R, job: J) -> (Taken<J>, u64) {
+    pub fn move_and_take<R: Wait>(&self, rt: &R, job: J) -> (TakenJob<J>, u64) {
         let mut jobs = self.lock.lock(rt);
         jobs.wake();
         jobs.give_back(job);
@@ -82,7 +82,7 @@ impl<J: Job> RunQueue<J> {
     }
 
     /// `Jobs::bring_back` and `Jobs::park`, both with this round, before.
-    pub fn park_and_take<R: Wait>(&self, rt: &R, job: J, reached: u64) -> (Taken<J>, u64) {
+    pub fn park_and_take<R: Wait>(&self, rt: &R, job: J, reached: u64) -> (TakenJob<J>, u64) {
         let mut jobs = self.lock.lock(rt);
         jobs.bring_back(reached);
         jobs.park(job, reached);
@@ -97,7 +97,7 @@ impl<J: Job> RunQueue<J> {
         job: J,
         moves: u64,
         moved: bool,
-    ) -> (Taken<J>, u64) {
+    ) -> (TakenJob<J>, u64) {
         let mut jobs = self.lock.lock(rt);
         let moves = tell_move(&mut jobs, moves, moved);
         jobs.rest(job, moves);
@@ -105,7 +105,7 @@ impl<J: Job> RunQueue<J> {
     }
 
     /// `Jobs::bring_back`, `Jobs::wake` and `Jobs::finish` before.
-    pub fn finish_and_take<R: Wait>(&self, rt: &R, job: J, reached: u64) -> (Taken<J>, u64)
+    pub fn finish_and_take<R: Wait>(&self, rt: &R, job: J, reached: u64) -> (TakenJob<J>, u64)
         requires { IsTrue (J.is_done job) }
     {
         let mut jobs = self.lock.lock(rt);
@@ -116,7 +116,7 @@ impl<J: Job> RunQueue<J> {
     }
 
     /// Waits until a job is in line or enough have finished, and does then what `take_and_look` does.
-    pub fn wait_and_take<R: Wait>(&self, rt: &R) -> (Taken<J>, u64) {
+    pub fn wait_and_take<R: Wait>(&self, rt: &R) -> (TakenJob<J>, u64) {
         let jobs = self.lock.lock(rt);
         let mut jobs = self.bell.wait_while(rt, jobs, |jobs| jobs.is_idle());
         self.look(&mut jobs)
@@ -124,7 +124,7 @@ impl<J: Job> RunQueue<J> {
 
     // Takes the next job, and tells how often it was told by then that a job has moved. Where more is to be taken, those
     // who wait are told.
-    fn look(&self, jobs: &mut Jobs<J>) -> (Taken<J>, u64) {
+    fn look(&self, jobs: &mut Jobs<J>) -> (TakenJob<J>, u64) {
         jobs.rouse();
         let taken = jobs.take();
         if !jobs.is_idle() {

@@ -42,18 +42,18 @@ use Rattle.plat_net.proofs.Given.{among_at}
 use Rattle.plat_net.proofs.NumberLemmas.{hop_there}
 use Rattle.plat_net.proofs.Targets.{ends_stop}
 use Rattle.target_node.specs.Items.{IsFetchedWith, IsOwedEnd, IsRequest, IsWaiting, accepts, is_accepting, row_accepts}
-use Rattle.target_node.specs.declared.items.Request.{Request}
+use Rattle.target_node.specs.declared.items.MemoryRequest.{MemoryRequest}
 
 -- what holds of what came
 pub of_some : {A : Type 0} (P : A → Type 0) (o : Option A) (x : A) → o ≡ Some x → IfSome o P → P x
 of_some {A = A} P o x is holds = subst (λ (q : Option A). IfSome q P) is holds
 
 -- what was fetched with a ticket, and without
-pub with_ticket : (frame : Frame Plan) (tokens : TableId) (memory : ℕ) (known : List (Entry Content)) (at : ℕ) (accepting : Bool) (r : Request) (t : Ticket) → IsFetchedWith frame tokens memory known at accepting r (Some t) → (accepting ≡ true) × IsOwedEnd frame tokens memory known r × IsTicket tokens (hop_place frame.world at) t
+pub with_ticket : (frame : Frame Plan) (tokens : TableId) (memory : ℕ) (known : List (Entry Content)) (at : ℕ) (accepting : Bool) (r : MemoryRequest) (t : Ticket) → IsFetchedWith frame tokens memory known at accepting r (Some t) → (accepting ≡ true) × IsOwedEnd frame tokens memory known r × IsTicket tokens (hop_place frame.world at) t
 with_ticket frame tokens memory known at true r t f = (refl, f.1, f.2)
 with_ticket frame tokens memory known at false r t f = absurd f
 
-pub with_none : (frame : Frame Plan) (tokens : TableId) (memory : ℕ) (known : List (Entry Content)) (at : ℕ) (accepting : Bool) (r : Request) → IsFetchedWith frame tokens memory known at accepting r None → (accepting ≡ false) × IsWaiting frame tokens memory known r
+pub with_none : (frame : Frame Plan) (tokens : TableId) (memory : ℕ) (known : List (Entry Content)) (at : ℕ) (accepting : Bool) (r : MemoryRequest) → IsFetchedWith frame tokens memory known at accepting r None → (accepting ≡ false) × IsWaiting frame tokens memory known r
 with_none frame tokens memory known at true r f = absurd f
 with_none frame tokens memory known at false r f = (refl, f.1)
 
@@ -124,7 +124,7 @@ module _ (frame : Frame Plan) (tokens : TableId) (known : List (Entry Content)) 
   paid = let l = (h.down.tickets.hops h.hop h.down.held.below).here refl in subst (λ (n : ℕ). 0 < left_of r.cargo.baton.wallet n) (sym h.place) (omega (arith, l))
 
   -- the request, once the ticket of END_REQ was pulled where it is owed
-  abbrev pub taken : Purse → Request
+  abbrev pub taken : Purse → MemoryRequest
   taken after = record { hop = hop; leg = r.leg; at = r.at; cargo = with_wallet r.cargo after }
 
   request_is : (after : Purse) (state : LaneState) → r.state ≡ state → PullsOwed tokens (request_ends (row_of (world_of p) h.pass h.hop)) (hop_place p hop) r.cargo.baton.wallet after → IsRequest frame tokens memory known (taken after) h.pass h.hop state

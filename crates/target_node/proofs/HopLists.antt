@@ -17,8 +17,8 @@ use Rattle.plat_net.specs.Places.{LeadsTo}
 use Rattle.target_node.specs.Hops.{IsNew, ends_lead, hops_below, hops_to, is_memory, leads_to, row_lanes}
 use Rattle.target_node.specs.Items.{is_accepting}
 use Rattle.target_node.specs.Node.{IsHopTo, IsQueued, IsToSend, memory_latency}
-use Rattle.target_node.specs.declared.items.Request.{Request}
-use Rattle.target_node.specs.declared.items.Response.{Response}
+use Rattle.target_node.specs.declared.items.MemoryRequest.{MemoryRequest}
+use Rattle.target_node.specs.declared.items.MemoryResponse.{MemoryResponse}
 use Rattle.target_node.specs.declared.node.TargetNode.{TargetNode}
 
 -- one more hop
@@ -81,16 +81,16 @@ new_is frame tokens p t room world there hops accepts latency queue long free =
     record {
       memory_is = refl;
       hops_are = hops_are;
-      empty = ap (λ (e : Events Request). e.entries) queue;
-      room = ap (λ (e : Events Request). e.room) queue ∙ subst (λ (r : Plan). room ≡ row_lanes (slice_get r.platform.memories t.memory) * length t.hops.items) world long;
+      empty = ap (λ (e : Events MemoryRequest). e.entries) queue;
+      room = ap (λ (e : Events MemoryRequest). e.room) queue ∙ subst (λ (r : Plan). room ≡ row_lanes (slice_get r.platform.memories t.memory) * length t.hops.items) world long;
       free = free;
       target = λ known. record {
         memory = there;
         hops = subst (λ (l : List ℕ). AllByRecursion (λ (h : ℕ). IsHopTo q t.memory h) l) (sym hops_are) (hops_lead q t.memory (hop_count q.platform) (same (hop_count q.platform)));
         accepts = subst (λ (r : Plan). t.accepts ≡ is_accepting r t.memory) world accepts;
         latency = subst (λ (r : Plan). t.latency ≡ memory_latency r t.memory) world latency;
-        queue = subst (λ (es : List (ℕ × Request)). AllByRecursion (IsQueued frame tokens t.memory t.latency known) es) (sym (ap (λ (e : Events Request). e.entries) queue)) tt;
-        held = subst (λ (o : Option Response). IfSome o (IsToSend frame tokens known)) (sym free) tt;
+        queue = subst (λ (es : List (ℕ × MemoryRequest)). AllByRecursion (IsQueued frame tokens t.memory t.latency known) es) (sym (ap (λ (e : Events MemoryRequest). e.entries) queue)) tt;
+        held = subst (λ (o : Option MemoryResponse). IfSome o (IsToSend frame tokens known)) (sym free) tt;
       };
     }
   where

@@ -20,8 +20,8 @@ use Rattle.route_plan.specs.Valid.{hop_count}
 use Rattle.plat_net.specs.Places.{LeadsTo, hop_place}
 use Rattle.target_node.specs.Items.{HasServedAt, IsWaiting, latency_of}
 use Rattle.target_node.specs.Node.{IsQueued, IsTarget, IsToSend, row_latency}
-use Rattle.target_node.specs.declared.items.Request.{Request}
-use Rattle.target_node.specs.declared.items.Response.{Response}
+use Rattle.target_node.specs.declared.items.MemoryRequest.{MemoryRequest}
+use Rattle.target_node.specs.declared.items.MemoryResponse.{MemoryResponse}
 use Rattle.target_node.specs.declared.node.TargetNode.{TargetNode}
 use Rattle.target_node.proofs.Fetches.{latency_is, row_in}
 use Rattle.target_node.proofs.Served.{finds_more, known_more, leg_more}
@@ -45,7 +45,7 @@ module _ (frame : Frame Plan) (tokens : TableId) (known back : List (Entry Conte
   on = known_more p known back w
 
   -- a request that waits goes on waiting
-  pub waiting_more : (memory : ℕ) (r : Request) → IsWaiting frame tokens memory known r → IsWaiting frame tokens memory back r
+  pub waiting_more : (memory : ℕ) (r : MemoryRequest) → IsWaiting frame tokens memory known r → IsWaiting frame tokens memory back r
   waiting_more memory r waits =
       let q = waits.request in
       let b = q.begun in
@@ -67,11 +67,11 @@ module _ (frame : Frame Plan) (tokens : TableId) (known back : List (Entry Conte
         ended = λ row. finds_more p known back w (waits.ended row);
       }
 
-  pub queued_more : (memory latency : ℕ) (es : List (ℕ × Request)) → AllByRecursion (IsQueued frame tokens memory latency known) es → AllByRecursion (IsQueued frame tokens memory latency back) es
+  pub queued_more : (memory latency : ℕ) (es : List (ℕ × MemoryRequest)) → AllByRecursion (IsQueued frame tokens memory latency known) es → AllByRecursion (IsQueued frame tokens memory latency back) es
   queued_more memory latency es all = all_by (IsQueued frame tokens memory latency known) (IsQueued frame tokens memory latency back) (λ e q. record { due = q.due; below = q.below; waits = waiting_more memory e.1 q.waits }) es all
 
   -- a response that may be sent may be sent later
-  pub to_send_more : (r : Response) → IsToSend frame tokens known r → IsToSend frame tokens back r
+  pub to_send_more : (r : MemoryResponse) → IsToSend frame tokens known r → IsToSend frame tokens back r
   to_send_more r s =
       let can = s.can in
       record {
@@ -93,12 +93,12 @@ module _ (frame : Frame Plan) (tokens : TableId) (known back : List (Entry Conte
         };
       }
 
-  pub held_more : (held : Option Response) → IfSome held (IsToSend frame tokens known) → IfSome held (IsToSend frame tokens back)
+  pub held_more : (held : Option MemoryResponse) → IfSome held (IsToSend frame tokens known) → IfSome held (IsToSend frame tokens back)
   held_more None h = h
   held_more (Some r) h = to_send_more r h
 
   -- a memory with another queue and another response in hand
-  pub keeps : (t : TargetNode) (es : List (ℕ × Request)) (held : Option Response) → IsTarget frame tokens t known → AllByRecursion (IsQueued frame tokens t.memory t.latency back) es → IfSome held (IsToSend frame tokens back)
+  pub keeps : (t : TargetNode) (es : List (ℕ × MemoryRequest)) (held : Option MemoryResponse) → IsTarget frame tokens t known → AllByRecursion (IsQueued frame tokens t.memory t.latency back) es → IfSome held (IsToSend frame tokens back)
       → IsTarget frame tokens (record t { queue = (let q = t.queue in record q { entries = es }); held = held }) back
   keeps t es held is queue h = record { memory = is.memory; hops = is.hops; accepts = is.accepts; latency = is.latency; queue = queue; held = h }
 
@@ -106,7 +106,7 @@ module _ (frame : Frame Plan) (tokens : TableId) (known back : List (Entry Conte
   target_more t is = record { memory = is.memory; hops = is.hops; accepts = is.accepts; latency = is.latency; queue = queued_more t.memory t.latency t.queue.entries is.queue; held = held_more t.held is.held }
 
 -- the latency of a memory is that of its hops
-pub latency_there : (frame : Frame Plan) (tokens : TableId) (t : TargetNode) (known : List (Entry Content)) → IsTarget frame tokens t known → (r : Request) → IsWaiting frame tokens t.memory known r → t.latency ≡ latency_of frame.world r.hop
+pub latency_there : (frame : Frame Plan) (tokens : TableId) (t : TargetNode) (known : List (Entry Content)) → IsTarget frame tokens t known → (r : MemoryRequest) → IsWaiting frame tokens t.memory known r → t.latency ≡ latency_of frame.world r.hop
 latency_there frame tokens t known is r waits =
     let p = frame.world in
     let q = waits.request in
@@ -116,5 +116,5 @@ latency_there frame tokens t known is r waits =
     is.latency ∙ (ap row_latency row.1 ∙ (sym at ∙ ap (λ (h : ℕ). (hop_in p.platform h).latency) q.here))
 
 -- a response that was served may be sent
-pub served_to_send : (frame : Frame Plan) (tokens : TableId) (latency : ℕ) (r : Request) (known : List (Entry Content)) (a : Response) → r.hop < hop_count frame.world.platform → HasServedAt frame tokens latency r known a → IsToSend frame tokens known a
+pub served_to_send : (frame : Frame Plan) (tokens : TableId) (latency : ℕ) (r : MemoryRequest) (known : List (Entry Content)) (a : MemoryResponse) → r.hop < hop_count frame.world.platform → HasServedAt frame tokens latency r known a → IsToSend frame tokens known a
 served_to_send frame tokens latency r known a below s = record { below = subst (λ (h : ℕ). h < hop_count frame.world.platform) (sym s.hop) below; can = s.can }

@@ -14,8 +14,8 @@ use Rattle.route_plan.specs.Valid.{hop_count}
 use Rattle.plat_net.specs.Places.{hop_place}
 use Rattle.target_node.specs.Items.{IsFetchedAs, IsFetchedWith}
 use Rattle.target_node.specs.Node.{FindsFirst, IsHopTo, vain_looks}
-use Rattle.target_node.specs.declared.items.Fetched.{Fetched}
-use Rattle.target_node.specs.declared.items.Request.{Request}
+use Rattle.target_node.specs.declared.items.FromHop.{FromHop}
+use Rattle.target_node.specs.declared.items.MemoryRequest.{MemoryRequest}
 
 pub within_on : (xs ys zs : List (Entry Content)) → Within xs ys → Within ys zs → Within xs zs
 within_on xs ys zs a b = λ x has. b x (a x has)
@@ -62,13 +62,13 @@ looks_more p xs i first before after below b a =
 
 module _ (frame : Frame Plan) (tokens : TableId) (memory : ℕ) where
   -- a request was fetched from the hop that was asked
-  pub hop_of : (known : List (Entry Content)) (at : ℕ) (accepting : Bool) (r : Request) (t : Option Ticket) → IsFetchedWith frame tokens memory known at accepting r t → r.hop ≡ at
+  pub hop_of : (known : List (Entry Content)) (at : ℕ) (accepting : Bool) (r : MemoryRequest) (t : Option Ticket) → IsFetchedWith frame tokens memory known at accepting r t → r.hop ≡ at
   hop_of known at true r (Some t) is = is.0
   hop_of known at true r None is = absurd is
   hop_of known at false r None is = is.0
   hop_of known at false r (Some t) is = absurd is
 
-  pub found_first : (accepts : Bool) (xs : List ℕ) (i : ℕ) (old mid new : View Content Plan) (f : Fetched) → i < length xs → AllByRecursion (λ (h : ℕ). IsHopTo frame.world memory h) xs → mid.looks ≡ old.looks ++ vain_looks frame.world (take i xs)
+  pub found_first : (accepts : Bool) (xs : List ℕ) (i : ℕ) (old mid new : View Content Plan) (f : FromHop) → i < length xs → AllByRecursion (λ (h : ℕ). IsHopTo frame.world memory h) xs → mid.looks ≡ old.looks ++ vain_looks frame.world (take i xs)
       → new.looks ≡ mid.looks ++ (hop_place frame.world (get_or xs i 0), 0) ∷ [] → IsFetchedAs frame tokens memory (get_or xs i 0) accepts new.known f → FindsFirst frame tokens memory accepts xs old new f
   found_first accepts xs i old mid new f below hops before here is =
       let hop : f.request.hop ≡ get_or xs i 0 = hop_of new.known (get_or xs i 0) accepts f.request f.ticket is in

@@ -40,8 +40,8 @@ use Rattle.plat_net.specs.Places.{LeadsTo, hop_place}
 use Rattle.plat_net.proofs.Given.{ends_there, took}
 use Rattle.plat_net.proofs.Targets.{ends_stop}
 use Rattle.target_node.specs.Items.{HasServedAt, IsOwedEnd, IsWaiting, latency_of}
-use Rattle.target_node.specs.declared.items.Request.{Request}
-use Rattle.target_node.specs.declared.items.Response.{Response}
+use Rattle.target_node.specs.declared.items.MemoryRequest.{MemoryRequest}
+use Rattle.target_node.specs.declared.items.MemoryResponse.{MemoryResponse}
 
 -- what is known stays known
 pub known_more : (p : Plan) (xs ys : List (Entry Content)) → Within xs ys → (e : Event) → Known p.platform xs e → Known p.platform ys e
@@ -53,7 +53,7 @@ finds_more p xs ys w f = record { event = f.event; known = known_more p xs ys w 
 pub leg_more : (frame : Frame Plan) (tokens : TableId) (number : ℕ) (xs ys : List (Entry Content)) → Within xs ys → (x : TxnId) (state : LaneState) (leg : Slip) → IsLegOfLane frame tokens number xs x state leg → IsLegOfLane frame tokens number ys x state leg
 leg_more frame tokens number xs ys w x state leg h = record { table = h.table; owner = h.owner; entry = h.entry; has = w h.entry h.has; object = h.object; txn = h.txn; name = h.name }
 
-module _ (frame : Frame Plan) (tokens : TableId) (memory : ℕ) (known : List (Entry Content)) (r : Request) (waits : IsWaiting frame tokens memory known r) where
+module _ (frame : Frame Plan) (tokens : TableId) (memory : ℕ) (known : List (Entry Content)) (r : MemoryRequest) (waits : IsWaiting frame tokens memory known r) where
   -- a request that waits may be served
   abbrev pub can_serve : CanServe frame tokens memory r.cargo r.at known
   can_serve = record {
@@ -109,7 +109,7 @@ module _ (frame : Frame Plan) (tokens : TableId) (memory : ℕ) (known : List (E
       }
 
 -- the hop to a memory
-module _ (frame : Frame Plan) (tokens : TableId) (memory : ℕ) (known : List (Entry Content)) (made : frame ≡ frame_of frame.world) (shape : IsShape frame.world.platform) (there : memory < length frame.world.platform.memories) (r : Request) (owed : IsOwedEnd frame tokens memory known r) where
+module _ (frame : Frame Plan) (tokens : TableId) (memory : ℕ) (known : List (Entry Content)) (made : frame ≡ frame_of frame.world) (shape : IsShape frame.world.platform) (there : memory < length frame.world.platform.memories) (r : MemoryRequest) (owed : IsOwedEnd frame tokens memory known r) where
   abbrev p : Plan
   p = frame.world
 
@@ -186,7 +186,7 @@ module _ (frame : Frame Plan) (tokens : TableId) (memory : ℕ) (known : List (E
       }
 
 -- what a refused response has is as before
-module _ (frame : Frame Plan) (tokens : TableId) (known back : List (Entry Content)) (r : Response) (can : CanRespond frame tokens r.hop r.leg r.cargo r.due known) where
+module _ (frame : Frame Plan) (tokens : TableId) (known back : List (Entry Content)) (r : MemoryResponse) (can : CanRespond frame tokens r.hop r.leg r.cargo r.due known) where
   pub may_again : (leg : Slip) (c : Cargo) → Within known back → leg ≡ r.leg → c.baton.txn ≡ r.cargo.baton.txn → GoesUp frame.world tokens (Known frame.world.platform back) r.cargo.baton.txn can.pass Ready can.hop c → CanRespond frame tokens r.hop leg c r.due back
   may_again leg c w same txn up =
       record {

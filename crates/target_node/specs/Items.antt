@@ -28,9 +28,9 @@ use Rattle.cargo_model.specs.Travel.{IsFetched}
 use Rattle.cargo_net.specs.Hops.{IsLegOfLane}
 use Rattle.plat_net.specs.HopCalls.{CanRespond}
 use Rattle.plat_net.specs.Places.{LeadsTo, hop_place}
-use Rattle.target_node.specs.declared.items.Fetched.{Fetched}
-use Rattle.target_node.specs.declared.items.Request.{Request}
-use Rattle.target_node.specs.declared.items.Response.{Response}
+use Rattle.target_node.specs.declared.items.FromHop.{FromHop}
+use Rattle.target_node.specs.declared.items.MemoryRequest.{MemoryRequest}
+use Rattle.target_node.specs.declared.items.MemoryResponse.{MemoryResponse}
 
 -- the mode of a memory is that BEGIN_REQ is accepted and END_REQ is a call of its own
 abbrev pub accepts : ReqMode → Bool
@@ -50,7 +50,7 @@ latency_of p hop = (hop_in p.platform hop).latency
 
 module _ (frame : Frame Plan) (tokens : TableId) (memory : ℕ) (known : List (Entry Content)) where
   -- A request was fetched from a hop to this memory: an access on its way, whose BEGIN_REQ is known with its time, and the leg of its lane.
-  pub record IsRequest (r : Request) (pass : Passage) (hop : ℕ) (state : LaneState) : Type 0 where
+  pub record IsRequest (r : MemoryRequest) (pass : Passage) (hop : ℕ) (state : LaneState) : Type 0 where
     pub here : hop_at pass hop ≡ r.hop
     pub leads : LeadsTo frame.world.platform r.hop (Memory memory)
     pub fetched : IsFetched frame.world tokens (Known frame.world.platform known) r.cargo.baton.txn pass hop r.cargo
@@ -61,7 +61,7 @@ module _ (frame : Frame Plan) (tokens : TableId) (memory : ℕ) (known : List (E
     pub responds : responses (row_of (world_of frame.world) pass hop) answer ≡ 1
 
   -- It waits to be served: END_REQ is known where the row has one.
-  pub record IsWaiting (r : Request) : Type 0 where
+  pub record IsWaiting (r : MemoryRequest) : Type 0 where
     pub pass : Passage
     pub hop : ℕ
     pub state : LaneState
@@ -70,28 +70,28 @@ module _ (frame : Frame Plan) (tokens : TableId) (memory : ℕ) (known : List (E
     pub ended : row_of (world_of frame.world) pass hop ≡ Accept → Finds (Known frame.world.platform known) (IsCall r.cargo.baton.txn (hop_at pass hop) EndReq Accepted)
 
   -- END_REQ is owed for it
-  pub record IsOwedEnd (r : Request) : Type 0 where
+  pub record IsOwedEnd (r : MemoryRequest) : Type 0 where
     pub pass : Passage
     pub hop : ℕ
     pub request : IsRequest r pass hop Requested
     pub row : row_of (world_of frame.world) pass hop ≡ Accept
 
   -- with its ticket, exactly where the memory's mode is so
-  abbrev pub IsFetchedWith : ℕ → Bool → Request → Option Ticket → Type 0
+  abbrev pub IsFetchedWith : ℕ → Bool → MemoryRequest → Option Ticket → Type 0
   IsFetchedWith at true r (Some ticket) = (r.hop ≡ at) × IsOwedEnd r × IsTicket tokens (hop_place frame.world at) ticket
   IsFetchedWith at false r None = (r.hop ≡ at) × IsWaiting r
   IsFetchedWith at accepting r ticket = ⊥
 
-abbrev pub IsFetchedAs : Frame Plan → TableId → ℕ → ℕ → Bool → List (Entry Content) → Fetched → Type 0
+abbrev pub IsFetchedAs : Frame Plan → TableId → ℕ → ℕ → Bool → List (Entry Content) → FromHop → Type 0
 IsFetchedAs frame tokens memory at accepting known f = IsFetchedWith frame tokens memory known at accepting f.request f.ticket
 
 -- the look of a fetch: 0 for a request, 1 for none
-abbrev pub fetch_look : Option Fetched → ℕ
+abbrev pub fetch_look : Option FromHop → ℕ
 fetch_look None = 1
 fetch_look (Some f) = 0
 
 -- The access of a request was made at the time of its BEGIN_REQ, and its response may be sent from the time on that is later by the latency.
-pub record HasServedAt (frame : Frame Plan) (tokens : TableId) (latency : ℕ) (r : Request) (known : List (Entry Content)) (answer : Response) : Type 0 where
+pub record HasServedAt (frame : Frame Plan) (tokens : TableId) (latency : ℕ) (r : MemoryRequest) (known : List (Entry Content)) (answer : MemoryResponse) : Type 0 where
   pub hop : answer.hop ≡ r.hop
   pub due : answer.due ≡ later r.at latency
   pub txn : answer.cargo.baton.txn ≡ r.cargo.baton.txn
@@ -99,7 +99,7 @@ pub record HasServedAt (frame : Frame Plan) (tokens : TableId) (latency : ℕ) (
   pub can : CanRespond frame tokens answer.hop answer.leg answer.cargo answer.due known
 
 -- BEGIN_RESP was made at the time at which the response was due or later; or it is refused, and may be sent as before.
-abbrev pub HasResponded : Frame Plan → TableId → Response → View Content Plan → View Content Plan → Option Response → Type 0
+abbrev pub HasResponded : Frame Plan → TableId → MemoryResponse → View Content Plan → View Content Plan → Option MemoryResponse → Type 0
 HasResponded frame tokens r old new None =
     ((answer : TlmSync) × (time : ℕ) × (r.due ≤ time) × FindsAt (Known frame.world.platform new.known) (IsCall r.cargo.baton.txn r.hop BeginResp answer) time)
     × (new.looks ≡ old.looks ++ (hop_place frame.world r.hop, 0) ∷ [])

@@ -16,9 +16,9 @@ use Rattle.route_plan.specs.Valid.{hop_count}
 use Rattle.plat_net.specs.HopCalls.{CanRespond}
 use Rattle.plat_net.specs.Places.{LeadsTo, hop_place, memory_place}
 use Rattle.target_node.specs.Items.{HasResponded, HasServedAt, IsFetchedAs, IsWaiting, is_accepting}
-use Rattle.target_node.specs.declared.items.Fetched.{Fetched}
-use Rattle.target_node.specs.declared.items.Request.{Request}
-use Rattle.target_node.specs.declared.items.Response.{Response}
+use Rattle.target_node.specs.declared.items.FromHop.{FromHop}
+use Rattle.target_node.specs.declared.items.MemoryRequest.{MemoryRequest}
+use Rattle.target_node.specs.declared.items.MemoryResponse.{MemoryResponse}
 use Rattle.target_node.specs.declared.node.TargetNode.{TargetNode}
 use Rattle.target_node.specs.declared.node.Pumped.{Pumped}
 use Rattle.target_node.specs.declared.node.Pumped.TheVariants.{Did, Nothing}
@@ -38,13 +38,13 @@ pub record IsHopTo (p : Plan) (memory hop : ℕ) : Type 0 where
 
 module _ (frame : Frame Plan) (tokens : TableId) where
   -- a request in the queue of a memory waits to be served, and is due after the memory's latency
-  pub record IsQueued (memory latency : ℕ) (known : List (Entry Content)) (e : ℕ × Request) : Type 0 where
+  pub record IsQueued (memory latency : ℕ) (known : List (Entry Content)) (e : ℕ × MemoryRequest) : Type 0 where
     pub due : e.0 ≡ later e.1.at latency
     pub below : e.1.hop < hop_count frame.world.platform
     pub waits : IsWaiting frame tokens memory known e.1
 
   -- a response that is held may be sent
-  pub record IsToSend (known : List (Entry Content)) (r : Response) : Type 0 where
+  pub record IsToSend (known : List (Entry Content)) (r : MemoryResponse) : Type 0 where
     pub below : r.hop < hop_count frame.world.platform
     pub can : CanRespond frame tokens r.hop r.leg r.cargo r.due known
 
@@ -73,7 +73,7 @@ is_owed None = false
 is_owed (Some ticket) = true
 
 -- A request was fetched from the first hop, in order, at which one waits; from the hops before it none was.
-pub record FindsFirst (frame : Frame Plan) (tokens : TableId) (memory : ℕ) (accepts : Bool) (hops : List ℕ) (old new : View Content Plan) (f : Fetched) : Type 0 where
+pub record FindsFirst (frame : Frame Plan) (tokens : TableId) (memory : ℕ) (accepts : Bool) (hops : List ℕ) (old new : View Content Plan) (f : FromHop) : Type 0 where
   pub before : List ℕ
   pub after : List ℕ
   pub hops_are : hops ≡ before ++ f.request.hop ∷ after
@@ -81,7 +81,7 @@ pub record FindsFirst (frame : Frame Plan) (tokens : TableId) (memory : ℕ) (ac
   pub looks : new.looks ≡ old.looks ++ vain_looks frame.world before ++ (hop_place frame.world f.request.hop, 0) ∷ []
   pub is : IsFetchedAs frame tokens memory f.request.hop accepts new.known f
 
-abbrev pub HasLooked : Frame Plan → TableId → ℕ → Bool → List ℕ → View Content Plan → View Content Plan → Option Fetched → Type 0
+abbrev pub HasLooked : Frame Plan → TableId → ℕ → Bool → List ℕ → View Content Plan → View Content Plan → Option FromHop → Type 0
 HasLooked frame tokens memory accepts hops old new None = new.looks ≡ old.looks ++ vain_looks frame.world hops
 HasLooked frame tokens memory accepts hops old new (Some f) = FindsFirst frame tokens memory accepts hops old new f
 
@@ -93,7 +93,7 @@ module _ (frame : Frame Plan) (tokens : TableId) where
     pub hop : ℕ
     pub after : List ℕ
     pub hops_are : old.hops.items ≡ before ++ hop ∷ after
-    pub request : Request
+    pub request : MemoryRequest
     pub here : request.hop ≡ hop
     pub waits : IsWaiting frame tokens old.memory is.known request
     pub queued : new ≡ record old { queue = (let q = old.queue in record q { entries = notified q.entries request (later request.at old.latency) }) }
@@ -110,7 +110,7 @@ module _ (frame : Frame Plan) (tokens : TableId) where
 
   -- the response that was held was sent
   pub record Sends (old new : TargetNode) (was is : View Content Plan) : Type 0 where
-    pub held : Response
+    pub held : MemoryResponse
     pub held_is : old.held ≡ Some held
     pub sent : HasResponded frame tokens held was is None
     pub gone : new ≡ record old { held = None }
@@ -118,7 +118,7 @@ module _ (frame : Frame Plan) (tokens : TableId) where
   -- or none is held, or it was refused and is held as before
   pub record SendsNot (old new : TargetNode) (was is : View Content Plan) : Type 0 where
     pub none : old.held ≡ None → (new ≡ old) × (is ≡ was)
-    pub refused : (held : Response) → old.held ≡ Some held → (same : Response) × HasResponded frame tokens held was is (Some same) × (new ≡ record old { held = Some same })
+    pub refused : (held : MemoryResponse) → old.held ≡ Some held → (same : MemoryResponse) × HasResponded frame tokens held was is (Some same) × (new ≡ record old { held = Some same })
 
   abbrev pub HasSent : TargetNode → TargetNode → View Content Plan → View Content Plan → Bool → Type 0
   HasSent old new was is true = Sends old new was is
@@ -127,10 +127,10 @@ module _ (frame : Frame Plan) (tokens : TableId) where
   -- the first request of the queue was served, and its response is held
   pub record Serves (old new : TargetNode) (was is : View Content Plan) : Type 0 where
     pub at : ℕ
-    pub request : Request
-    pub rest : List (ℕ × Request)
+    pub request : MemoryRequest
+    pub rest : List (ℕ × MemoryRequest)
     pub first : old.queue.entries ≡ (at, request) ∷ rest
-    pub held : Response
+    pub held : MemoryResponse
     pub served : HasServedAt frame tokens old.latency request is.known held
     pub queued : new ≡ record old { queue = (let q = old.queue in record q { entries = rest }); held = Some held }
     pub look : is.looks ≡ was.looks ++ (memory_place frame.world old.memory, 0) ∷ []

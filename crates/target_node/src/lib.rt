@@ -3,7 +3,7 @@
 //! - `TargetNode` is such a memory: its hops in order, its event queue, and the response that it holds. `new` makes
 //!   it by the plan of a net. `pump` is a loop's turn of it, over the moves `send`, `take_in` and `serve_first`, each
 //!   of which makes one entry at most.
-//! - `Request` is what was fetched from a hop and waits to be served, `Response` what was served and waits to be
+//! - `MemoryRequest` is what was fetched from a hop and waits to be served, `MemoryResponse` what was served and waits to be
 //!   sent. `specs/Items` says what is known of each, `specs/Node` what a memory keeps and what a pump does.
 //! - `fetch`, `end`, `serve` and `respond` are the calls of which the moves consist.
 //!
@@ -20,6 +20,6 @@ mod making;
 mod moves;
 mod node;
 
-pub use items::{Fetched, Request, Response};
+pub use items::{FromHop, MemoryRequest, MemoryResponse};
 pub use moves::{end, fetch, respond, serve};
 pub use node::{Pumped, TargetNode};

@@ -10,7 +10,7 @@ ghost use Rattle.plat_net.specs.HopCalls.{CanRespond};
 ghost use Rattle.plat_net.specs.Places.{LeadsTo, hop_place, memory_place};
 ghost use Rattle.target_node.specs.Items.{HasResponded, HasServedAt, IsFetchedAs, IsOwedEnd, IsWaiting, fetch_look, is_accepting, latency_of};
 
-use crate::items::{Fetched, Request, Response};
+use crate::items::{FromHop, MemoryRequest, MemoryResponse};
 use cargo_net::{Answered, FetchedRequest};
 use plat_net::{Net, PlatNote, TlmLaw};
 use route_plan::Plan;
@@ -29,7 +29,7 @@ pub fn fetch<N: Naming<Plan, TlmLaw>, R: Wait>(
     accepts: bool,
     hop: u32,
     note: PlatNote,
-) -> (Option<Fetched>, PlatNote)
+) -> (Option<FromHop>, PlatNote)
     requires memory { memory < length N.frame.world.platform.memories }
     requires hop { hop < hop_count N.frame.world.platform }
     requires leads { LeadsTo N.frame.world.platform hop (Memory memory) }
@@ -55,14 +55,14 @@ pub fn fetch<N: Naming<Plan, TlmLaw>, R: Wait>(
         mut cargo,
     } = fetched;
     if !accepts {
-        let request = Request {
+        let request = MemoryRequest {
             hop,
             leg,
             at,
             cargo,
         };
         return (
-            Some(Fetched {
+            Some(FromHop {
                 request,
                 ticket: None,
             }),
@@ -73,14 +73,14 @@ pub fn fetch<N: Naming<Plan, TlmLaw>, R: Wait>(
         .baton
         .wallet
         .pull(net.tickets(), net.hop(hop).number(), 0);
-    let request = Request {
+    let request = MemoryRequest {
         hop,
         leg,
         at,
         cargo,
     };
     let ticket = Some(ticket);
-    (Some(Fetched { request, ticket }), note)
+    (Some(FromHop { request, ticket }), note)
 }
 
 /// Makes the END_REQ that is owed for a request, with its ticket, at the time of its BEGIN_REQ (IEEE 1666-2011,
@@ -90,9 +90,9 @@ pub fn end<N: Naming<Plan, TlmLaw>, R: Wait>(
     rt: &R,
     memory: u32,
     note: PlatNote,
-    request: Request,
+    request: MemoryRequest,
     ticket: Ticket,
-) -> (Request, PlatNote)
+) -> (MemoryRequest, PlatNote)
     requires memory { memory < length N.frame.world.platform.memories }
     requires hop { request.hop < hop_count N.frame.world.platform }
     requires note { IsNote N.table note }
@@ -107,14 +107,14 @@ pub fn end<N: Naming<Plan, TlmLaw>, R: Wait>(
 {
     let _ = memory;
     let _ = net.plan().platform();
-    let Request {
+    let MemoryRequest {
         hop,
         leg,
         at,
         cargo,
     } = request;
     let (leg, _, note) = net.end_req(rt, hop, note, leg, ticket, at);
-    let request = Request {
+    let request = MemoryRequest {
         hop,
         leg,
         at,
@@ -131,8 +131,8 @@ pub fn serve<N: Naming<Plan, TlmLaw>, R: Wait>(
     memory: u32,
     latency: Ps,
     note: PlatNote,
-    request: Request,
-) -> (Response, PlatNote)
+    request: MemoryRequest,
+) -> (MemoryResponse, PlatNote)
     requires memory { memory < length N.frame.world.platform.memories }
     requires latency { latency ≡ latency_of N.frame.world request.hop }
     requires note { IsNote N.table note }
@@ -143,14 +143,14 @@ pub fn serve<N: Naming<Plan, TlmLaw>, R: Wait>(
     ensures look { result.1.knows.looks ≡ note.knows.looks ++ (memory_place N.frame.world memory, 0) ∷ [] }
     ensures served { HasServedAt N.frame N.tokens latency request result.1.knows.known result.0 }
 {
-    let Request {
+    let MemoryRequest {
         hop,
         leg,
         at,
         cargo,
     } = request;
     let (cargo, note) = net.serve(rt, memory, note, cargo, at);
-    let response = Response {
+    let response = MemoryResponse {
         hop,
         leg,
         due: at.saturating_add(latency),
@@ -165,8 +165,8 @@ pub fn respond<N: Naming<Plan, TlmLaw>, R: Wait>(
     net: &Net<N>,
     rt: &R,
     note: PlatNote,
-    response: Response,
-) -> (Option<Response>, PlatNote)
+    response: MemoryResponse,
+) -> (Option<MemoryResponse>, PlatNote)
     requires hop { response.hop < hop_count N.frame.world.platform }
     requires note { IsNote N.table note }
     requires can { CanRespond N.frame N.tokens response.hop response.leg response.cargo response.due note.knows.known }
@@ -175,7 +175,7 @@ pub fn respond<N: Naming<Plan, TlmLaw>, R: Wait>(
     ensures below { StandBelow result.1.knows.known result.1.knows.seen }
     ensures responded { HasResponded N.frame N.tokens response note.knows result.1.knows result.0 }
 {
-    let Response {
+    let MemoryResponse {
         hop,
         leg,
         due,
@@ -193,7 +193,7 @@ pub fn respond<N: Naming<Plan, TlmLaw>, R: Wait>(
             cargo,
             note,
         } => {
-            let response = Response {
+            let response = MemoryResponse {
                 hop,
                 leg,
                 due,

@@ -8,7 +8,7 @@ ghost use Rattle.route_plan.specs.Valid.{hop_count};
 ghost use Rattle.target_node.specs.Items.{IsFetchedWith, IsWaiting, is_accepting};
 ghost use Rattle.target_node.specs.Node.{HasLooked, HasPumped, HasSent, HasServedFirst, HasTakenIn, IsHopTo, IsTarget, end_looks};
 
-use crate::items::{Fetched, Request, Response};
+use crate::items::{FromHop, MemoryRequest, MemoryResponse};
 use crate::moves::{end, fetch, respond, serve};
 use event_queue::EventQueue;
 use plat_net::{Net, PlatNote, TlmLaw};
@@ -25,8 +25,8 @@ pub struct TargetNode {
     pub(crate) hops: Vec<u32>,
     pub(crate) accepts: bool,
     pub(crate) latency: Ps,
-    pub(crate) queue: EventQueue<Request>,
-    pub(crate) held: Option<Response>,
+    pub(crate) queue: EventQueue<MemoryRequest>,
+    pub(crate) held: Option<MemoryResponse>,
 }
 
 // Written out, so that crates above call it and needn't prove again how each part is let go of.
@@ -60,7 +60,7 @@ fn fetch_first<N: Naming<Plan, TlmLaw>, R: Wait>(
     accepts: bool,
     hops: &[u32],
     note: PlatNote,
-) -> (Option<Fetched>, PlatNote)
+) -> (Option<FromHop>, PlatNote)
     requires memory { memory < length N.frame.world.platform.memories }
     requires hops { AllByRecursion (λ h. IsHopTo N.frame.world memory h) hops.now }
     requires mode { accepts ≡ is_accepting N.frame.world memory }
@@ -89,9 +89,9 @@ fn end_owed<N: Naming<Plan, TlmLaw>, R: Wait>(
     memory: u32,
     accepts: bool,
     note: PlatNote,
-    request: Request,
+    request: MemoryRequest,
     ticket: Option<Ticket>,
-) -> (Request, PlatNote)
+) -> (MemoryRequest, PlatNote)
     requires memory { memory < length N.frame.world.platform.memories }
     requires hop { request.hop < hop_count N.frame.world.platform }
     requires note { IsNote N.table note }
@@ -187,7 +187,7 @@ impl TargetNode {
             self.hops.as_slice(),
             note,
         );
-        let Some(Fetched { request, ticket }) = fetched else {
+        let Some(FromHop { request, ticket }) = fetched else {
             return (false, note);
         };
         let (request, note) = end_owed(net, rt, self.memory, self.accepts, note, request, ticket);
@@ -266,7 +266,7 @@ impl TargetNode {
 
     /// All that it holds, wherever it has come: the requests that wait to be served, by the times in picoseconds at
     /// which their responses are due, and the response that was refused.
-    pub fn into_parts(self) -> (EventQueue<Request>, Option<Response>)
+    pub fn into_parts(self) -> (EventQueue<MemoryRequest>, Option<MemoryResponse>)
         ensures queue { result.0 ≡ self.queue }
         ensures held { result.1 ≡ self.held }
     {

@@ -16,7 +16,7 @@ ghost use Rattle.trace_print.specs.Told.{access_words, shown_of, text_of};
 use crate::line::{Line, flush, put, put_access_line, put_event_line, put_piece};
 use crate::names::{ends_at, initiator_name, memory_name, place_at, put_object, put_txn};
 use crate::words::{kind_text, phase_text, put_data, put_number, put_range, put_sync, put_text};
-use line_text::{AccessLine, Event, EventLine, Piece};
+use line_text::{AccessLine, Event, EventLine, LinePiece};
 use outside::Sink;
 use route_plan::{HopEnds, Plan};
 use run_outcome::LogReader;
@@ -37,7 +37,7 @@ fn put_head<K: Sink>(
         (join_with_byte 32 (decimal head.position ∷ decimal head.time ∷ txn_word platform.now head.txn
         ∷ object_word_by platform.now head.object ends ∷ [])) }
 {
-    let times = Piece::Times {
+    let times = LinePiece::Times {
         position: head.position,
         time: head.time,
     };
@@ -82,12 +82,12 @@ fn put_access<K: Sink>(
         (page (K.taken out.new) (K.faults out.new) line.new)
         (codes " " ++ line_of (access_words facts enables.now (operand_text facts.command sent.now) shown.now)) }
 {
-    put_piece(out, line, Piece::Asked(facts));
+    put_piece(out, line, LinePiece::Asked(facts));
     put_data(out, line, enables);
-    put_piece(out, line, Piece::Width(facts.width));
+    put_piece(out, line, LinePiece::Width(facts.width));
     put_operand(out, line, facts.command, sent);
     put_data(out, line, shown);
-    put_piece(out, line, Piece::Status(facts.status));
+    put_piece(out, line, LinePiece::Status(facts.status));
 }
 
 // The bytes that the line of an access shows.

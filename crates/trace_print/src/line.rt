@@ -7,7 +7,7 @@ ghost use Rattle.line_text.specs.Pieces.{piece_text};
 ghost use Rattle.trace_print.specs.Putting.{Puts, page};
 
 use line_text::{
-    ACCESS_MAX, AccessLine, EVENT_MAX, EventLine, PIECE_MAX, Piece, write_access, write_bytes,
+    ACCESS_MAX, AccessLine, EVENT_MAX, EventLine, LinePiece, PIECE_MAX, write_access, write_bytes,
     write_data, write_event, write_piece,
 };
 use outside::Sink;
@@ -115,7 +115,7 @@ fn make_room<K: Sink>(out: &mut K, line: &mut Line, count: usize)
 /// Puts a piece.
 // The kind of the piece is known where this is inlined.
 #[inline(always)]
-pub fn put_piece<K: Sink>(out: &mut K, line: &mut Line, piece: Piece)
+pub fn put_piece<K: Sink>(out: &mut K, line: &mut Line, piece: LinePiece)
     ensures { Puts (page (K.taken out.old) (K.faults out.old) line.old)
         (page (K.taken out.new) (K.faults out.new) line.new) (piece_text piece) }
 {

@@ -7,7 +7,7 @@ ghost use Rattle.trace_print.specs.Putting.{Puts, page};
 
 use crate::line::{Line, put, put_piece};
 use crate::words::put_text;
-use line_text::{Piece, Place};
+use line_text::{EventPlace, LinePiece};
 use outside::Sink;
 use route_plan::{HopEnds, Plan, Up};
 use tlm_model::{Platform, Target};
@@ -76,7 +76,7 @@ pub fn put_seq<K: Sink>(out: &mut K, line: &mut Line, name: &str, seq: u64)
         (page (K.taken out.new) (K.faults out.new) line.new) (seq_word name.now seq ++ codes " ") }
 {
     put_text(out, line, name);
-    put_piece(out, line, Piece::Seq(seq));
+    put_piece(out, line, LinePiece::Seq(seq));
 }
 
 /// Puts the name of a transaction of a platform, and a space.
@@ -125,10 +125,10 @@ pub fn put_object<K: Sink>(
 
 // The name of a hop, by those of its ends.
 #[inline(always)]
-fn hop_place(platform: &Platform, ends: HopEnds) -> Place<'_>
+fn hop_place(platform: &Platform, ends: HopEnds) -> EventPlace<'_>
     ensures { place_text result ≡ hop_word_of platform.now ends }
 {
-    Place::Hop {
+    EventPlace::Hop {
         up: up_name(platform, ends.up).as_bytes(),
         down: target_name(platform, ends.down).as_bytes(),
     }
@@ -136,7 +136,7 @@ fn hop_place(platform: &Platform, ends: HopEnds) -> Place<'_>
 
 /// The name of a hop or a pool. `None` for a memory, and for a hop that isn't there.
 #[inline(always)]
-pub fn place_at(plan: &Plan, object: ObjectNo) -> Option<Place<'_>>
+pub fn place_at(plan: &Plan, object: ObjectNo) -> Option<EventPlace<'_>>
     ensures { IfSome result (λ place. place_text place ≡ object_word plan.now.platform object) }
 {
     match object {
@@ -145,7 +145,7 @@ pub fn place_at(plan: &Plan, object: ObjectNo) -> Option<Place<'_>>
             let ends = plan.hop_ends(number)?;
             Some(hop_place(plan.platform(), ends))
         }
-        ObjectNo::Pool(number) => Some(Place::Pool {
+        ObjectNo::Pool(number) => Some(EventPlace::Pool {
             initiator: initiator_name(plan.platform(), number).as_bytes(),
         }),
     }

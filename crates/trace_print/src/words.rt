@@ -7,7 +7,7 @@ ghost use Rattle.tlm_model.specs.Text.{address_word, data_word, hex_of, offset_w
 ghost use Rattle.trace_print.specs.Putting.{Puts, page};
 
 use crate::line::{CHUNK, Line, put, put_chunk, put_piece};
-use line_text::Piece;
+use line_text::LinePiece;
 use outside::Sink;
 use tlm_model::Style;
 use tlm_types::{Command, Kind, Phase, TlmSync};
@@ -69,7 +69,7 @@ pub fn put_number<K: Sink>(out: &mut K, line: &mut Line, number: u64)
     ensures { Puts (page (K.taken out.old) (K.faults out.old) line.old)
         (page (K.taken out.new) (K.faults out.new) line.new) (decimal number) }
 {
-    put_piece(out, line, Piece::Number(number));
+    put_piece(out, line, LinePiece::Number(number));
 }
 
 /// Puts each byte as two digits.
@@ -103,7 +103,7 @@ pub fn put_address<K: Sink>(out: &mut K, line: &mut Line, address: u64)
     ensures { Puts (page (K.taken out.old) (K.faults out.old) line.old)
         (page (K.taken out.new) (K.faults out.new) line.new) (address_word address) }
 {
-    put_piece(out, line, Piece::Address(address));
+    put_piece(out, line, LinePiece::Address(address));
 }
 
 /// Puts the offset of a row of bytes, which is below 2^32, as 8 digits.

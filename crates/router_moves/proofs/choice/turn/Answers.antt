@@ -2,11 +2,11 @@ use Rattle.std.proofs.Common.{◌≡◌, ◌<◌, ℕ, length, Some, None, refl,
 use Rattle.tlm_model.specs.Plan.{Plan}
 use Rattle.tlm_model.specs.Route.{window_hop}
 use Rattle.router_moves.specs.Items.{way_of}
-use Rattle.router_moves.specs.declared.items.Way.{Way}
+use Rattle.router_moves.specs.declared.items.WayBehind.{WayBehind}
 use Rattle.router_moves.proofs.choice.turn.Goals as goal
 
 -- what is behind the window that has an address, by the net's plan
-way_there : (net world : Plan) (router a b : ℕ) (o : Option Way) → net ≡ world → b ≡ a → o ≡ way_of net router b → way_of world router a ≡ o
+way_there : (net world : Plan) (router a b : ℕ) (o : Option WayBehind) → net ≡ world → b ≡ a → o ≡ way_of net router b → way_of world router a ≡ o
 way_there net world router a b o same at made = subst (λ (w : Plan). way_of w router a ≡ o) same (ap (λ (n : ℕ). way_of net router n) (sym at) ∙ sym made)
 
 pub way_behind-requires-clause-router : goal.way_behind-requires-clause-router

@@ -2,7 +2,7 @@ use Rattle.std.proofs.Common.{◌≡◌, ◌++◌, ℕ, [], ◌∷◌, get_or, O
 use Rattle.plat_net.specs.Places.{hop_place}
 use Rattle.router_node.specs.Finds.{IsHopBelow}
 use Rattle.router_moves.specs.Moves.{HasFetchedUp, up_look}
-use Rattle.router_moves.specs.declared.up.Fetched.{Fetched}
+use Rattle.router_moves.specs.declared.up.FromBelow.{FromBelow}
 use Rattle.router_node.proofs.Looks.{each_at, is_first, looks_more, of_some, within_on, none_found, none_yet}
 use Rattle.router_node.proofs.finds.find_back.Goals as goal
 
@@ -13,10 +13,10 @@ returns-in-Some-clause-found g c =
     let i = c.loop-hop.hop-index in
     let new = c.fetch_up-fetched.result.1.knows in
     let old = c.loop-hop.note.knows in (
-      is_first frame.world 2 xs i c.args.note.knows.looks old.looks new.looks c.loop-hop-test.true c.loop-hop.invariant.looks (subst (λ (o : Option Fetched). new.looks ≡ old.looks ++ (hop_place frame.world (get_or xs i 0), up_look o) ∷ []) c.in-Some.is c.fetch_up-fetched.ensures.look),
+      is_first frame.world 2 xs i c.args.note.knows.looks old.looks new.looks c.loop-hop-test.true c.loop-hop.invariant.looks (subst (λ (o : Option FromBelow). new.looks ≡ old.looks ++ (hop_place frame.world (get_or xs i 0), up_look o) ∷ []) c.in-Some.is c.fetch_up-fetched.ensures.look),
       record {
         below = each_at (λ (h : ℕ). IsHopBelow frame.world h) xs i 0 c.loop-hop-test.true c.requires.hops;
-        fetched = of_some (λ (f : Fetched). HasFetchedUp frame g.N.Naming.tokens new.known (get_or xs i 0) f) c.fetch_up-fetched.result.0 c.in-Some.fetched c.in-Some.is c.fetch_up-fetched.ensures.fetched;
+        fetched = of_some (λ (f : FromBelow). HasFetchedUp frame g.N.Naming.tokens new.known (get_or xs i 0) f) c.fetch_up-fetched.result.0 c.in-Some.fetched c.in-Some.is c.fetch_up-fetched.ensures.fetched;
       },
     )
 
@@ -32,7 +32,7 @@ loop-hop-preserved g c =
       note = e.note;
       knew = within_on c.args.note.knows.known old.known new.known c.loop-hop.invariant.knew e.knew;
       below = e.below;
-      looks = looks_more frame.world 2 xs i c.args.note.knows.looks old.looks new.looks c.loop-hop-test.true c.loop-hop.invariant.looks (subst (λ (o : Option Fetched). new.looks ≡ old.looks ++ (hop_place frame.world (get_or xs i 0), up_look o) ∷ []) c.in_default.is e.look);
+      looks = looks_more frame.world 2 xs i c.args.note.knows.looks old.looks new.looks c.loop-hop-test.true c.loop-hop.invariant.looks (subst (λ (o : Option FromBelow). new.looks ≡ old.looks ++ (hop_place frame.world (get_or xs i 0), up_look o) ∷ []) c.in_default.is e.look);
     }
 
 pub loop-hop-init : goal.loop-hop-init

@@ -4,7 +4,7 @@ use Rattle.route_plan.specs.Valid.{hop_count}
 use Rattle.router_node.specs.Finds.{IsFirst, IsHopAbove}
 use Rattle.router_moves.specs.Items.{IsRequest}
 use Rattle.router_moves.specs.Moves.{fetch_look}
-use Rattle.router_moves.specs.declared.items.Request.{Request}
+use Rattle.router_moves.specs.declared.items.RouterRequest.{RouterRequest}
 use Rattle.router_node.proofs.Looks.{each_at, is_first, looks_more, of_some, within_on, none_found, none_yet}
 use Rattle.router_node.proofs.finds.find_request.Goals as goal
 
@@ -15,10 +15,10 @@ returns-in-Some-clause-found g c =
     let i = c.loop-hop.hop-index in
     let new = c.fetch_down-request.result.1.knows in
     let hop = each_at (λ (h : ℕ). IsHopAbove frame.world c.args.router h) xs i 0 c.loop-hop-test.true c.requires.hops in
-    let f = of_some (λ (r : Request). (r.hop ≡ get_or xs i 0) × IsRequest frame g.N.Naming.tokens new.known c.args.router r) c.fetch_down-request.result.0 c.in-Some.request c.in-Some.is c.fetch_down-request.ensures.fetched in
+    let f = of_some (λ (r : RouterRequest). (r.hop ≡ get_or xs i 0) × IsRequest frame g.N.Naming.tokens new.known c.args.router r) c.fetch_down-request.result.0 c.in-Some.request c.in-Some.is c.fetch_down-request.ensures.fetched in
     let old = c.loop-hop.note.knows in (
       subst (λ (n : ℕ). IsFirst frame.world 1 xs n c.args.note.knows.looks new.looks) (sym f.0)
-          (is_first frame.world 1 xs i c.args.note.knows.looks old.looks new.looks c.loop-hop-test.true c.loop-hop.invariant.looks (subst (λ (o : Option Request). new.looks ≡ old.looks ++ (hop_place frame.world (get_or xs i 0), fetch_look o) ∷ []) c.in-Some.is c.fetch_down-request.ensures.look)),
+          (is_first frame.world 1 xs i c.args.note.knows.looks old.looks new.looks c.loop-hop-test.true c.loop-hop.invariant.looks (subst (λ (o : Option RouterRequest). new.looks ≡ old.looks ++ (hop_place frame.world (get_or xs i 0), fetch_look o) ∷ []) c.in-Some.is c.fetch_down-request.ensures.look)),
       subst (λ (n : ℕ). n < hop_count frame.world.platform) (sym f.0) hop.there,
       f.1,
     )
@@ -35,7 +35,7 @@ loop-hop-preserved g c =
       note = e.note;
       knew = within_on c.args.note.knows.known old.known new.known c.loop-hop.invariant.knew e.knew;
       below = e.below;
-      looks = looks_more frame.world 1 xs i c.args.note.knows.looks old.looks new.looks c.loop-hop-test.true c.loop-hop.invariant.looks (subst (λ (o : Option Request). new.looks ≡ old.looks ++ (hop_place frame.world (get_or xs i 0), fetch_look o) ∷ []) c.in_default.is e.look);
+      looks = looks_more frame.world 1 xs i c.args.note.knows.looks old.looks new.looks c.loop-hop-test.true c.loop-hop.invariant.looks (subst (λ (o : Option RouterRequest). new.looks ≡ old.looks ++ (hop_place frame.world (get_or xs i 0), fetch_look o) ∷ []) c.in_default.is e.look);
     }
 
 pub loop-hop-init : goal.loop-hop-init

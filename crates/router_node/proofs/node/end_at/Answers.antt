@@ -5,7 +5,7 @@ use Rattle.flow_model.specs.Numbers.{IsEnder}
 use Rattle.cargo_model.specs.Known.{Known}
 use Rattle.router_node.specs.Places.{StandsAt}
 use Rattle.router_node.specs.Stages.{HasLookedForEnd, IsStage}
-use Rattle.router_node.specs.declared.stage.Away.{Away}
+use Rattle.router_node.specs.declared.stage.SentUp.{SentUp}
 use Rattle.router_node.specs.declared.stage.Stage.{Stage}
 use Rattle.router_node.specs.declared.stage.Stage.TheVariants.{Sent}
 use Rattle.router_node.proofs.Holds.{all_more}
@@ -16,7 +16,7 @@ use Rattle.router_node.proofs.Looks.{within_on}
 use Rattle.router_node.proofs.node.end_at.Goals as goal
 
 -- who stands at a place, by name
-named : (items : List Stage) (at : ℕ) (s : Stage) (a : Away) → StandsAt items at s → s ≡ Sent a → StandsAt items at (Sent a)
+named : (items : List Stage) (at : ℕ) (s : Stage) (a : SentUp) → StandsAt items at s → s ≡ Sent a → StandsAt items at (Sent a)
 named items at s a there is = subst (λ (x : Stage). StandsAt items at x) is there
 
 pub look_for_end-ended-requires-clause-away : goal.look_for_end-ended-requires-clause-away
@@ -67,7 +67,7 @@ finish_away-note-requires-clause-ended g c =
     let there = named items at c.index.result.now c.in-Sent.away (stands items at c.index.result.now c.requires.there c.index.ensures) c.in-Sent.is in
     let same = same_sent items at c.in-Sent.away c.take_sent-away.result there c.take_sent-away.ensures.was in
     let end = subst (λ (b : Bool). HasLookedForEnd frame c.in-Sent.away was is b) c.if-not-ended.false c.look_for_end-ended.ensures.ended in
-    subst (λ (a : Away). Finds (Known frame.world.platform is.known) (IsEnder a.txn a.above)) same end
+    subst (λ (a : SentUp). Finds (Known frame.world.platform is.known) (IsEnder a.txn a.above)) same end
 
 pub returns-clause-held : goal.returns-clause-held
 returns-clause-held g c =

@@ -10,11 +10,11 @@ use Rattle.cargo_model.specs.Known.{Known}
 use Rattle.plat_net.specs.Places.{hop_place}
 use Rattle.router_moves.specs.Moves.{ended_look}
 use Rattle.router_node.specs.Stages.{HasLookedForEnd}
-use Rattle.router_node.specs.declared.stage.Away.{Away}
+use Rattle.router_node.specs.declared.stage.SentUp.{SentUp}
 use Rattle.router_node.proofs.stage.look_for_end.Goals as goal
 
 -- by what its look answers
-looked_for : (frame : Frame Plan) (a : Away) (old new : View Content Plan) (b : Bool) → new.looks ≡ old.looks ++ (hop_place frame.world a.above, ended_look b) ∷ [] → (IsTrue b → Finds (Known frame.world.platform new.known) (IsEnder a.txn a.above)) → HasLookedForEnd frame a old new b
+looked_for : (frame : Frame Plan) (a : SentUp) (old new : View Content Plan) (b : Bool) → new.looks ≡ old.looks ++ (hop_place frame.world a.above, ended_look b) ∷ [] → (IsTrue b → Finds (Known frame.world.platform new.known) (IsEnder a.txn a.above)) → HasLookedForEnd frame a old new b
 looked_for frame a old new true look ended = ended refl
 looked_for frame a old new false look ended = look
 

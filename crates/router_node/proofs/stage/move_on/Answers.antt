@@ -10,19 +10,19 @@ use Rattle.one_history.specs.declared.view.View.{View}
 use Rattle.tlm_types.specs.declared.entry.Content.{Content}
 use Rattle.tlm_model.specs.Plan.{Plan}
 use Rattle.router_moves.specs.declared.items.Down.{Down as ToPass}
-use Rattle.router_moves.specs.declared.items.Held.{Held}
-use Rattle.router_moves.specs.declared.items.Response.{Response}
+use Rattle.router_moves.specs.declared.items.PassedOn.{PassedOn}
+use Rattle.router_moves.specs.declared.items.RouterResponse.{RouterResponse}
 use Rattle.router_moves.specs.declared.items.Rest.{Rest}
-use Rattle.router_node.specs.declared.stage.Away.{Away}
+use Rattle.router_node.specs.declared.stage.SentUp.{SentUp}
 use Rattle.router_node.proofs.stage.move_on.Goals as goal
 
 -- a step looks at none that it isn't one for
-vain_sent : (p : Plan) (w : Step) (a : Away) → (w ≡ End → ⊥) → vain p w (standing (Sent a)) ≡ []
+vain_sent : (p : Plan) (w : Step) (a : SentUp) → (w ≡ End → ⊥) → vain p w (standing (Sent a)) ≡ []
 vain_sent p End a other = absurd (other refl)
 vain_sent p Send a other = refl
 vain_sent p Pass a other = refl
 
-vain_up : (p : Plan) (w : Step) (r : Response) (rest : Option Rest) → (w ≡ Send → ⊥) → vain p w (standing (Up r rest)) ≡ []
+vain_up : (p : Plan) (w : Step) (r : RouterResponse) (rest : Option Rest) → (w ≡ Send → ⊥) → vain p w (standing (Up r rest)) ≡ []
 vain_up p End r rest other = refl
 vain_up p Send r rest other = absurd (other refl)
 vain_up p Pass r rest other = refl
@@ -32,7 +32,7 @@ vain_down p End d other = refl
 vain_down p Send d other = refl
 vain_down p Pass d other = absurd (other refl)
 
-vain_below : (p : Plan) (w : Step) (h : Held) → vain p w (standing (Below h)) ≡ []
+vain_below : (p : Plan) (w : Step) (h : PassedOn) → vain p w (standing (Below h)) ≡ []
 vain_below p End h = refl
 vain_below p Send h = refl
 vain_below p Pass h = refl

@@ -1,5 +1,5 @@
 use Rattle.std.proofs.Common.{ap, ◌∙◌}
-use Rattle.router_moves.specs.declared.items.Held.{Held}
+use Rattle.router_moves.specs.declared.items.PassedOn.{PassedOn}
 use Rattle.router_node.proofs.ByReturn.{came_back, gone_of, went_down}
 use Rattle.router_node.proofs.Looks.{within_on}
 use Rattle.router_node.proofs.stage.pass.Goals as goal
@@ -14,9 +14,9 @@ pub returns-in-Gone-clause-stepped : goal.returns-in-Gone-clause-stepped
 returns-in-Gone-clause-stepped g c =
     let s = c.settle-held.ensures.settled in
     let passed = c.in-Gone.ensures.passed in (
-      s.txn ∙ ap (λ (h : Held). h.txn) passed.0,
-      s.above ∙ ap (λ (h : Held). h.above) passed.0,
-      s.below ∙ ap (λ (h : Held). h.below) passed.0,
+      s.txn ∙ ap (λ (h : PassedOn). h.txn) passed.0,
+      s.above ∙ ap (λ (h : PassedOn). h.above) passed.0,
+      s.below ∙ ap (λ (h : PassedOn). h.below) passed.0,
       (c.in-Gone.at, went_down g.N.Naming.frame g.N.Naming.tokens c.in-Gone.note.knows.known c.settle-held.result.1.knows.known c.settle-held.ensures.knew c.args.down c.in-Gone.held c.in-Gone.at passed.0 passed.1 passed.2),
     )
 
@@ -33,7 +33,7 @@ returns-in-Now-clause-stepped g c =
     let s = c.settle-held-in-Now.ensures.settled in
     let passed = c.in-Now.ensures.passed in
     let w = within_on known c.settle-held-in-Now.result.1.knows.known more c.settle-held-in-Now.ensures.knew c.serve-stage.ensures.knew in
-    came_back frame more c.args.down c.settle-held-in-Now.result.0 c.in-Now.begun c.serve-stage.result.0 (s.txn ∙ ap (λ (h : Held). h.txn) passed.0) (s.above ∙ ap (λ (h : Held). h.above) passed.0) (s.below ∙ ap (λ (h : Held). h.below) passed.0)
+    came_back frame more c.args.down c.settle-held-in-Now.result.0 c.in-Now.begun c.serve-stage.result.0 (s.txn ∙ ap (λ (h : PassedOn). h.txn) passed.0) (s.above ∙ ap (λ (h : PassedOn). h.above) passed.0) (s.below ∙ ap (λ (h : PassedOn). h.below) passed.0)
     (went_down frame g.N.Naming.tokens known more w c.args.down c.in-Now.held c.in-Now.begun.at passed.0 passed.1 (gone_of frame g.N.Naming.tokens known c.in-Now.held c.in-Now.begun passed.2)) c.serve-stage.ensures.served
 
 pub pass_on-requires-clause-note : goal.pass_on-requires-clause-note

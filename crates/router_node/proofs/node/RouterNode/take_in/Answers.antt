@@ -3,7 +3,7 @@ use Rattle.std.specs.VecDeque.{deque_capacity}
 use Rattle.router_node.specs.Finds.{AreLookedAt, HasFoundRequest, IsHopAbove}
 use Rattle.router_node.specs.Node.{stage_of}
 use Rattle.router_node.specs.Stages.{IsStage}
-use Rattle.router_moves.specs.declared.items.Request.{Request}
+use Rattle.router_moves.specs.declared.items.RouterRequest.{RouterRequest}
 use Rattle.router_node.specs.declared.stage.Stage.{Stage}
 use Rattle.router_node.proofs.Hasty.{each_looked, full_in, not_in}
 use Rattle.router_node.proofs.Holds.{all_more, all_next, keeps, last_is, latency_to, router_more, stray_more, turned_stage}
@@ -31,19 +31,19 @@ returns-in_default-clause-taken g c =
     let r = c.args.self.now in
     let hops = c.hops_at-hops.result.now in
     let a = subst (λ (l : List ℕ). AreLookedAt c.args.hasty l hops) c.as_slice.ensures.value c.hops_at-hops.ensures in
-    let f = subst (λ (o : Option Request). HasFoundRequest frame tokens r.router hops c.args.note.knows c.find_request-request.result.1.knows o) c.in_default.is c.find_request-request.ensures.found in
+    let f = subst (λ (o : Option RouterRequest). HasFoundRequest frame tokens r.router hops c.args.note.knows c.find_request-request.result.1.knows o) c.in_default.is c.find_request-request.ensures.found in
     not_in frame tokens c.args.hasty r hops c.args.note c.find_request-request.result.1 (omega (arith, c.len.ensures, c.if-len-self.false, r.held.ok.0)) a f
 
 -- what was found, at which hop
 found : (g : _) (c : goal.After-push_back_reserved g) → HasFoundRequest g.N.Naming.frame g.N.Naming.tokens c.args.self.now.router c.hops_at-hops.result.now c.args.note.knows c.find_request-request.result.1.knows (Some c.in-Some.request)
 found g c =
-    subst (λ (o : Option Request). HasFoundRequest g.N.Naming.frame g.N.Naming.tokens c.args.self.now.router c.hops_at-hops.result.now c.args.note.knows c.find_request-request.result.1.knows o) c.in-Some.is c.find_request-request.ensures.found
+    subst (λ (o : Option RouterRequest). HasFoundRequest g.N.Naming.frame g.N.Naming.tokens c.args.self.now.router c.hops_at-hops.result.now c.args.note.knows c.find_request-request.result.1.knows o) c.in-Some.is c.find_request-request.ensures.found
 
 pub turn-turned-requires-clause-latency : goal.turn-turned-requires-clause-latency
 turn-turned-requires-clause-latency g c =
     let frame = g.N.Naming.frame in
     let r = c.args.self.now in
-    let f = subst (λ (o : Option Request). HasFoundRequest frame g.N.Naming.tokens r.router c.hops_at-hops.result.now c.args.note.knows c.find_request-request.result.1.knows o) c.in-Some.is c.find_request-request.ensures.found in
+    let f = subst (λ (o : Option RouterRequest). HasFoundRequest frame g.N.Naming.tokens r.router c.hops_at-hops.result.now c.args.note.knows c.find_request-request.result.1.knows o) c.in-Some.is c.find_request-request.ensures.found in
     c.requires.router.latency ∙ latency_to frame.world c.in-Some.request.hop r.router f.2.leads
 
 pub returns-clause-router : goal.returns-clause-router
@@ -131,5 +131,5 @@ returns-clause-knew g c = within_on c.args.note.knows.known c.find_request-reque
 
 pub turn-turned-requires-clause-request : goal.turn-turned-requires-clause-request
 turn-turned-requires-clause-request g c =
-    let f = subst (λ (o : Option Request). HasFoundRequest g.N.Naming.frame g.N.Naming.tokens c.args.self.now.router c.hops_at-hops.result.now c.args.note.knows c.find_request-request.result.1.knows o) c.in-Some.is c.find_request-request.ensures.found in
+    let f = subst (λ (o : Option RouterRequest). HasFoundRequest g.N.Naming.frame g.N.Naming.tokens c.args.self.now.router c.hops_at-hops.result.now c.args.note.knows c.find_request-request.result.1.knows o) c.in-Some.is c.find_request-request.ensures.found in
     f.2

@@ -1,8 +1,8 @@
 use Rattle.std.proofs.Common.{◌≡◌, ℕ, ◌<◌, ◌≤◌, List, [], ◌∷◌, ◌++◌, set, refl, ap, subst, sym, ◌∙◌, arith, length-set}
 use Rattle.run_queue.specs.declared.jobs.JobState.{JobState}
 use Rattle.run_queue.specs.declared.jobs.JobState.TheVariants.{Waiting, Out}
-use Rattle.run_queue.specs.declared.jobs.Taken.{Taken}
-use Rattle.run_queue.specs.declared.jobs.Taken.TheVariants.{Took, Nothing, AllDone}
+use Rattle.run_queue.specs.declared.jobs.TakenJob.{TakenJob}
+use Rattle.run_queue.specs.declared.jobs.TakenJob.TheVariants.{Took, Nothing, AllDone}
 use Rattle.run_queue.specs.Queue.{IsLine, Queue, job_place, waits, job_of, finished_count}
 use Rattle.run_queue.specs.Sound.{IsSound}
 use Rattle.run_queue.proofs.Places.{first_waits, waits_within, waits_is, place_of_read, sound_taken, finished_taken}
@@ -25,16 +25,16 @@ module _ {J : Type 0} where
       filled : order ≡ [] → ⊥
       filled none = cc
 
-  nothing_done : (done unfinished : ℕ) → done < unfinished → (◌≡◌ {A = Taken J} Nothing AllDone → unfinished ≤ done) × (unfinished ≤ done → ◌≡◌ {A = Taken J} Nothing AllDone)
+  nothing_done : (done unfinished : ℕ) → done < unfinished → (◌≡◌ {A = TakenJob J} Nothing AllDone → unfinished ≤ done) × (unfinished ≤ done → ◌≡◌ {A = TakenJob J} Nothing AllDone)
   nothing_done done unfinished few = (λ e. absurd (apart e), λ enough. absurd (omega (arith, few, enough)))
     where
-      apart : ◌≡◌ {A = Taken J} Nothing AllDone → ⊥
+      apart : ◌≡◌ {A = TakenJob J} Nothing AllDone → ⊥
       apart e = cc
 
-  done_nothing : (order : List ℕ) (done unfinished : ℕ) → unfinished ≤ done → (◌≡◌ {A = Taken J} AllDone Nothing → (order ≡ []) × (done < unfinished)) × ((order ≡ []) × (done < unfinished) → ◌≡◌ {A = Taken J} AllDone Nothing)
+  done_nothing : (order : List ℕ) (done unfinished : ℕ) → unfinished ≤ done → (◌≡◌ {A = TakenJob J} AllDone Nothing → (order ≡ []) × (done < unfinished)) × ((order ≡ []) × (done < unfinished) → ◌≡◌ {A = TakenJob J} AllDone Nothing)
   done_nothing order done unfinished enough = (λ e. absurd (apart e), λ none. absurd (omega (arith, enough, none.1)))
     where
-      apart : ◌≡◌ {A = Taken J} AllDone Nothing → ⊥
+      apart : ◌≡◌ {A = TakenJob J} AllDone Nothing → ⊥
       apart e = cc
 
 pub index_mut-requires : goal.index_mut-requires

@@ -1,6 +1,6 @@
 use Rattle.std.proofs.Common.{Option, refl, sym, subst, ◌∙◌}
 use Rattle.target_node.specs.Items.{HasResponded}
-use Rattle.target_node.specs.declared.items.Response.{Response}
+use Rattle.target_node.specs.declared.items.MemoryResponse.{MemoryResponse}
 use Rattle.target_node.proofs.Steps.{gone_keeps, refused_keeps, sends_gone, sends_not}
 use Rattle.target_node.proofs.node.TargetNode.send.Goals as goal
 
@@ -13,21 +13,21 @@ returns-in_default-back-clause-sent g c =
     let frame = g.N.Naming.frame in
     let is = c.respond-back.result.1.knows in
     sends_gone frame g.N.Naming.tokens c.args.self.now c.take.new.self c.in-Some.response c.args.note.knows is (sym c.take.ensures.value ∙ c.in-Some.is) c.take.ensures.after
-    (subst (λ (o : Option Response). HasResponded frame g.N.Naming.tokens c.in-Some.response c.args.note.knows is o) c.in_default-back.is c.respond-back.ensures.responded)
+    (subst (λ (o : Option MemoryResponse). HasResponded frame g.N.Naming.tokens c.in-Some.response c.args.note.knows is o) c.in_default-back.is c.respond-back.ensures.responded)
 
 pub returns-clause-target : goal.returns-clause-target
 returns-clause-target g c =
     let frame = g.N.Naming.frame in
     let is = c.respond-back.result.1.knows in
     refused_keeps frame g.N.Naming.tokens c.args.self.now c.args.note.knows.known is.known c.respond-back.ensures.knew c.requires.target c.in-Some.response c.in-Some-back.back c.args.note.knows is refl (sym c.take.ensures.value ∙ c.in-Some.is)
-    (subst (λ (o : Option Response). HasResponded frame g.N.Naming.tokens c.in-Some.response c.args.note.knows is o) c.in-Some-back.is c.respond-back.ensures.responded)
+    (subst (λ (o : Option MemoryResponse). HasResponded frame g.N.Naming.tokens c.in-Some.response c.args.note.knows is o) c.in-Some-back.is c.respond-back.ensures.responded)
 
 pub returns-clause-sent : goal.returns-clause-sent
 returns-clause-sent g c =
     let frame = g.N.Naming.frame in
     let is = c.respond-back.result.1.knows in
     sends_not frame g.N.Naming.tokens c.args.self.now c.in-Some.response c.in-Some-back.back c.args.note.knows is (sym c.take.ensures.value ∙ c.in-Some.is)
-    (subst (λ (o : Option Response). HasResponded frame g.N.Naming.tokens c.in-Some.response c.args.note.knows is o) c.in-Some-back.is c.respond-back.ensures.responded)
+    (subst (λ (o : Option MemoryResponse). HasResponded frame g.N.Naming.tokens c.in-Some.response c.args.note.knows is o) c.in-Some-back.is c.respond-back.ensures.responded)
 
 pub returns-in_default-clause-note : goal.returns-in_default-clause-note
 returns-in_default-clause-note g c = c.requires.note

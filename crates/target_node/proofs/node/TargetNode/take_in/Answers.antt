@@ -1,7 +1,7 @@
 use Rattle.std.proofs.Common.{◌≡◌, ℕ, List, Option, ◌<◌, sym, subst, ◌++◌, refl, ◌∙◌, arith, inl, inr}
 use Rattle.route_plan.specs.Valid.{hop_count}
 use Rattle.target_node.specs.Node.{FindsFirst, HasLooked, IsHopTo, vain_looks}
-use Rattle.target_node.specs.declared.items.Fetched.{Fetched}
+use Rattle.target_node.specs.declared.items.FromHop.{FromHop}
 use Rattle.target_node.proofs.Keeps.{target_more}
 use Rattle.target_node.proofs.Looks.{within_on}
 use Rattle.target_node.proofs.Steps.{taken_keeps, takes_in}
@@ -18,7 +18,7 @@ found g c =
     let frame = g.N.Naming.frame in
     let t = c.args.self.now in
     subst (λ (xs : List ℕ). FindsFirst frame g.N.Naming.tokens t.memory t.accepts xs c.args.note.knows c.fetch_first-fetched.result.1.knows c.in-Some.field-0) c.as_slice.ensures.value
-    (subst (λ (o : Option Fetched). HasLooked frame g.N.Naming.tokens t.memory t.accepts c.as_slice.result.now c.args.note.knows c.fetch_first-fetched.result.1.knows o) c.in-Some.is c.fetch_first-fetched.ensures.looked)
+    (subst (λ (o : Option FromHop). HasLooked frame g.N.Naming.tokens t.memory t.accepts c.as_slice.result.now c.args.note.knows c.fetch_first-fetched.result.1.knows o) c.in-Some.is c.fetch_first-fetched.ensures.looked)
 
 pub returns-clause-target : goal.returns-clause-target
 returns-clause-target g c =
@@ -78,7 +78,7 @@ returns-in_default-clause-below g c = c.fetch_first-fetched.ensures.below
 
 pub returns-in_default-clause-taken : goal.returns-in_default-clause-taken
 returns-in_default-clause-taken g c =
-    let f = subst (λ (o : Option Fetched). HasLooked g.N.Naming.frame g.N.Naming.tokens c.args.self.now.memory c.args.self.now.accepts c.as_slice.result.now c.args.note.knows c.fetch_first-fetched.result.1.knows o) c.in_default.is c.fetch_first-fetched.ensures.looked in
+    let f = subst (λ (o : Option FromHop). HasLooked g.N.Naming.frame g.N.Naming.tokens c.args.self.now.memory c.args.self.now.accepts c.as_slice.result.now c.args.note.knows c.fetch_first-fetched.result.1.knows o) c.in_default.is c.fetch_first-fetched.ensures.looked in
     record { same = refl; why = inr (subst (λ (l : List ℕ). c.fetch_first-fetched.result.1.knows.looks ≡ c.args.note.knows.looks ++ vain_looks g.N.Naming.frame.world l) c.as_slice.ensures.value f) }
 
 pub end_owed-request-requires-clause-memory : goal.end_owed-request-requires-clause-memory
@@ -86,7 +86,7 @@ end_owed-request-requires-clause-memory g c = c.requires.target.memory
 
 pub end_owed-request-requires-clause-hop : goal.end_owed-request-requires-clause-hop
 end_owed-request-requires-clause-hop g c =
-    let f = subst (λ (o : Option Fetched). HasLooked g.N.Naming.frame g.N.Naming.tokens c.args.self.now.memory c.args.self.now.accepts c.as_slice.result.now c.args.note.knows c.fetch_first-fetched.result.1.knows o) c.in-Some.is c.fetch_first-fetched.ensures.looked in
+    let f = subst (λ (o : Option FromHop). HasLooked g.N.Naming.frame g.N.Naming.tokens c.args.self.now.memory c.args.self.now.accepts c.as_slice.result.now c.args.note.knows c.fetch_first-fetched.result.1.knows o) c.in-Some.is c.fetch_first-fetched.ensures.looked in
     f.below
 
 pub end_owed-request-requires-clause-note : goal.end_owed-request-requires-clause-note
@@ -97,7 +97,7 @@ end_owed-request-requires-clause-below g c = c.fetch_first-fetched.ensures.below
 
 pub end_owed-request-requires-clause-fetched : goal.end_owed-request-requires-clause-fetched
 end_owed-request-requires-clause-fetched g c =
-    let f = subst (λ (o : Option Fetched). HasLooked g.N.Naming.frame g.N.Naming.tokens c.args.self.now.memory c.args.self.now.accepts c.as_slice.result.now c.args.note.knows c.fetch_first-fetched.result.1.knows o) c.in-Some.is c.fetch_first-fetched.ensures.looked in
+    let f = subst (λ (o : Option FromHop). HasLooked g.N.Naming.frame g.N.Naming.tokens c.args.self.now.memory c.args.self.now.accepts c.as_slice.result.now c.args.note.knows c.fetch_first-fetched.result.1.knows o) c.in-Some.is c.fetch_first-fetched.ensures.looked in
     f.is
 
 pub returns-clause-note : goal.returns-clause-note
