@@ -1,5 +1,5 @@
 // Runs by a schedule.
-use crate::bench::{Row, expect_end, expect_entries, plan_of};
+use crate::core_bench::{Row, expect_end, expect_entries, plan_of};
 use plat_core::run_schedule;
 use run_outcome::Outcome;
 use std::alloc::Global;

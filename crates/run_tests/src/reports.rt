@@ -1,5 +1,5 @@
 // The report of a run: its lines as the sink gets them.
-use crate::bench::plan_of;
+use crate::core_bench::plan_of;
 use outside::{FailingWrite, NoPace, VecSink};
 use plat_core::run_in_order;
 use std::alloc::Global;
