@@ -1,5 +1,5 @@
 // The lines of the entries of a history.
-ghost use Rattle.std.specs.Prelude.{◌≡◌, ◌<◌, ◌∷◌, [], ◌++◌, Some, IfSome, length, slice_get, map, codes, false, if◌then◌else◌};
+ghost use Rattle.std.specs.Prelude.{◌≡◌, ◌≢◌, ◌<◌, ◌∷◌, [], ◌++◌, Some, IfSome, IfNone, length, slice_get, map, codes, false, if◌then◌else◌};
 ghost use Rattle.std.specs.Fmt.{decimal};
 ghost use Rattle.std.specs.List.{join_with_byte};
 ghost use Rattle.tlm_types.specs.declared.entry.Entry.{Entry};
@@ -9,6 +9,7 @@ ghost use Rattle.tlm_types.specs.Log.{is_access};
 ghost use Rattle.tlm_model.specs.Text.{line_of};
 ghost use Rattle.line_text.specs.AccessText.{access_text, IsShort};
 ghost use Rattle.line_text.specs.EventText.{event_text, what_of, IsBrief};
+ghost use Rattle.line_text.specs.declared.event.Event.{Event};
 ghost use Rattle.trace_print.specs.Hops.{ends_at, object_word_by};
 ghost use Rattle.trace_print.specs.Putting.{Puts, page};
 ghost use Rattle.trace_print.specs.Told.{access_words, shown_of, text_of};
@@ -134,14 +135,33 @@ fn put_slot<K: Sink>(out: &mut K, line: &mut Line, word: &[u8], slot: u32)
     put_number(out, line, slot as u64);
 }
 
-// What happened, where it is no access.
-fn put_event<K: Sink>(out: &mut K, line: &mut Line, what: &What)
-    requires { is_access what.now ≡ false }
+// What happened at a hop or a pool.
+fn put_event<K: Sink>(out: &mut K, line: &mut Line, event: &Event)
+    ensures { Puts (page (K.taken out.old) (K.faults out.old) line.old)
+        (page (K.taken out.new) (K.faults out.new) line.new)
+        (join_with_byte 32 (what_words (what_of event.now))) }
+{
+    match event {
+        Event::Call { phase, answer } => put_call(out, line, *phase, *answer),
+        Event::Take { slot } => put_slot(out, line, b"take ", *slot),
+        Event::Acquire { slot } => put_slot(out, line, b"acquire ", *slot),
+        Event::Release { slot, freed } => {
+            put_slot(out, line, b"release ", *slot);
+            if *freed {
+                put(out, line, b" freed");
+            }
+        }
+    }
+}
+
+// What happened to a grant, where it is no access and nothing that happens at a hop or a pool.
+fn put_grant_event<K: Sink>(out: &mut K, line: &mut Line, what: &What)
+    requires access { is_access what.now ≡ false }
+    requires event { (event : Event) → what_of event ≢ what.now }
     ensures { Puts (page (K.taken out.old) (K.faults out.old) line.old)
         (page (K.taken out.new) (K.faults out.new) line.new) (join_with_byte 32 (what_words what.now)) }
 {
     match what {
-        What::Access { .. } => unreachable!(),
         What::Granted {
             gate,
             first,
@@ -153,15 +173,19 @@ fn put_event<K: Sink>(out: &mut K, line: &mut Line, what: &What)
             put_range(out, line, *first, *last);
         }
         What::Closed { gate } => put_slot(out, line, b"closed ", *gate),
-        What::Call { phase, answer } => put_call(out, line, *phase, *answer),
-        What::Take { slot } => put_slot(out, line, b"take ", *slot),
-        What::Acquire { slot } => put_slot(out, line, b"acquire ", *slot),
-        What::Release { slot, freed } => {
-            put_slot(out, line, b"release ", *slot);
-            if *freed {
-                put(out, line, b" freed");
-            }
-        }
+        _ => unreachable!(),
+    }
+}
+
+// What happened, where it is no access.
+fn put_no_access<K: Sink>(out: &mut K, line: &mut Line, what: &What)
+    requires { is_access what.now ≡ false }
+    ensures { Puts (page (K.taken out.old) (K.faults out.old) line.old)
+        (page (K.taken out.new) (K.faults out.new) line.new) (join_with_byte 32 (what_words what.now)) }
+{
+    match event_of(what) {
+        Some(event) => put_event(out, line, &event),
+        None => put_grant_event(out, line, what),
     }
 }
 
@@ -172,7 +196,7 @@ fn put_told<K: Sink>(out: &mut K, line: &mut Line, what: &What)
         (page (K.taken out.new) (K.faults out.new) line.new) (codes " " ++ line_of (what_words what.now)) }
 {
     put(out, line, b" ");
-    put_event(out, line, what);
+    put_no_access(out, line, what);
     put(out, line, b"\n");
 }
 
@@ -249,7 +273,8 @@ pub fn access_line<'a>(platform: &'a Platform, log: &'a Log, index: u64) -> Opti
 // What happened, where it happened at a hop or a pool.
 #[inline(always)]
 fn event_of(what: &What) -> Option<Event>
-    ensures { IfSome result (λ event. what_of event ≡ what.now) }
+    ensures is { IfSome result (λ event. what_of event ≡ what.now) }
+    ensures none { IfNone result ((event : Event) → what_of event ≢ what.now) }
 {
     match what {
         What::Call { phase, answer } => Some(Event::Call {

@@ -1,8 +1,5 @@
 use Rattle.trace_print.proofs.Putting.{puts-more}
 use Rattle.trace_print.proofs.entries.put_event.Goals as goal
 
-pub returns-in-Invalidated : goal.returns-in-Invalidated
-returns-in-Invalidated g c = rw c.in-Invalidated.is (puts-more _ _ _ _ _ c.put.ensures c.put_range.ensures)
-
 pub returns-then-freed : goal.returns-then-freed
-returns-then-freed g c = rw (c.in-Release.is, c.if-freed.true) (puts-more _ _ _ _ _ c.put_slot-in-Release.ensures c.put-then-freed.ensures)
+returns-then-freed g c = rw (c.in-Release.is, c.if-freed.true) (puts-more _ _ _ _ _ c.put_slot-in-Release.ensures c.put.ensures)
