@@ -24,7 +24,7 @@ use Rattle.region_object.specs.Grants.{closes, is_closed, is_open, least_from, l
 use Rattle.region_object.specs.Written.{content_of}
 use Rattle.plat_net.specs.Calls.{entries_of}
 use Rattle.dmi_grants.specs.Made.{HasSpent, IsMade, added, dmi_gates, is_closed_in, is_given_in, unclosed}
-use Rattle.dmi_grants.specs.Invalidating.{HasClosed, HasEnded, HasEndedAll, HasInvalidated, IsOverlapped, IsOwnClosing, IsToldIn, place_of}
+use Rattle.dmi_grants.specs.Invalidating.{HasClosed, HasEnded, HasEndedAll, HasInvalidated, IsOverlapped, IsOwnClosing, IsToldIn, position_in}
 use Rattle.dmi_grants.proofs.Lists.{any_has, least_none, least_some}
 use Rattle.dmi_grants.proofs.Known.{closed_more, closed_of_log, given_more, known_more, log_closed, log_given, log_known, not_open, open_grant, open_unclosed, overlapped_more, revoked_by, told_more}
 use Rattle.dmi_grants.proofs.Counts.{fewer, fewer_by_one, some_left}
@@ -118,7 +118,7 @@ module _ (frame : Frame Plan) (m : ℕ) (there : m < length frame.world.platform
   pub closed_by : (txn : TxnId) (time gate : ℕ) (note d back : View Content Plan) (reply : RegionReply) (before after : Purse) (position : Option ℕ) → d.known ≡ note.known → StandBelow note.known d.seen → IsMade frame m (Close txn time gate) d back position reply → HasSpent m (added position) before after → HasClosed frame m txn time gate note back before after
   closed_by = closes_by
 
-rising_short : (own : List Written) → length own ≤ 1 → IsRising place_of own
+rising_short : (own : List Written) → length own ≤ 1 → IsRising position_in own
 rising_short [] few = tt
 rising_short (x ∷ []) few = ((λ y has. absurd (has_none y has)), tt)
 rising_short (x ∷ y ∷ ys) few = absurd (omega arith)
@@ -161,7 +161,7 @@ module _ (frame : Frame Plan) (m : ℕ) (txn : TxnId) (time low high told : ℕ)
     fewer = omega arith;
   }
 
-  rising_both : (xs ys : List Written) → IsRising place_of xs → IsRising place_of ys → ((x y : Written) → Has xs x → Has ys y → x.position < y.position) → IsRising place_of (xs ++ ys)
+  rising_both : (xs ys : List Written) → IsRising position_in xs → IsRising position_in ys → ((x y : Written) → Has xs x → Has ys y → x.position < y.position) → IsRising position_in (xs ++ ys)
   rising_both [] ys first second apart = second
   rising_both (x ∷ xs) ys first second apart = (
     (λ y has. ⊎_elim (λ (a : Has xs y). first.0 y a) (λ (b : Has ys y). apart x y (0, refl) b) (has_either xs ys y has)),

@@ -36,7 +36,7 @@ use Rattle.region_object.specs.Grants.{gives as gives_at, closes as closes_at, o
 use Rattle.region_object.specs.Region.{after_call}
 use Rattle.region_object.specs.Written.{content_of, written_from}
 use Rattle.plat_net.specs.Calls.{entries_of}
-use Rattle.dmi_grants.specs.Invalidating.{HasInvalidated, IsOverlapped, place_of}
+use Rattle.dmi_grants.specs.Invalidating.{HasInvalidated, IsOverlapped, position_in}
 use Rattle.dmi_grants.specs.Known.{AreBelow, HasAllOf, known_to, position_of}
 use Rattle.dmi_grants.specs.Made.{HasSpent, dmi_gates, dmi_gates_of, is_closed_in, is_given_in, unclosed}
 use Rattle.dmi_grants.specs.Telling.{AddsOwn, InvalidationAdds, IsClosingFor}
@@ -69,7 +69,7 @@ own_gate p m g below from under =
 overlaps_same : (low high : ℕ) (w : What) → overlaps low high w ≡ is_overlapped w (Invalidated low high)
 overlaps_same low high w = grind (arith, common_steps)
 
-rising_logged : (m : ℕ) (ws : List Written) → IsRising place_of ws → IsRising position_of (map (logged (Memory m)) ws)
+rising_logged : (m : ℕ) (ws : List Written) → IsRising position_in ws → IsRising position_of (map (logged (Memory m)) ws)
 rising_logged m [] rising = tt
 rising_logged m (w ∷ ws) rising = (
   λ y has. let from = has_map (logged (Memory m)) ws y has in subst (λ (z : Entry). w.position < z.position) from.2 (rising.0 from.0 from.1),

@@ -17,8 +17,8 @@ use Rattle.region_object.specs.Grants.{gives, overlaps}
 use Rattle.plat_net.specs.Calls.{entries_of}
 use Rattle.dmi_grants.specs.Made.{HasSpent, IsMade, is_closed_in, unclosed}
 
-abbrev pub place_of : Written → ℕ
-place_of w = w.position
+abbrev pub position_in : Written → ℕ
+position_in w = w.position
 
 -- an invalidation of the range from low to high stands at this position among these entries
 pub record IsToldIn (known : List Written) (low high told : ℕ) : Type 0 where
@@ -62,7 +62,7 @@ pub record HasEnded (frame : Frame Plan) (m : ℕ) (txn : TxnId) (time low high 
   pub each : (w : Written) → Has own w → IsOwnClosing (written_at m back.known) txn time low high told w
   pub past : (w x : Written) → Has own w → Has (written_at m note.known) x → x.position < w.position
   pub above : (w : Written) (e : Entry Content) → Has own w → Has note.known e → e.position < w.position
-  pub rising : IsRising place_of own
+  pub rising : IsRising position_in own
   pub keeps : Within note.known back.known
   pub knows : Within own (written_at m back.known)
   pub wallet : HasSpent m (length own) before after

@@ -27,12 +27,12 @@ use Rattle.region_object.specs.Region.{LoggedMemory, accessed}
 use Rattle.region_object.specs.Written.{written_from}
 
 -- each grant of the log is of the whole memory, and of its kind
-pub record IsWhole (m : MemoryTraits) (first last : ℕ) (kind : Kind) : Type 0 where
+pub record IsWholeGrant (m : MemoryTraits) (first last : ℕ) (kind : Kind) : Type 0 where
   pub low : first ≡ 0
   pub high : last ≡ m.size - 1
   pub of : kind ≡ allowed_kind m.readable m.writable
 
-whole_from : (gates n : ℕ) (m : MemoryTraits) (before log : List Entry) (gate first last : ℕ) (kind : Kind) (k : ℕ) (w : Written) → EachFrom (λ xs e. IsGrantStep gates m xs e.what) before log → get_elem? (written_from n log) k ≡ some w → w.content.what ≡ Granted gate first last kind → IsWhole m first last kind
+whole_from : (gates n : ℕ) (m : MemoryTraits) (before log : List Entry) (gate first last : ℕ) (kind : Kind) (k : ℕ) (w : Written) → EachFrom (λ xs e. IsGrantStep gates m xs e.what) before log → get_elem? (written_from n log) k ≡ some w → w.content.what ≡ Granted gate first last kind → IsWholeGrant m first last kind
 whole_from gates n m before [] gate first last kind k w each at is = absurd (some-ne-none w (sym at))
 whole_from gates n m before (e ∷ es) gate first last kind zero w each at is =
     let what : e.what ≡ Granted gate first last kind = ap (λ (x : Written). x.content.what) (some-injective (noted n e) w at) ∙ is in
@@ -40,7 +40,7 @@ whole_from gates n m before (e ∷ es) gate first last kind zero w each at is =
     record { low = step.2; high = step.3; of = step.4 }
 whole_from gates n m before (e ∷ es) gate first last kind (suc k) w each at is = whole_from gates (n + 1) m (before ++ e ∷ []) es gate first last kind k w each.1 at is
 
-grant_is_whole : (m : LoggedMemory) (gate first last : ℕ) (kind : Kind) → IsGrantLog m.first_gate m.traits m.log.entries → HasGrant (written_from 0 m.log.entries) gate first last kind → IsWhole m.traits first last kind
+grant_is_whole : (m : LoggedMemory) (gate first last : ℕ) (kind : Kind) → IsGrantLog m.first_gate m.traits m.log.entries → HasGrant (written_from 0 m.log.entries) gate first last kind → IsWholeGrant m.traits first last kind
 grant_is_whole m gate first last kind log has = whole_from m.first_gate 0 m.traits [] m.log.entries gate first last kind has.1.0 has.0 log has.1.1 has.2
 
 -- the kind that a memory allows allows no more than the memory

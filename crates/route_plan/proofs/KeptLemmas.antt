@@ -6,7 +6,7 @@ use Rattle.route_plan.specs.declared.plans.Plan.TheInside.{Inside}
 use Rattle.route_plan.specs.declared.shares.Share.{Share}
 use Rattle.route_plan.specs.Counted.{logged_share_at, share_at}
 use Rattle.route_plan.specs.Counts.{capped}
-use Rattle.route_plan.specs.Places.{object_at, object_count, place_of}
+use Rattle.route_plan.specs.Places.{object_at, object_count, object_place}
 use Rattle.route_plan.specs.Planned.{logged_bytes, planned_at}
 use Rattle.route_plan.specs.Ready.{IsReady}
 use Rattle.route_plan.specs.Shares.{entries_in, logged_in, object_shares, pair_share, shares_of, with_scripts}
@@ -22,19 +22,19 @@ pub kept_by_parts : (inside : Inside) (p : Plan) → with_scripts inside.routes 
 kept_by_parts inside p is ready = ready.shares ∙ ap shares_of is
 
 -- the place of an object of a plan, as its routes tell it
-pub place_by_parts : (inside : Inside) (p : Plan) (o : ObjectNo) (k : ℕ) → with_scripts inside.routes inside.scripts ≡ p → k ≡ place_of inside.routes o → k ≡ place_of p.platform o
-place_by_parts inside p o k is at = at ∙ ap (λ (p : Plan). place_of p.platform o) is
+pub place_by_parts : (inside : Inside) (p : Plan) (o : ObjectNo) (k : ℕ) → with_scripts inside.routes inside.scripts ≡ p → k ≡ object_place inside.routes o → k ≡ object_place p.platform o
+place_by_parts inside p o k is at = at ∙ ap (λ (p : Plan). object_place p.platform o) is
 
-pub place_below : (p : Plan) (o : ObjectNo) (k : ℕ) → k ≡ place_of p.platform o → IsObject p.platform o → k < object_count p.platform
+pub place_below : (p : Plan) (o : ObjectNo) (k : ℕ) → k ≡ object_place p.platform o → IsObject p.platform o → k < object_count p.platform
 place_below p o k at there = omega (arith, at, place_there p.platform o there)
 
 -- an object's place is low
-pub place_fits : (inside : Inside) (p : Plan) (o : ObjectNo) (k : ℕ) → with_scripts inside.routes inside.scripts ≡ p → IsReady inside → k ≡ place_of inside.routes o → IsObject p.platform o → k < 336
+pub place_fits : (inside : Inside) (p : Plan) (o : ObjectNo) (k : ℕ) → with_scripts inside.routes inside.scripts ≡ p → IsReady inside → k ≡ object_place inside.routes o → IsObject p.platform o → k < 336
 place_fits inside p o k is ready at there =
     let below : k < object_count p.platform = place_below p o k (place_by_parts inside p o k is at) there in
     omega (arith, below, few_objects p.platform (valid_by_parts inside p is ready).shape.bounded)
 
-pub object_here : (p : Plan) (o : ObjectNo) (k : ℕ) → k ≡ place_of p.platform o → IsObject p.platform o → object_at p.platform k ≡ o
+pub object_here : (p : Plan) (o : ObjectNo) (k : ℕ) → k ≡ object_place p.platform o → IsObject p.platform o → object_at p.platform k ≡ o
 object_here p o k at there = ap (object_at p.platform) at ∙ object_of_place p.platform o there
 
 pub memory_below : (p : Plan) (m : ℕ) → m < length p.platform.memories → m < object_count p.platform
@@ -54,7 +54,7 @@ pub share_read : (p : Plan) (kept seen : List (List Share)) (k n : ℕ) (row sha
     → n < length p.platform.initiators → get_or shares n d ≡ pair_share p k n
 share_read p kept seen k n row shares d same at lt read again below = ap (λ (xs : List Share). get_or xs n d) (row_kept p kept seen k row shares same at lt read again) ∙ share_kept p k n d below
 
-pub entries_read : (p : Plan) (kept seen : List (List Share)) (k sum : ℕ) (o : ObjectNo) (row shares : List Share) → IsValid p → kept ≡ shares_of p → seen ≡ kept → k ≡ place_of p.platform o → IsObject p.platform o
+pub entries_read : (p : Plan) (kept seen : List (List Share)) (k sum : ℕ) (o : ObjectNo) (row shares : List Share) → IsValid p → kept ≡ shares_of p → seen ≡ kept → k ≡ object_place p.platform o → IsObject p.platform o
     → row ≡ get_or seen k row → shares ≡ row → sum ≡ capped (entries_in shares) → sum ≡ planned_at p o
 entries_read p kept seen k sum o row shares made same at place there read again summed =
     let total : entries_in shares ≡ planned_at p o =

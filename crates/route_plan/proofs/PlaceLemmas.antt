@@ -7,7 +7,7 @@ use Rattle.std.proofs.lemmas.List.Sums.{sum_by-cons}
 use Rattle.tlm_types.specs.declared.words.ObjectNo.{ObjectNo}
 use Rattle.tlm_types.specs.declared.words.ObjectNo.TheVariants.{Memory, Hop, Pool}
 use Rattle.tlm_model.specs.declared.platform.Platform.{Platform}
-use Rattle.route_plan.specs.Places.{object_at, object_count, place_of}
+use Rattle.route_plan.specs.Places.{object_at, object_count, object_place}
 use Rattle.route_plan.specs.Valid.{IsObject, hop_count}
 
 -- the object at a place of the hops and pools
@@ -33,12 +33,12 @@ pool_at p n =
     ∙ ap (λ (b : Bool). if b then Hop (k - m) else Pool (k - (m + hop_count p))) (le-ltb k (m + hop_count p) (omega arith)) ∙ ap Pool own
 
 -- the object at its place
-pub object_of_place : (p : Platform) (o : ObjectNo) → IsObject p o → object_at p (place_of p o) ≡ o
+pub object_of_place : (p : Platform) (o : ObjectNo) → IsObject p o → object_at p (object_place p o) ≡ o
 object_of_place p (Memory m) there = memory_at p m there
 object_of_place p (Hop h) there = hop_at p h there
 object_of_place p (Pool n) there = pool_at p n
 
-pub place_there : (p : Platform) (o : ObjectNo) → IsObject p o → place_of p o < object_count p
+pub place_there : (p : Platform) (o : ObjectNo) → IsObject p o → object_place p o < object_count p
 place_there p (Memory m) there = omega (arith, there)
 place_there p (Hop h) there = omega (arith, there)
 place_there p (Pool n) there = omega (arith, there)

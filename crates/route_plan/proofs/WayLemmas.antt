@@ -17,7 +17,7 @@ use Rattle.tlm_model.specs.declared.platform.Target.TheVariants as target
 use Rattle.tlm_model.specs.Route.{Found, Walk, into_memory, into_router, into_window, later, nowhere, over_hop, walk, window_hop, window_of}
 use Rattle.route_plan.specs.Counted.{added_by_hop, added_by_hops}
 use Rattle.route_plan.specs.Paths.{once}
-use Rattle.route_plan.specs.Places.{place_of}
+use Rattle.route_plan.specs.Places.{object_place}
 use Rattle.route_plan.specs.Planned.{by_fourphase, leads_to}
 use Rattle.route_plan.specs.Routes.{bound_walk, row_walk}
 use Rattle.route_plan.specs.Valid.{hop_count}
@@ -78,16 +78,16 @@ none_in f none [] = refl
 none_in f none (x ∷ xs) = omega (arith, sum_by-cons f x xs, none x, none_in f none xs)
 
 -- what a hop adds, by whether its own place and the pool's are asked for
-added : (p : Platform) (n k h : ℕ) (own pool : Bool) → (place_of p (Hop h) == k) ≡ own → (place_of p (Pool n) == k) ≡ pool → added_by_hop p n k h ≡ 4 * once own + 2 * once pool
-added p n k h own pool at there = ap (λ (b : Bool). 4 * once b + 2 * once (place_of p (Pool n) == k)) at ∙ ap (λ (b : Bool). 4 * once own + 2 * once b) there
+added : (p : Platform) (n k h : ℕ) (own pool : Bool) → (object_place p (Hop h) == k) ≡ own → (object_place p (Pool n) == k) ≡ pool → added_by_hop p n k h ≡ 4 * once own + 2 * once pool
+added p n k h own pool at there = ap (λ (b : Bool). 4 * once b + 2 * once (object_place p (Pool n) == k)) at ∙ ap (λ (b : Bool). 4 * once own + 2 * once b) there
 
-added_in_all : (p : Platform) (n k : ℕ) (hops : List ℕ) (pool : Bool) (sum : ℕ) → (place_of p (Pool n) == k) ≡ pool → sum_by (added_by_hop p n k) hops ≡ sum → added_by_hops p n k hops ≡ 2 * once pool + sum
+added_in_all : (p : Platform) (n k : ℕ) (hops : List ℕ) (pool : Bool) (sum : ℕ) → (object_place p (Pool n) == k) ≡ pool → sum_by (added_by_hop p n k) hops ≡ sum → added_by_hops p n k hops ≡ 2 * once pool + sum
 added_in_all p n k hops pool sum there all = ap (λ (b : Bool). 2 * once b + sum_by (added_by_hop p n k) hops) there ∙ ap (λ s. 2 * once pool + s) all
 
 -- hops add nothing to a memory
 pub added_at_memory : (p : Platform) (n k : ℕ) (hops : List ℕ) → k < length p.memories → added_by_hops p n k hops ≡ 0
 added_at_memory p n k hops lt =
-    let pool : (place_of p (Pool n) == k) ≡ false = ne_eqb _ _ (λ e. omega (arith, e, lt)) in
+    let pool : (object_place p (Pool n) == k) ≡ false = ne_eqb _ _ (λ e. omega (arith, e, lt)) in
     added_in_all p n k hops false 0 pool (none_in (added_by_hop p n k) (λ h. added p n k h false false (ne_eqb _ _ (λ e. omega (arith, e, lt))) pool) hops)
 
 as_true : (b c : Bool) → (b ≡ true → c ≡ true) → (c ≡ true → b ≡ true) → b ≡ c
@@ -100,7 +100,7 @@ same_test : (a g h : ℕ) → (a + g == a + h) ≡ (g == h)
 same_test a g h = as_true (a + g == a + h) (g == h) (λ e. eq-eqb g h (omega (arith, eqb-true (a + g) (a + h) e))) (λ e. eq-eqb (a + g) (a + h) (omega (arith, eqb-true g h e)))
 
 -- four to a hop for each time that it is passed
-hop_sum : (p : Platform) (n h : ℕ) → (place_of p (Pool n) == length p.memories + h) ≡ false → (hops : List ℕ) → sum_by (added_by_hop p n (length p.memories + h)) hops ≡ 4 * count_by (λ k. k == h) hops
+hop_sum : (p : Platform) (n h : ℕ) → (object_place p (Pool n) == length p.memories + h) ≡ false → (hops : List ℕ) → sum_by (added_by_hop p n (length p.memories + h)) hops ≡ 4 * count_by (λ k. k == h) hops
 hop_sum p n h pool [] = refl
 hop_sum p n h pool (g ∷ hops) =
     let f : ℕ → ℕ = added_by_hop p n (length p.memories + h) in
@@ -113,20 +113,20 @@ hop_sum p n h pool (g ∷ hops) =
 
 pub added_at_hop : (p : Platform) (n h : ℕ) (hops : List ℕ) → h < hop_count p → added_by_hops p n (length p.memories + h) hops ≡ 4 * count_by (λ k. k == h) hops
 added_at_hop p n h hops lt =
-    let pool : (place_of p (Pool n) == length p.memories + h) ≡ false = ne_eqb _ _ (λ e. omega (arith, e, lt)) in
+    let pool : (object_place p (Pool n) == length p.memories + h) ≡ false = ne_eqb _ _ (λ e. omega (arith, e, lt)) in
     added_in_all p n (length p.memories + h) hops false (4 * count_by (λ k. k == h) hops) pool (hop_sum p n h pool hops) ∙ plain (4 * count_by (λ k. k == h) hops)
   where
     plain : (s : ℕ) → 2 * once false + s ≡ s
     plain s = omega arith
 
 -- two to the pool for each hop
-pool_sum : (p : Platform) (n j : ℕ) (own : Bool) → (place_of p (Pool n) == length p.memories + hop_count p + j) ≡ own → (hops : List ℕ) → AllByRecursion (λ h. h < hop_count p) hops
+pool_sum : (p : Platform) (n j : ℕ) (own : Bool) → (object_place p (Pool n) == length p.memories + hop_count p + j) ≡ own → (hops : List ℕ) → AllByRecursion (λ h. h < hop_count p) hops
     → sum_by (added_by_hop p n (length p.memories + hop_count p + j)) hops ≡ 2 * once own * length hops
 pool_sum p n j true pool [] within = refl
 pool_sum p n j false pool [] within = refl
 pool_sum p n j own pool (g ∷ hops) within =
     let k : ℕ = length p.memories + hop_count p + j in
-    let apart : (place_of p (Hop g) == k) ≡ false = ne_eqb _ _ (λ e. omega (arith, e, within.0)) in
+    let apart : (object_place p (Hop g) == k) ≡ false = ne_eqb _ _ (λ e. omega (arith, e, within.0)) in
     summed own (added_by_hop p n k g) (sum_by (added_by_hop p n k) hops) (length hops) (sum_by (added_by_hop p n k) (g ∷ hops)) (added p n k g false own apart pool) (pool_sum p n j own pool hops within.1) (sum_by-cons (added_by_hop p n k) g hops)
   where
     summed : (own : Bool) (y s n all : ℕ) → y ≡ 4 * once false + 2 * once own → s ≡ 2 * once own * n → all ≡ y + s → all ≡ 2 * once own * suc n
@@ -135,7 +135,7 @@ pool_sum p n j own pool (g ∷ hops) within =
 
 pub added_at_pool : (p : Platform) (n j : ℕ) (hops : List ℕ) → AllByRecursion (λ h. h < hop_count p) hops → added_by_hops p n (length p.memories + hop_count p + j) hops ≡ (if n == j then 2 + 2 * length hops else 0)
 added_at_pool p n j hops within =
-    let pool : (place_of p (Pool n) == length p.memories + hop_count p + j) ≡ (n == j) = same_test (length p.memories + hop_count p) n j in
+    let pool : (object_place p (Pool n) == length p.memories + hop_count p + j) ≡ (n == j) = same_test (length p.memories + hop_count p) n j in
     added_in_all p n (length p.memories + hop_count p + j) hops (n == j) (2 * once (n == j) * length hops) pool (pool_sum p n j (n == j) pool hops within) ∙ plain (n == j) (length hops)
   where
     plain : (own : Bool) (n : ℕ) → 2 * once own + 2 * once own * n ≡ (if own then 2 + 2 * n else 0)
@@ -145,7 +145,7 @@ added_at_pool p n j hops within =
 -- few hops add few entries
 pub few_added : (p : Platform) (n k : ℕ) (hops : List ℕ) → length hops ≤ 9 → added_by_hops p n k hops ≤ 64
 few_added p n k hops few =
-    omega (arith, few, few_once (place_of p (Pool n) == k), all hops)
+    omega (arith, few, few_once (object_place p (Pool n) == k), all hops)
   where
     few_once : (b : Bool) → once b ≤ 1
     few_once true = omega arith
@@ -158,7 +158,7 @@ few_added p n k hops few =
     all [] = omega arith
     all (h ∷ hops) =
         let sum : sum_by (added_by_hop p n k) (h ∷ hops) ≡ added_by_hop p n k h + sum_by (added_by_hop p n k) hops = sum_by-cons (added_by_hop p n k) h hops in
-        summed (once (place_of p (Hop h) == k)) (once (place_of p (Pool n) == k)) (sum_by (added_by_hop p n k) hops) (length hops) (sum_by (added_by_hop p n k) (h ∷ hops)) (few_once (place_of p (Hop h) == k)) (few_once (place_of p (Pool n) == k)) (all hops) sum
+        summed (once (object_place p (Hop h) == k)) (once (object_place p (Pool n) == k)) (sum_by (added_by_hop p n k) hops) (length hops) (sum_by (added_by_hop p n k) (h ∷ hops)) (few_once (object_place p (Hop h) == k)) (few_once (object_place p (Pool n) == k)) (all hops) sum
 
 -- entries of four phases
 pub fourphase_none : (s : Style) (n : ℕ) → n ≡ 0 → by_fourphase s n ≡ 0

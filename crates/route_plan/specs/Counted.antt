@@ -12,7 +12,7 @@ use Rattle.tlm_model.specs.declared.ask.Ask.{Ask}
 use Rattle.tlm_model.specs.declared.ask.Ask.TheVariants.{Access as AnAccess, DebugRead as ADebugRead, Invalidation as AnInvalidation}
 use Rattle.tlm_model.specs.Actions.{asks_of}
 use Rattle.route_plan.specs.Paths.{has_path, once}
-use Rattle.route_plan.specs.Places.{place_of}
+use Rattle.route_plan.specs.Places.{object_place}
 use Rattle.route_plan.specs.Planned.{by_fourphase, leads_to, is_direct, share_of, logged_share}
 use Rattle.route_plan.specs.Routes.{bound_walk}
 
@@ -30,11 +30,11 @@ is_led_to p n m a = leads_to (bound_walk p n a).end m
 -- the entries at place k that a four-phase access of the initiator with number n makes for a hop that it passes: four
 -- of the hop, and two of the initiator's pool
 abbrev pub added_by_hop : Platform → ℕ → ℕ → ℕ → ℕ
-added_by_hop p n k h = 4 * once (place_of p (Hop h) == k) + 2 * once (place_of p (Pool n) == k)
+added_by_hop p n k h = 4 * once (object_place p (Hop h) == k) + 2 * once (object_place p (Pool n) == k)
 
 -- those for all these hops, with two more of the pool
 abbrev pub added_by_hops : Platform → ℕ → ℕ → List ℕ → ℕ
-added_by_hops p n k hops = 2 * once (place_of p (Pool n) == k) + sum_by (added_by_hop p n k) hops
+added_by_hops p n k hops = 2 * once (object_place p (Pool n) == k) + sum_by (added_by_hop p n k) hops
 
 abbrev pub passed_by : Option InitiatorRow → ℕ → ℕ
 passed_by None added = 0

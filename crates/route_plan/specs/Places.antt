@@ -9,10 +9,10 @@ abbrev pub object_count : Platform → ℕ
 object_count p = length p.memories + hop_count p + length p.initiators
 
 -- the place of an object in the row
-abbrev pub place_of : Platform → ObjectNo → ℕ
-place_of p (Memory m) = m
-place_of p (Hop h) = length p.memories + h
-place_of p (Pool n) = length p.memories + hop_count p + n
+abbrev pub object_place : Platform → ObjectNo → ℕ
+object_place p (Memory m) = m
+object_place p (Hop h) = length p.memories + h
+object_place p (Pool n) = length p.memories + hop_count p + n
 
 -- the object at place k
 abbrev pub object_at : Platform → ℕ → ObjectNo

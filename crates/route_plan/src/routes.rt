@@ -2,7 +2,7 @@
 ghost use Rattle.std.specs.Prelude.{◌≡◌, ◌<◌, ◌≤◌, Some, Ok, length, map, slice_get, IfOk};
 ghost use Rattle.platform_model.specs.Reading.{Gives};
 ghost use Rattle.tlm_model.specs.Route.{into_memory};
-ghost use Rattle.route_plan.specs.Places.{object_count, place_of};
+ghost use Rattle.route_plan.specs.Places.{object_count, object_place};
 ghost use Rattle.route_plan.specs.Routes.{ends_of, first_step, next_step, numbered_windows, route_by, bound_walk};
 ghost use Rattle.route_plan.specs.Shape.{IsShape};
 
@@ -111,7 +111,7 @@ impl Routes {
 
     /// The place of an object in their row: the memories come first, then the hops, then the pools.
     pub fn place(&self, object: ObjectNo) -> usize
-        ensures { result ≡ place_of self.now object }
+        ensures { result ≡ object_place self.now object }
     {
         let memories = self.platform.memories.as_slice().len();
         match object {
