@@ -42,7 +42,8 @@ use Rattle.plat_net.specs.Places.{LeadsTo, hop_place}
 use Rattle.plat_net.specs.PoolCalls.{CanDescend, place_above}
 use Rattle.plat_net.proofs.Given.{took}
 use Rattle.plat_net.proofs.NumberLemmas.{hop_there}
-use Rattle.router_moves.specs.Items.{HasDebt, IsDown, IsHeld, IsRequest, is_accepting, latency_of, way_of}
+use Rattle.node_hops.specs.Modes.{hop_latency}
+use Rattle.router_moves.specs.Items.{HasDebt, IsDown, IsHeld, IsRequest, is_accepting, way_of}
 use Rattle.router_moves.specs.Moves.{owed_above}
 use Rattle.router_moves.specs.declared.items.RouterRequest.{RouterRequest}
 use Rattle.router_moves.specs.declared.items.WayBehind.{WayBehind}
@@ -107,11 +108,11 @@ module _ (frame : Frame Plan) (tokens : TableId) (known : List (Entry Content)) 
   address_is = ap (λ (a : Access). a.offset) req.down.content
 
   -- it leaves after the latency
-  pub leaves_at : (latency due : ℕ) → latency ≡ latency_of p r.hop → due ≡ later r.at latency → Past (world_of p) (Known p.platform known) x (hop_at req.pass req.hop) due
+  pub leaves_at : (latency due : ℕ) → latency ≡ hop_latency p r.hop → due ≡ later r.at latency → Past (world_of p) (Known p.platform known) x (hop_at req.pass req.hop) due
   leaves_at latency due is at = record {
     req = r.at;
     is_req = (let b = req.begun in record { event = b.event; known = b.known; is = record { answer = req.answer; call = b.is }; time = b.time });
-    sum = at ∙ ap (λ (n : ℕ). later r.at n) (is ∙ ap (λ (h : ℕ). latency_of p h) (sym req.here));
+    sum = at ∙ ap (λ (n : ℕ). later r.at n) (is ∙ ap (λ (h : ℕ). hop_latency p h) (sym req.here));
   }
 
   module _ (way : WayBehind) (is : way_of p router r.cargo.baton.payload.address ≡ Some way) where
@@ -122,7 +123,7 @@ module _ (frame : Frame Plan) (tokens : TableId) (known : List (Entry Content)) 
     next = goes_on p tokens known shape x req.pass req.down.asked req.hop router below leads_here way there
 
     -- DESCEND
-    abbrev pub can_descend : (initiator : ℕ) (accepts : Bool) (above : Option ℕ) (latency due : ℕ) → initiator ≡ x.initiator → accepts ≡ is_accepting p router → router < length p.platform.routers → above ≡ owed_above accepts r.hop → latency ≡ latency_of p r.hop → due ≡ later r.at latency
+    abbrev pub can_descend : (initiator : ℕ) (accepts : Bool) (above : Option ℕ) (latency due : ℕ) → initiator ≡ x.initiator → accepts ≡ is_accepting p router → router < length p.platform.routers → above ≡ owed_above accepts r.hop → latency ≡ hop_latency p r.hop → due ≡ later r.at latency
         → CanDescend frame tokens initiator r.cargo above way.address due known
     can_descend initiator accepts above latency due of mode row above_as lat at = record {
       of = sym of;
@@ -168,7 +169,7 @@ module _ (frame : Frame Plan) (tokens : TableId) (known : List (Entry Content)) 
       }
 
       pub down_is : (txn : TxnId) (kept : Slip) (ticket : Option Ticket) (cargo : Cargo) (latency due : ℕ) → txn ≡ x → kept ≡ r.cargo.hold
-          → IsTicketAt tokens (place_above p (owed_on (row_of (world_of p) req.pass req.hop) (hop_at req.pass req.hop))) ticket → latency ≡ latency_of p r.hop → due ≡ later r.at latency
+          → IsTicketAt tokens (place_above p (owed_on (row_of (world_of p) req.pass req.hop) (hop_at req.pass req.hop))) ticket → latency ≡ hop_latency p r.hop → due ≡ later r.at latency
           → GoesDown p tokens (Known p.platform more) x req.pass Ready (req.hop + 1) cargo
           → IsDown frame tokens more (record { held = record { txn = txn; above = r.hop; below = way.hop; leg = r.leg; kept = kept; owed = ticket }; due = due; cargo = cargo })
       down_is txn kept ticket cargo latency due is_x same of lat at down =

@@ -42,7 +42,8 @@ use Rattle.cargo_net.specs.declared.requests.Tried.TheVariants.{Left, Now, Busy}
 use Rattle.plat_net.specs.HopCalls.{CanBegin, CanEndRequest}
 use Rattle.plat_net.specs.MemoryCalls.{CanServe, IsServedAt}
 use Rattle.plat_net.specs.Places.{LeadsTo, hop_place}
-use Rattle.router_moves.specs.Items.{HasDebt, HasGone, IsBegun, IsDown, OwesEnd, latency_of}
+use Rattle.node_hops.specs.Modes.{hop_latency}
+use Rattle.router_moves.specs.Items.{HasDebt, HasGone, IsBegun, IsDown, OwesEnd}
 use Rattle.router_moves.specs.Moves.{EndsAbove, HasPassed, HasServedBelow}
 use Rattle.router_moves.specs.declared.down.Passed.TheVariants as Passes
 use Rattle.router_moves.specs.declared.items.BegunBelow.{BegunBelow}
@@ -206,7 +207,7 @@ module _ (frame : Frame Plan) (tokens : TableId) (known : List (Entry Content)) 
         (owed_one (row_of (world_of plan) begun.pass (begun.hop + 1)) resp fits none, record { table = l.table; owner = l.owner; entry = l.entry; has = w l.entry l.has; object = l.object; txn = l.txn; name = l.name })
     owes due up resp answer leg is l = absurd l
 
-    pub served_below : (latency due : ℕ) (new : Cargo) → latency ≡ latency_of plan h.below → due ≡ later b.at latency
+    pub served_below : (latency due : ℕ) (new : Cargo) → latency ≡ hop_latency plan h.below → due ≡ later b.at latency
         → IsServedAt frame tokens memory b.cargo b.at begun.pass (begun.hop + 1) (let a = can_serve.fetched.down.asked in a.access) new more
         → HasServedBelow frame tokens latency h b more (record { at = due; leg = b.leg; cargo = new })
     served_below latency due new lat at s =
@@ -216,7 +217,7 @@ module _ (frame : Frame Plan) (tokens : TableId) (known : List (Entry Content)) 
         let resp = ((world_of plan).hop (hop_at begun.pass (begun.hop + 1))).resp in
         let up_ready = subst (λ (x : TxnId). GoesUp plan tokens K x begun.pass Ready (begun.hop + 1) new) txn served.up in
         let f = begun.made in
-        let due_is : later b.at ((world_of plan).hop (hop_at begun.pass (begun.hop + 1))).latency ≡ due = ap (λ (n : ℕ). later b.at n) (ap (λ (n : ℕ). latency_of plan n) begun.held.below ∙ sym lat) ∙ sym at in
+        let due_is : later b.at ((world_of plan).hop (hop_at begun.pass (begun.hop + 1))).latency ≡ due = ap (λ (n : ℕ). later b.at n) (ap (λ (n : ℕ). hop_latency plan n) begun.held.below ∙ sym lat) ∙ sym at in
         let up = subst (λ (t : ℕ). UpIs (world_of plan) K h.txn begun.pass (begun.hop + 1) t) due_is (subst (λ (x : TxnId). UpIs (world_of plan) K x begun.pass (begun.hop + 1) (later b.at ((world_of plan).hop (hop_at begun.pass (begun.hop + 1))).latency)) txn served.due) in
         record {
           at = at;

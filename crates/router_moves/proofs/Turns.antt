@@ -44,7 +44,8 @@ use Rattle.cargo_net.specs.declared.fetches.FetchedResponse.{FetchedResponse}
 use Rattle.plat_net.specs.Places.{hop_place}
 use Rattle.plat_net.proofs.NoCycle.{shapes_law}
 use Rattle.plat_net.proofs.Targets.{back_at}
-use Rattle.router_moves.specs.Items.{IsBack, IsHeld, IsRequest, OwesEnd, latency_of, way_of}
+use Rattle.node_hops.specs.Modes.{hop_latency}
+use Rattle.router_moves.specs.Items.{IsBack, IsHeld, IsRequest, OwesEnd, way_of}
 use Rattle.router_moves.specs.Moves.{HasFetchedUp, IsRefused}
 use Rattle.router_moves.specs.declared.items.PassedOn.{PassedOn}
 use Rattle.router_moves.specs.declared.items.RouterRequest.{RouterRequest}
@@ -66,7 +67,7 @@ module _ (frame : Frame Plan) (tokens : TableId) (known : List (Entry Content)) 
   last : req.hop + 1 ≡ hop_count req.pass
   last = ends_here p tokens known shape r.cargo.baton.txn req.pass req.down.asked req.hop router req.down.held.below (leads_here frame tokens known shape router r req) nowhere
 
-  pub refused : (latency due : ℕ) (v : PayloadView) → latency ≡ latency_of p r.hop → due ≡ later r.at latency → v ≡ (let old = r.cargo.baton.payload in record old { status = AddressError })
+  pub refused : (latency due : ℕ) (v : PayloadView) → latency ≡ hop_latency p r.hop → due ≡ later r.at latency → v ≡ (let old = r.cargo.baton.payload in record old { status = AddressError })
       → IsRefused frame tokens known latency r (record { hop = r.hop; leg = r.leg; due = due; cargo = with_contents r.cargo v r.cargo.baton.wallet })
   refused latency due v lat at is =
       let b = req.begun in

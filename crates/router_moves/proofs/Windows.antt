@@ -35,7 +35,8 @@ use Rattle.cargo_net.specs.Descends.{owed_on}
 use Rattle.plat_net.specs.Places.{LeadsTo}
 use Rattle.plat_net.proofs.Given.{few_passed}
 use Rattle.plat_net.proofs.Targets.{ends_stop}
-use Rattle.router_moves.specs.Items.{accepts, is_accepting, row_accepts, way_in, way_of, way_over}
+use Rattle.node_hops.specs.Modes.{accepts}
+use Rattle.router_moves.specs.Items.{is_accepting, row_accepts, way_in, way_of, way_over}
 use Rattle.router_moves.specs.Moves.{owed_above}
 use Rattle.router_moves.specs.declared.items.WayBehind.{WayBehind}
 

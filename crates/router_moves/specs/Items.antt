@@ -1,11 +1,10 @@
 -- What a router knows of the requests that it fetched, of those that it passes on, and of the responses that it is to send.
-use Rattle.std.specs.Prelude.{ℕ, ◌≡◌, ◌+◌, ◌-◌, ◌<◌, ◌⊎◌, Bool, true, false, IsTrue, List, Option, Some, None, slice_get}
+use Rattle.std.specs.Prelude.{ℕ, ◌≡◌, ◌+◌, ◌-◌, ◌<◌, ◌⊎◌, Bool, false, IsTrue, List, Option, Some, None, slice_get}
 use Rattle.atomic_table.specs.Seated.{TableId}
 use Rattle.one_history.specs.declared.entry.Entry.{Entry}
 use Rattle.one_history.specs.declared.view.Frame.{Frame}
 use Rattle.tlm_types.specs.declared.entry.Content.{Content}
 use Rattle.tlm_types.specs.declared.words.Phase.TheVariants.{BeginReq, EndReq}
-use Rattle.tlm_types.specs.declared.words.ReqMode.{ReqMode}
 use Rattle.tlm_types.specs.declared.words.ReqMode.TheVariants.{Accept}
 use Rattle.tlm_types.specs.declared.words.TlmSync.{TlmSync}
 use Rattle.tlm_types.specs.declared.words.TlmSync.TheVariants.{Accepted}
@@ -24,7 +23,7 @@ use Rattle.token_book.specs.declared.ticket.Ticket.{Ticket}
 use Rattle.flow_model.specs.World.{Passage, hop_at, hop_count, row_of}
 use Rattle.flow_model.specs.Events.{Event, Finds, FindsAt, IsAccess, IsCall, IsTake}
 use Rattle.flow_model.specs.Numbers.{ArrIs, EndIs, IsEnder, ReqIs, UpIs}
-use Rattle.flow_model.specs.Platform.{hop_in, passage_of, world_of}
+use Rattle.flow_model.specs.Platform.{passage_of, world_of}
 use Rattle.cargo_model.specs.Called.{IsAnswerIn}
 use Rattle.cargo_model.specs.Counts.{responses}
 use Rattle.cargo_model.specs.Known.{Known}
@@ -32,6 +31,7 @@ use Rattle.cargo_model.specs.Travel.{Back as IsBackAt, GoesDown, GoesUp, IsHoldO
 use Rattle.cargo_net.specs.Begins.{HasOwedLeg}
 use Rattle.cargo_net.specs.Hops.{IsLegOfLane}
 use Rattle.plat_net.specs.Places.{LeadsTo, hop_place, own_pool}
+use Rattle.node_hops.specs.Modes.{accepts}
 use Rattle.router_moves.specs.declared.items.Back.{Back}
 use Rattle.router_moves.specs.declared.items.BegunBelow.{BegunBelow}
 use Rattle.router_moves.specs.declared.items.Down.{Down}
@@ -42,21 +42,12 @@ use Rattle.router_moves.specs.declared.items.RouterRequest.{RouterRequest}
 use Rattle.router_moves.specs.declared.items.Rest.{Rest}
 use Rattle.router_moves.specs.declared.items.WayBehind.{WayBehind}
 
--- the mode of a router is that BEGIN_REQ is accepted and END_REQ is a call of its own
-abbrev pub accepts : ReqMode → Bool
-accepts Accept = true
-accepts mode = false
-
 abbrev pub row_accepts : Option RouterRow → Bool
 row_accepts None = false
 row_accepts (Some row) = accepts row.accept
 
 abbrev pub is_accepting : Plan → ℕ → Bool
 is_accepting p router = row_accepts (slice_get p.platform.routers router)
-
--- the latency of the component behind a hop
-abbrev pub latency_of : Plan → ℕ → ℕ
-latency_of p hop = (hop_in p.platform hop).latency
 
 -- what is behind the window of a router that was found
 abbrev pub way_over : Platform → ℕ → ℕ → Option Found → Option WayBehind

@@ -4,7 +4,8 @@ ghost use Rattle.view_lists.specs.Lists.{Within};
 ghost use Rattle.one_history.specs.Lists.{StandBelow};
 ghost use Rattle.shared_object.specs.Steps.{IsNote};
 ghost use Rattle.tlm_model.specs.Route.{window_hop};
-ghost use Rattle.router_moves.specs.Items.{IsRequest, is_accepting, latency_of};
+ghost use Rattle.node_hops.specs.Modes.{hop_latency};
+ghost use Rattle.router_moves.specs.Items.{IsRequest, is_accepting};
 ghost use Rattle.router_moves.specs.Turns.{HasTurned};
 
 use crate::down::{descend, way_behind};
@@ -40,7 +41,7 @@ pub fn turn<N: Naming<Plan, TlmLaw>, R: Wait>(
     requires router { router < length N.frame.world.platform.routers }
     requires first { first ≡ window_hop N.frame.world.platform router 0 }
     requires mode { accepts ≡ is_accepting N.frame.world router }
-    requires latency { latency ≡ latency_of N.frame.world request.hop }
+    requires latency { latency ≡ hop_latency N.frame.world request.hop }
     requires note { IsNote N.table note }
     requires request { IsRequest N.frame N.tokens note.knows.known router request }
     ensures note { IsNote N.table result.1 }

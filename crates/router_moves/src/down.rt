@@ -7,7 +7,8 @@ ghost use Rattle.tlm_model.specs.declared.platform.Target.TheVariants.{Memory, R
 ghost use Rattle.tlm_model.specs.Route.{later, window_hop};
 ghost use Rattle.route_plan.specs.Valid.{hop_count};
 ghost use Rattle.plat_net.specs.Places.{LeadsTo, hop_place, memory_place, own_pool};
-ghost use Rattle.router_moves.specs.Items.{HasGone, IsBegun, IsDown, IsRequest, is_accepting, latency_of, way_of};
+ghost use Rattle.node_hops.specs.Modes.{hop_latency};
+ghost use Rattle.router_moves.specs.Items.{HasGone, IsBegun, IsDown, IsRequest, is_accepting, way_of};
 ghost use Rattle.router_moves.specs.Moves.{EndsAbove, HasPassed, HasServedBelow, fetch_look, owed_above, passed_note};
 
 use crate::items::{Back, BegunBelow, Down, PassedOn, RouterRequest, WayBehind};
@@ -106,7 +107,7 @@ pub fn descend<N: Naming<Plan, TlmLaw>, R: Wait>(
 ) -> (Down, PlatNote)
     requires router { router < length N.frame.world.platform.routers }
     requires mode { accepts ≡ is_accepting N.frame.world router }
-    requires latency { latency ≡ latency_of N.frame.world request.hop }
+    requires latency { latency ≡ hop_latency N.frame.world request.hop }
     requires note { IsNote N.table note }
     requires request { IsRequest N.frame N.tokens note.knows.known router request }
     requires way { way_of N.frame.world router request.cargo.baton.payload.address ≡ Some way }
@@ -225,7 +226,7 @@ pub fn serve_below<N: Naming<Plan, TlmLaw>, R: Wait>(
 ) -> (Back, PlatNote)
     requires memory { memory < length N.frame.world.platform.memories }
     requires leads { LeadsTo N.frame.world.platform held.now.below (Memory memory) }
-    requires latency { latency ≡ latency_of N.frame.world held.now.below }
+    requires latency { latency ≡ hop_latency N.frame.world held.now.below }
     requires note { IsNote N.table note }
     requires begun { IsBegun N.frame N.tokens note.knows.known held.now begun }
     ensures note { IsNote N.table result.1 }

@@ -10,7 +10,8 @@ ghost use Rattle.cargo_model.specs.Known.{Known};
 ghost use Rattle.route_plan.specs.Valid.{hop_count};
 ghost use Rattle.plat_net.specs.HopCalls.{CanRespond};
 ghost use Rattle.plat_net.specs.Places.{hop_place, own_pool};
-ghost use Rattle.router_moves.specs.Items.{IsRequest, latency_of, way_of};
+ghost use Rattle.node_hops.specs.Modes.{hop_latency};
+ghost use Rattle.router_moves.specs.Items.{IsRequest, way_of};
 ghost use Rattle.router_moves.specs.Moves.{EndsBelow, HasBegunOn, HasEndedAbove, HasFetchedUp, HasReleased, HasSent, IsBackFor, IsDone, IsOwing, IsEndOf, IsRefused, IsReleasing, PullsFor, TurnsUp, ended_look, sent_as, sent_note, up_look};
 
 use crate::items::{Back, End, PassedOn, Rest, RouterRequest, RouterResponse};
@@ -34,7 +35,7 @@ pub fn refuse<N: Naming<Plan, TlmLaw>>(
     request: RouterRequest,
 ) -> RouterResponse
     requires router { router < length N.frame.world.platform.routers }
-    requires latency { latency ≡ latency_of N.frame.world request.hop }
+    requires latency { latency ≡ hop_latency N.frame.world request.hop }
     requires request { IsRequest N.frame N.tokens note.now.knows.known router request }
     requires no_way { way_of N.frame.world router request.cargo.baton.payload.address ≡ None }
     ensures refused { IsRefused N.frame N.tokens note.now.knows.known latency request result }

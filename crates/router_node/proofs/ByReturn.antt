@@ -22,7 +22,8 @@ use Rattle.cargo_model.specs.Stops.{response_at}
 use Rattle.cargo_net.specs.Forwards.{IsRouterMode}
 use Rattle.plat_net.specs.Places.{LeadsTo}
 use Rattle.plat_net.proofs.Forwarding.{router_answers}
-use Rattle.router_moves.specs.Items.{HasGone, IsBegun, latency_of}
+use Rattle.node_hops.specs.Modes.{hop_latency}
+use Rattle.router_moves.specs.Items.{HasGone, IsBegun}
 use Rattle.router_moves.specs.Moves.{HasServedBelow, TurnsUp}
 use Rattle.router_node.specs.Stages.{IsServed, IsServedAs, Moves, WentDown}
 use Rattle.router_moves.specs.declared.items.Back.{Back}
@@ -64,7 +65,7 @@ went_down frame tokens known more w d h at same late gone =
     }
 
 -- the memory was called, and the response turned up
-pub served_as : (frame : Frame Plan) (tokens : TableId) (known : List (Entry Content)) (latency : ℕ) (h : PassedOn) (b : BegunBelow) (back : Back) (r : RouterResponse) (rest : Rest) → latency ≡ latency_of frame.world h.below → HasServedBelow frame tokens latency h b known back → TurnsUp frame tokens known h back r rest
+pub served_as : (frame : Frame Plan) (tokens : TableId) (known : List (Entry Content)) (latency : ℕ) (h : PassedOn) (b : BegunBelow) (back : Back) (r : RouterResponse) (rest : Rest) → latency ≡ hop_latency frame.world h.below → HasServedBelow frame tokens latency h b known back → TurnsUp frame tokens known h back r rest
     → IsServedAs frame known h b r
 served_as frame tokens known latency h b back r rest is served turns =
     record { hop = turns.at; txn = turns.txn; made = served.made; due = turns.due ∙ (served.at ∙ ap (λ (n : ℕ). later b.at n) is) }
@@ -79,7 +80,7 @@ came_back frame known d h b (Up r (Some rest)) txn above below went is = (
     time = b.at;
     went = went;
     made = subst (λ (x : _). FindsAt (Known frame.world.platform known) (IsAccess x) b.at) txn is.made;
-    due = is.due ∙ ap (λ (o : ℕ). later b.at (latency_of frame.world o)) below;
+    due = is.due ∙ ap (λ (o : ℕ). later b.at (hop_latency frame.world o)) below;
   },
 )
 came_back frame known d h b (Up r None) txn above below went is = absurd is

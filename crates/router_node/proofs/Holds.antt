@@ -20,7 +20,7 @@ use Rattle.route_plan.specs.Valid.{hop_count}
 use Rattle.plat_net.specs.Places.{LeadsTo}
 use Rattle.plat_net.proofs.Forwarding.{latency_at, latency_by}
 use Rattle.router_node.specs.Finds.{IsFound}
-use Rattle.router_moves.specs.Items.{latency_of}
+use Rattle.node_hops.specs.Modes.{hop_latency}
 use Rattle.router_node.specs.Node.{IsRouter, IsStray, left, router_latency, row_latency, stage_of}
 use Rattle.router_node.specs.Stages.{IsSettled, IsStage, IsUp}
 use Rattle.router_moves.specs.Turns.{HasTurned}
@@ -106,14 +106,14 @@ module _ (frame : Frame Plan) (tokens : TableId) (known more : List (Entry Conte
   router_more r is = keeps r r refl is (all_more r.held.items is.held) is.few is.room (stray_more r.stray is.stray)
 
 -- the latency of a router is that of the hops to it
-pub latency_to : (p : Plan) (hop router : ℕ) → LeadsTo p.platform hop (Router router) → router_latency p router ≡ latency_of p hop
+pub latency_to : (p : Plan) (hop router : ℕ) → LeadsTo p.platform hop (Router router) → router_latency p router ≡ hop_latency p hop
 latency_to p hop router leads = sym (go (slice_get (ends_of p.platform) hop) refl leads)
   where
     by : (o : Option RouterRow) → (to_router Accept o).latency ≡ row_latency o
     by None = refl
     by (Some row) = refl
 
-    go : (o : Option HopEnds) → slice_get (ends_of p.platform) hop ≡ o → IsSomeAnd o (λ (e : HopEnds). e.down ≡ Router router) → latency_of p hop ≡ router_latency p router
+    go : (o : Option HopEnds) → slice_get (ends_of p.platform) hop ≡ o → IsSomeAnd o (λ (e : HopEnds). e.down ≡ Router router) → hop_latency p hop ≡ router_latency p router
     go None at l = absurd l
     go (Some e) at l = latency_at p.platform hop e at ∙ (ap (latency_by p.platform) l ∙ by (slice_get p.platform.routers router))
 

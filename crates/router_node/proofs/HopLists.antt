@@ -1,82 +1,27 @@
--- The hops that lead to a router, and those of its windows.
-use Rattle.std.proofs.Common.{◌≡◌, ℕ, zero, suc, ◌+◌, ◌*◌, ◌<◌, ◌≤◌, Bool, true, false, List, [], ◌∷◌, ◌++◌, length, take, get_or, sum_by, cond, Option, Some, None, refl, sym, ap, subst, ◌∙◌, length-append, arith}
+-- The hops of the windows of a router, and a new router.
+use Rattle.std.proofs.Common.{◌≡◌, ℕ, zero, suc, ◌+◌, ◌*◌, ◌<◌, ◌≤◌, List, [], ◌∷◌, ◌++◌, length, take, get_or, sum_by, Option, Some, None, refl, sym, ap, subst, ◌∙◌, arith}
 use Rattle.std.specs.List.{AllByRecursion, range_with_len}
-use Rattle.std.specs.Prelude.{IfSome, IsSomeAnd, slice_get}
+use Rattle.std.specs.Prelude.{IfSome, slice_get}
 use Rattle.std.specs.VecDeque.{deque_capacity}
-use Rattle.std.proofs.lemmas.Bool.{eqb-true}
 use Rattle.std.proofs.lemmas.List.Sums.{sum_by_more_le}
 use Rattle.std.proofs.lemmas.Option.{get_or_from_slice_get, slice_get_within}
 use Rattle.atomic_table.specs.Seated.{TableId}
 use Rattle.one_history.specs.declared.view.Frame.{Frame}
-use Rattle.tlm_model.specs.declared.platform.Platform.{Platform}
 use Rattle.tlm_model.specs.declared.platform.RouterRow.{RouterRow}
-use Rattle.tlm_model.specs.declared.platform.Target.{Target}
-use Rattle.tlm_model.specs.declared.platform.Target.TheVariants.{Memory, Router}
+use Rattle.tlm_model.specs.declared.platform.Target.TheVariants.{Router}
 use Rattle.tlm_model.specs.Plan.{Plan}
 use Rattle.tlm_model.specs.Route.{window_hop}
-use Rattle.route_plan.specs.declared.ends.HopEnds.{HopEnds}
-use Rattle.route_plan.specs.Routes.{ends_of}
 use Rattle.route_plan.specs.Valid.{hop_count}
-use Rattle.plat_net.specs.Places.{LeadsTo}
 use Rattle.router_node.specs.Finds.{IsHopAbove, IsHopBelow}
-use Rattle.router_node.specs.Hops.{IsNew, ends_lead, hops_below, hops_to, is_router, leads_to, row_lanes, row_windows, windows_of}
+use Rattle.node_hops.specs.Hops.{hops_to}
+use Rattle.node_hops.proofs.HopLists.{hops_lead}
+use Rattle.router_node.specs.Hops.{IsNew, row_lanes, row_windows, windows_of}
 use Rattle.router_moves.specs.Items.{is_accepting}
 use Rattle.router_node.specs.Node.{IsStray, router_latency}
 use Rattle.router_node.specs.Stages.{IsStage}
 use Rattle.router_node.specs.declared.finds.Found.{Found}
 use Rattle.router_node.specs.declared.node.RouterNode.{RouterNode}
 use Rattle.router_node.specs.declared.stage.Stage.{Stage}
-
--- one more hop
-pub hops_next : (p : Platform) (router n : ℕ) → hops_below p router (n + 1) ≡ hops_below p router n ++ cond (leads_to p n router) (n ∷ []) []
-hops_next p router n = ap (hops_below p router) (one_on n)
-  where
-    one_on : (n : ℕ) → n + 1 ≡ suc n
-    one_on n = omega arith
-
--- after the last one there are all
-pub hops_whole : (p : Platform) (router n : ℕ) → n ≤ hop_count p → (n < hop_count p → ⊥) → hops_below p router n ≡ hops_to p router
-hops_whole p router n below past = ap (hops_below p router) (same n (hop_count p) below past)
-  where
-    same : (n m : ℕ) → n ≤ m → (n < m → ⊥) → n ≡ m
-    same n m below past = omega (arith, below, past)
-
--- a hop that leads there is one to it
-lead : (p : Platform) (hop router : ℕ) → leads_to p hop router ≡ true → LeadsTo p hop (Router router)
-lead p hop router q = go (slice_get (ends_of p) hop) q
-  where
-    by : (to : Target) → is_router to router ≡ true → to ≡ Router router
-    by (Router r) q = ap Router (eqb-true r router q)
-    by (Memory m) q = cc
-
-    go : (o : Option HopEnds) → ends_lead o router ≡ true → IsSomeAnd o (λ (e : HopEnds). e.down ≡ Router router)
-    go None q = cc
-    go (Some e) q = by e.down q
-
-all_append : {A : Type 0} (P : A → Type 0) (xs ys : List A) → AllByRecursion P xs → AllByRecursion P ys → AllByRecursion P (xs ++ ys)
-all_append P [] ys a b = b
-all_append P (x ∷ xs) ys a b = (a.0, all_append P xs ys a.1 b)
-
-pub hops_lead : (p : Plan) (router n : ℕ) → n ≤ hop_count p.platform → AllByRecursion (λ (h : ℕ). IsHopAbove p router h) (hops_below p.platform router n)
-hops_lead p router zero below = tt
-hops_lead p router (suc n) below = all_append (λ (h : ℕ). IsHopAbove p router h) (hops_below p.platform router n) (cond (leads_to p.platform n router) (n ∷ []) []) (hops_lead p router n (omega (arith, below))) (one (leads_to p.platform n router) refl)
-  where
-    one : (b : Bool) → leads_to p.platform n router ≡ b → AllByRecursion (λ (h : ℕ). IsHopAbove p router h) (cond b (n ∷ []) [])
-    one true q = (record { there = omega (arith, below); leads = lead p.platform n router q }, tt)
-    one false q = tt
-
--- there are no more than hops
-pub few_lead : (p : Platform) (router n : ℕ) → length (hops_below p router n) ≤ n
-few_lead p router zero = omega arith
-few_lead p router (suc n) =
-    let rest = few_lead p router n in
-    let l = length-append (hops_below p router n) (cond (leads_to p n router) (n ∷ []) []) in
-    let o = one (leads_to p n router) n in
-    omega (arith, rest, l, o)
-  where
-    one : (b : Bool) (n : ℕ) → length (cond b (n ∷ []) []) ≤ 1
-    one true n = omega arith
-    one false n = omega arith
 
 -- one more number
 pub range_more : (first k : ℕ) → range_with_len first (k + 1) ≡ range_with_len first k ++ (first + k) ∷ []
@@ -113,11 +58,11 @@ windows_are p r = go (slice_get p.platform.routers r) refl
 
 -- a router with all of its hops, that holds nothing, is a new one
 pub new_is : (frame : Frame Plan) (tokens : TableId) (p : Plan) (r : RouterNode) → p ≡ frame.world → r.router < length frame.world.platform.routers → r.first ≡ window_hop p.platform r.router 0 → r.accepts ≡ is_accepting p r.router → r.latency ≡ router_latency p r.router
-    → r.above.items ≡ hops_to p.platform r.router → r.below.items ≡ windows_of p.platform r.router → r.held.items ≡ [] → r.room ≡ row_lanes (slice_get p.platform.routers r.router) * length r.above.items → r.room ≤ deque_capacity r.held → r.stray ≡ None
+    → r.above.items ≡ hops_to p.platform (Router r.router) → r.below.items ≡ windows_of p.platform r.router → r.held.items ≡ [] → r.room ≡ row_lanes (slice_get p.platform.routers r.router) * length r.above.items → r.room ≤ deque_capacity r.held → r.stray ≡ None
     → IsNew frame tokens r.router r
 new_is frame tokens p r world there first accepts latency above below empty lanes room stray =
     let q = frame.world in
-    let above_are : r.above.items ≡ hops_to q.platform r.router = subst (λ (s : Plan). r.above.items ≡ hops_to s.platform r.router) world above in
+    let above_are : r.above.items ≡ hops_to q.platform (Router r.router) = subst (λ (s : Plan). r.above.items ≡ hops_to s.platform (Router r.router)) world above in
     let below_are : r.below.items ≡ windows_of q.platform r.router = subst (λ (s : Plan). r.below.items ≡ windows_of s.platform r.router) world below in
     let none : length r.held.items ≡ 0 = ap (λ (l : List Stage). length l) empty in
     record {
@@ -132,7 +77,7 @@ new_is frame tokens p r world there first accepts latency above below empty lane
         first = subst (λ (s : Plan). r.first ≡ window_hop s.platform r.router 0) world first;
         accepts = subst (λ (s : Plan). r.accepts ≡ is_accepting s r.router) world accepts;
         latency = subst (λ (s : Plan). r.latency ≡ router_latency s r.router) world latency;
-        above = subst (λ (l : List ℕ). AllByRecursion (λ (h : ℕ). IsHopAbove q r.router h) l) (sym above_are) (hops_lead q r.router (hop_count q.platform) (same (hop_count q.platform)));
+        above = subst (λ (l : List ℕ). AllByRecursion (λ (h : ℕ). IsHopAbove q r.router h) l) (sym above_are) (hops_lead q.platform (Router r.router) (λ (h : ℕ). IsHopAbove q r.router h) (λ h there leads. record { there = there; leads = leads }) (hop_count q.platform) (same (hop_count q.platform)));
         below = subst (λ (l : List ℕ). AllByRecursion (λ (h : ℕ). IsHopBelow q h) l) (sym below_are) (windows_are q r.router);
         held = subst (λ (l : List Stage). AllByRecursion (IsStage frame tokens known) l) (sym empty) tt;
         few = omega (arith, none);

@@ -1,5 +1,5 @@
--- The hops that lead to a router, and those of its windows.
-use Rattle.std.specs.Prelude.{ℕ, zero, suc, ◌*◌, ◌≡◌, ◌++◌, ◌==◌, Bool, false, List, [], ◌∷◌, length, Option, Some, None, if◌then◌else◌, slice_get}
+-- The hops of the windows of a router, and a new router.
+use Rattle.std.specs.Prelude.{ℕ, ◌*◌, ◌≡◌, List, [], length, Option, Some, None, slice_get}
 use Rattle.std.specs.List.{range_with_len}
 use Rattle.atomic_table.specs.Seated.{TableId}
 use Rattle.one_history.specs.declared.entry.Entry.{Entry}
@@ -7,37 +7,12 @@ use Rattle.one_history.specs.declared.view.Frame.{Frame}
 use Rattle.tlm_types.specs.declared.entry.Content.{Content}
 use Rattle.tlm_model.specs.declared.platform.Platform.{Platform}
 use Rattle.tlm_model.specs.declared.platform.RouterRow.{RouterRow}
-use Rattle.tlm_model.specs.declared.platform.Target.{Target}
-use Rattle.tlm_model.specs.declared.platform.Target.TheVariants.{Memory, Router}
+use Rattle.tlm_model.specs.declared.platform.Target.TheVariants.{Router}
 use Rattle.tlm_model.specs.Plan.{Plan}
 use Rattle.tlm_model.specs.Route.{window_hop}
-use Rattle.route_plan.specs.declared.ends.HopEnds.{HopEnds}
-use Rattle.route_plan.specs.Routes.{ends_of}
-use Rattle.route_plan.specs.Valid.{hop_count}
+use Rattle.node_hops.specs.Hops.{hops_to}
 use Rattle.router_node.specs.Node.{IsRouter}
 use Rattle.router_node.specs.declared.node.RouterNode.{RouterNode}
-
--- whether a component is this router
-abbrev pub is_router : Target → ℕ → Bool
-is_router (Memory m) router = false
-is_router (Router r) router = r == router
-
-abbrev pub ends_lead : Option HopEnds → ℕ → Bool
-ends_lead None router = false
-ends_lead (Some e) router = is_router e.down router
-
--- whether a hop leads to this router
-abbrev pub leads_to : Platform → ℕ → ℕ → Bool
-leads_to p hop router = ends_lead (slice_get (ends_of p) hop) router
-
--- the hops below a number that lead to a router, in order
-abbrev pub hops_below : Platform → ℕ → ℕ → List ℕ
-hops_below p router zero = []
-hops_below p router (suc n) = hops_below p router n ++ (if leads_to p n router then n ∷ [] else [])
-
--- all of them
-abbrev pub hops_to : Platform → ℕ → List ℕ
-hops_to p router = hops_below p router (hop_count p)
 
 abbrev pub row_lanes : Option RouterRow → ℕ
 row_lanes None = 0
@@ -55,7 +30,7 @@ windows_of p router = range_with_len (window_hop p router 0) (row_windows (slice
 -- the lanes of all hops that lead to it.
 pub record IsNew (frame : Frame Plan) (tokens : TableId) (router : ℕ) (r : RouterNode) : Type 0 where
   pub router_is : r.router ≡ router
-  pub above_are : r.above.items ≡ hops_to frame.world.platform router
+  pub above_are : r.above.items ≡ hops_to frame.world.platform (Router router)
   pub below_are : r.below.items ≡ windows_of frame.world.platform router
   pub empty : r.held.items ≡ []
   pub room : r.room ≡ row_lanes (slice_get frame.world.platform.routers router) * length r.above.items

@@ -16,7 +16,8 @@ use Rattle.cargo_model.specs.Known.{Known}
 use Rattle.route_plan.specs.Valid.{hop_count}
 use Rattle.plat_net.specs.HopCalls.{CanRespond}
 use Rattle.plat_net.specs.Places.{hop_place}
-use Rattle.router_moves.specs.Items.{IsBegun, IsDown, IsHolding, IsRest, latency_of}
+use Rattle.node_hops.specs.Modes.{hop_latency}
+use Rattle.router_moves.specs.Items.{IsBegun, IsDown, IsHolding, IsRest}
 use Rattle.router_moves.specs.Moves.{HasBegunOn}
 use Rattle.router_moves.specs.declared.items.BegunBelow.{BegunBelow}
 use Rattle.router_moves.specs.declared.items.Down.{Down as ToPass}
@@ -123,7 +124,7 @@ pub record CameBack (frame : Frame Plan) (known : List (Entry Content)) (d : ToP
   pub time : ℕ
   pub went : WentDown frame known d time
   pub made : FindsAt (Known frame.world.platform known) (IsAccess d.held.txn) time
-  pub due : r.due ≡ later time (latency_of frame.world d.held.below)
+  pub due : r.due ≡ later time (hop_latency frame.world d.held.below)
 
 -- What a step makes of a transaction that it moves: one that has ended is forgotten, a response was sent, a request is below or back.
 abbrev pub Moves : Frame Plan → List (Entry Content) → Step → Stage → Option Stage → Type 0
@@ -157,7 +158,7 @@ pub record IsServedAs (frame : Frame Plan) (known : List (Entry Content)) (h : P
   pub hop : r.hop ≡ h.above
   pub txn : r.cargo.baton.txn ≡ h.txn
   pub made : FindsAt (Known frame.world.platform known) (IsAccess h.txn) b.at
-  pub due : r.due ≡ later b.at (latency_of frame.world h.below)
+  pub due : r.due ≡ later b.at (hop_latency frame.world h.below)
 
 abbrev pub IsServed : Frame Plan → List (Entry Content) → PassedOn → BegunBelow → Stage → Type 0
 IsServed frame known h b (Up r (Some rest)) = IsServedAs frame known h b r

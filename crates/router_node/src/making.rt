@@ -1,72 +1,20 @@
 // A new router.
-ghost use Rattle.std.specs.Prelude.{◌≡◌, ◌+◌, ◌^◌, ◌<◌, ◌≤◌, [], ◌∷◌, ◌++◌, length, IfOk, OnOk, if◌then◌else◌, slice_get};
+ghost use Rattle.std.specs.Prelude.{◌≡◌, ◌+◌, ◌^◌, ◌<◌, ◌≤◌, length, IfOk, slice_get};
 ghost use Rattle.std.specs.List.{range_with_len};
 ghost use Rattle.tlm_model.specs.Route.{window_hop};
-ghost use Rattle.router_node.specs.Hops.{IsNew, hops_to, is_router, leads_to, row_lanes, row_windows};
-ghost use Rattle.router_moves.specs.Items.{accepts, is_accepting};
+ghost use Rattle.router_node.specs.Hops.{IsNew, row_lanes, row_windows};
+ghost use Rattle.router_moves.specs.Items.{is_accepting};
 ghost use Rattle.router_node.specs.Node.{router_latency};
 
 use crate::node::RouterNode;
+use node_hops::{accepts, hops_to};
 use plat_net::{Net, TlmLaw};
 use route_plan::Plan;
 use shared_object::Naming;
 use std::alloc::{AllocError, Global};
 use std::collections::VecDeque;
 use tlm_model::Target;
-use tlm_types::{Memory, Ps, ReqMode};
-
-// Whether a component is this router.
-fn is_router(to: Target, router: u32) -> bool
-    ensures { result ≡ is_router to router }
-{
-    match to {
-        Target::Memory(_) => false,
-        Target::Router(number) => number == router,
-    }
-}
-
-// Whether END_REQ is a call of its own.
-fn accepts(mode: ReqMode) -> bool
-    ensures { result ≡ accepts mode }
-{
-    matches!(mode, ReqMode::Accept)
-}
-
-// Whether a hop leads to this router.
-fn leads_to(plan: &Plan, hop: u32, router: u32) -> bool
-    ensures { result ≡ leads_to plan.now.platform hop router }
-{
-    match plan.hop_ends(hop) {
-        Some(ends) => is_router(ends.down, router),
-        None => false,
-    }
-}
-
-// Adds the hop where it leads to this router.
-fn push_leading(hops: &mut Vec<u32>, plan: &Plan, hop: u32, router: u32) -> Result<(), AllocError>
-    ensures { OnOk result (hops.new.items ≡ hops.old.items ++ (if leads_to plan.now.platform hop router then hop ∷ [] else [])) }
-{
-    if !leads_to(plan, hop, router) {
-        return Ok(());
-    }
-    hops.push(hop)?;
-    Ok(())
-}
-
-// The hops that lead to a router, in order.
-fn hops_to(alloc: Global, plan: &Plan, router: u32) -> Result<Vec<u32>, AllocError>
-    ensures are { IfOk result (λ hops. hops.items ≡ hops_to plan.now.platform router) }
-    ensures few { IfOk result (λ hops. length hops.items ≤ 288) }
-{
-    let _ = plan.platform();
-    let mut hops = Vec::new(alloc);
-    let mut hop = 0u32;
-    'hops: while plan.hop_ends(hop).is_some() {
-        push_leading(&mut hops, plan, hop, router)?;
-        hop += 1;
-    }
-    Ok(hops)
-}
+use tlm_types::{Memory, Ps};
 
 // The hop of a router's first window.
 fn first_window(plan: &Plan, router: u32) -> u32
@@ -131,7 +79,7 @@ impl RouterNode {
     {
         let plan = net.plan();
         let (accepts, latency, lanes) = traits_of(plan, router);
-        let above = hops_to(alloc, plan, router)?;
+        let above = hops_to(alloc, plan, Target::Router(router))?;
         let first = first_window(plan, router);
         let count = count_of(plan, router);
         let below = hops_from(alloc, first, count)?;

@@ -10,7 +10,8 @@ ghost use Rattle.cargo_model.specs.Known.{Known};
 ghost use Rattle.route_plan.specs.Shape.{IsShape};
 ghost use Rattle.route_plan.specs.Valid.{hop_count};
 ghost use Rattle.plat_net.specs.Places.{LeadsTo};
-ghost use Rattle.router_moves.specs.Items.{HasGone, IsBegun, IsDown, latency_of};
+ghost use Rattle.node_hops.specs.Modes.{hop_latency};
+ghost use Rattle.router_moves.specs.Items.{HasGone, IsBegun, IsDown};
 ghost use Rattle.router_moves.specs.Moves.{HasEndedAbove};
 ghost use Rattle.router_node.specs.Stages.{HasEnded, HasLookedForEnd, HasSettled, HasStepped, IsAway, IsServed, IsSettled, IsStage, IsUp, WasReleased, is_about};
 ghost use Rattle.router_node.specs.declared.stage.Stage.TheVariants as Stages;
@@ -228,7 +229,7 @@ fn memory_behind<N: Naming<Plan, TlmLaw>>(net: &Net<N>, hop: u32) -> Option<(u32
     ensures shape { IsShape N.frame.world.platform }
     ensures there { IfSome result (λ m. m.0 < length N.frame.world.platform.memories) }
     ensures memory { IfSome result (λ m. LeadsTo N.frame.world.platform hop (targets.Memory m.0)) }
-    ensures latency { IfSome result (λ m. m.1 ≡ latency_of N.frame.world hop) }
+    ensures latency { IfSome result (λ m. m.1 ≡ hop_latency N.frame.world hop) }
     ensures router { IfNone result ((r : ℕ) × LeadsTo N.frame.world.platform hop (targets.Router r)) }
 {
     let platform = net.plan().platform();

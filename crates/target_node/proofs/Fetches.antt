@@ -41,7 +41,8 @@ use Rattle.plat_net.specs.Places.{LeadsTo, hop_place}
 use Rattle.plat_net.proofs.Given.{among_at}
 use Rattle.plat_net.proofs.NumberLemmas.{hop_there}
 use Rattle.plat_net.proofs.Targets.{ends_stop}
-use Rattle.target_node.specs.Items.{IsFetchedWith, IsOwedEnd, IsRequest, IsWaiting, accepts, is_accepting, row_accepts}
+use Rattle.node_hops.specs.Modes.{accepts}
+use Rattle.target_node.specs.Items.{IsFetchedWith, IsOwedEnd, IsRequest, IsWaiting, is_accepting, row_accepts}
 use Rattle.target_node.specs.declared.items.MemoryRequest.{MemoryRequest}
 
 -- what holds of what came

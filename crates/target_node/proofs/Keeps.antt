@@ -18,7 +18,8 @@ use Rattle.cargo_model.specs.Travel.{Ready}
 use Rattle.cargo_model.proofs.More.{goes_up_more, is_fetched_more}
 use Rattle.route_plan.specs.Valid.{hop_count}
 use Rattle.plat_net.specs.Places.{LeadsTo, hop_place}
-use Rattle.target_node.specs.Items.{HasServedAt, IsWaiting, latency_of}
+use Rattle.node_hops.specs.Modes.{hop_latency}
+use Rattle.target_node.specs.Items.{HasServedAt, IsWaiting}
 use Rattle.target_node.specs.Node.{IsQueued, IsTarget, IsToSend, row_latency}
 use Rattle.target_node.specs.declared.items.MemoryRequest.{MemoryRequest}
 use Rattle.target_node.specs.declared.items.MemoryResponse.{MemoryResponse}
@@ -106,7 +107,7 @@ module _ (frame : Frame Plan) (tokens : TableId) (known back : List (Entry Conte
   target_more t is = record { memory = is.memory; hops = is.hops; accepts = is.accepts; latency = is.latency; queue = queued_more t.memory t.latency t.queue.entries is.queue; held = held_more t.held is.held }
 
 -- the latency of a memory is that of its hops
-pub latency_there : (frame : Frame Plan) (tokens : TableId) (t : TargetNode) (known : List (Entry Content)) → IsTarget frame tokens t known → (r : MemoryRequest) → IsWaiting frame tokens t.memory known r → t.latency ≡ latency_of frame.world r.hop
+pub latency_there : (frame : Frame Plan) (tokens : TableId) (t : TargetNode) (known : List (Entry Content)) → IsTarget frame tokens t known → (r : MemoryRequest) → IsWaiting frame tokens t.memory known r → t.latency ≡ hop_latency frame.world r.hop
 latency_there frame tokens t known is r waits =
     let p = frame.world in
     let q = waits.request in

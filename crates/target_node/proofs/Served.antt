@@ -39,7 +39,8 @@ use Rattle.plat_net.specs.Objects.{frame_of}
 use Rattle.plat_net.specs.Places.{LeadsTo, hop_place}
 use Rattle.plat_net.proofs.Given.{ends_there, took}
 use Rattle.plat_net.proofs.Targets.{ends_stop}
-use Rattle.target_node.specs.Items.{HasServedAt, IsOwedEnd, IsWaiting, latency_of}
+use Rattle.node_hops.specs.Modes.{hop_latency}
+use Rattle.target_node.specs.Items.{HasServedAt, IsOwedEnd, IsWaiting}
 use Rattle.target_node.specs.declared.items.MemoryRequest.{MemoryRequest}
 use Rattle.target_node.specs.declared.items.MemoryResponse.{MemoryResponse}
 
@@ -88,13 +89,13 @@ module _ (frame : Frame Plan) (tokens : TableId) (memory : ℕ) (known : List (E
       }
 
   -- once a request was served, its response may be sent
-  pub has_served : (new : Cargo) (back : List (Entry Content)) (latency : ℕ) → Within known back → latency ≡ latency_of frame.world r.hop → IsServedAt frame tokens memory r.cargo r.at waits.pass waits.hop waits.request.fetched.down.asked.access new back
+  pub has_served : (new : Cargo) (back : List (Entry Content)) (latency : ℕ) → Within known back → latency ≡ hop_latency frame.world r.hop → IsServedAt frame tokens memory r.cargo r.at waits.pass waits.hop waits.request.fetched.down.asked.access new back
       → (due : ℕ) → due ≡ later r.at latency → HasServedAt frame tokens latency r back (record { hop = r.hop; leg = r.leg; due = due; cargo = new })
   has_served new back latency w is s due_at due_is =
       let served = s.served in
       let txn : new.baton.txn ≡ r.cargo.baton.txn = ap (λ (c : Cargo). c.baton.txn) served.same in
       let d = served.made in
-      let due : later r.at ((world_of frame.world).hop (hop_at waits.pass waits.hop)).latency ≡ later r.at latency = ap (λ (n : ℕ). later r.at n) (ap (λ (h : ℕ). latency_of frame.world h) waits.request.here ∙ sym is) in
+      let due : later r.at ((world_of frame.world).hop (hop_at waits.pass waits.hop)).latency ≡ later r.at latency = ap (λ (n : ℕ). later r.at n) (ap (λ (h : ℕ). hop_latency frame.world h) waits.request.here ∙ sym is) in
       record {
         hop = refl;
         due = due_is;

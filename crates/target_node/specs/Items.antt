@@ -6,7 +6,6 @@ use Rattle.one_history.specs.declared.view.Frame.{Frame}
 use Rattle.one_history.specs.declared.view.View.{View}
 use Rattle.tlm_types.specs.declared.entry.Content.{Content}
 use Rattle.tlm_types.specs.declared.words.Phase.TheVariants.{BeginReq, BeginResp, EndReq}
-use Rattle.tlm_types.specs.declared.words.ReqMode.{ReqMode}
 use Rattle.tlm_types.specs.declared.words.ReqMode.TheVariants.{Accept}
 use Rattle.tlm_types.specs.declared.words.TlmSync.{TlmSync}
 use Rattle.tlm_types.specs.declared.words.TlmSync.TheVariants.{Accepted}
@@ -20,7 +19,7 @@ use Rattle.token_book.specs.Ticket.{IsTicket}
 use Rattle.token_book.specs.declared.ticket.Ticket.{Ticket}
 use Rattle.flow_model.specs.World.{Passage, hop_at, row_of}
 use Rattle.flow_model.specs.Events.{Finds, FindsAt, IsAccess, IsCall}
-use Rattle.flow_model.specs.Platform.{hop_in, world_of}
+use Rattle.flow_model.specs.Platform.{world_of}
 use Rattle.cargo_model.specs.Called.{IsAnswerIn}
 use Rattle.cargo_model.specs.Counts.{responses}
 use Rattle.cargo_model.specs.Known.{Known}
@@ -28,14 +27,10 @@ use Rattle.cargo_model.specs.Travel.{IsFetched}
 use Rattle.cargo_net.specs.Hops.{IsLegOfLane}
 use Rattle.plat_net.specs.HopCalls.{CanRespond}
 use Rattle.plat_net.specs.Places.{LeadsTo, hop_place}
+use Rattle.node_hops.specs.Modes.{accepts}
 use Rattle.target_node.specs.declared.items.FromHop.{FromHop}
 use Rattle.target_node.specs.declared.items.MemoryRequest.{MemoryRequest}
 use Rattle.target_node.specs.declared.items.MemoryResponse.{MemoryResponse}
-
--- the mode of a memory is that BEGIN_REQ is accepted and END_REQ is a call of its own
-abbrev pub accepts : ReqMode → Bool
-accepts Accept = true
-accepts mode = false
 
 abbrev pub row_accepts : Option MemoryRow → Bool
 row_accepts None = false
@@ -43,10 +38,6 @@ row_accepts (Some row) = accepts row.reply
 
 abbrev pub is_accepting : Plan → ℕ → Bool
 is_accepting p memory = row_accepts (slice_get p.platform.memories memory)
-
--- the latency of the component behind a hop
-abbrev pub latency_of : Plan → ℕ → ℕ
-latency_of p hop = (hop_in p.platform hop).latency
 
 module _ (frame : Frame Plan) (tokens : TableId) (memory : ℕ) (known : List (Entry Content)) where
   -- A request was fetched from a hop to this memory: an access on its way, whose BEGIN_REQ is known with its time, and the leg of its lane.

@@ -8,7 +8,8 @@ ghost use Rattle.tlm_model.specs.declared.platform.Target.TheVariants.{Memory};
 ghost use Rattle.route_plan.specs.Valid.{hop_count};
 ghost use Rattle.plat_net.specs.HopCalls.{CanRespond};
 ghost use Rattle.plat_net.specs.Places.{LeadsTo, hop_place, memory_place};
-ghost use Rattle.target_node.specs.Items.{HasResponded, HasServedAt, IsFetchedAs, IsOwedEnd, IsWaiting, fetch_look, is_accepting, latency_of};
+ghost use Rattle.node_hops.specs.Modes.{hop_latency};
+ghost use Rattle.target_node.specs.Items.{HasResponded, HasServedAt, IsFetchedAs, IsOwedEnd, IsWaiting, fetch_look, is_accepting};
 
 use crate::items::{FromHop, MemoryRequest, MemoryResponse};
 use cargo_net::{Answered, FetchedRequest};
@@ -134,7 +135,7 @@ pub fn serve<N: Naming<Plan, TlmLaw>, R: Wait>(
     request: MemoryRequest,
 ) -> (MemoryResponse, PlatNote)
     requires memory { memory < length N.frame.world.platform.memories }
-    requires latency { latency ≡ latency_of N.frame.world request.hop }
+    requires latency { latency ≡ hop_latency N.frame.world request.hop }
     requires note { IsNote N.table note }
     requires waits { IsWaiting N.frame N.tokens memory note.knows.known request }
     ensures note { IsNote N.table result.1 }
