@@ -15,20 +15,7 @@ const MOST_BYTES: usize = 4_096;
 
 const MOST_TIMES: u64 = 100_000;
 
-// The value of a digit in a base; letters are of either case.
-fn digit(base: u32, byte: u8) -> Option<u8>
-    requires least { 2 ≤ base }
-    requires most { base ≤ 36 }
-    ensures value { MatchOption result (is_digit byte base ≡ false) (λ d. (is_digit byte base ≡ true) × (d ≡ digit_value byte)) }
-    ensures below { IfSome result (λ d. d < base) }
-{
-    match (byte as char).to_digit(base) {
-        Some(value) => Some(value as u8),
-        None => None,
-    }
-}
-
-fn next_total(base: u32, total: u64, digit: u8) -> Option<u64>
+fn next_total(base: u32, total: u64, digit: u32) -> Option<u64>
     ensures { SomeIff result (total * base + digit < 2 ^ 64) (total * base + digit) }
 {
     total.checked_mul(base as u64)?.checked_add(digit as u64)
@@ -45,10 +32,10 @@ fn number_in(base: u32, digits: &[u8]) -> Result<u64, ScriptCode>
     }
     let mut total = 0;
     for byte in digits {
-        let Some(value) = digit(base, *byte) else {
+        let Some(digit) = (*byte as char).to_digit(base) else {
             return Err(ScriptCode::BadNumber);
         };
-        let Some(next) = next_total(base, total, value) else {
+        let Some(next) = next_total(base, total, digit) else {
             return Err(ScriptCode::BadNumber);
         };
         total = next;
@@ -91,20 +78,14 @@ pub fn span(word: &[u8]) -> Result<u64, ScriptCode>
 pub fn times(word: &[u8]) -> Result<u32, ScriptCode>
     ensures { result ≡ times_of word.now }
 {
-    let times = number(word)?;
-    if times < 1 || MOST_TIMES < times {
-        return Err(ScriptCode::BadNumber);
-    }
+    let times = within(ScriptCode::BadNumber, 1, MOST_TIMES, number(word)?)?;
     Ok(times as u32)
 }
 
 pub fn addend(word: &[u8]) -> Result<u32, ScriptCode>
     ensures { result ≡ addend_of word.now }
 {
-    let addend = number(word)?;
-    if (u32::MAX as u64) < addend {
-        return Err(ScriptCode::BadNumber);
-    }
+    let addend = within(ScriptCode::BadNumber, 0, u32::MAX as u64, number(word)?)?;
     Ok(addend as u32)
 }
 
@@ -171,19 +152,13 @@ fn hex(alloc: Global, word: &[u8]) -> Result<Bytes, LineFault>
     bytes(alloc, word)
 }
 
-fn is_enable(byte: u8) -> bool
-    ensures { result ≡ is_enable byte }
-{
-    byte == 0 || byte == 255
-}
-
 // It looks at every byte, as `all_hex` does.
 fn only_enables(bytes: &[u8]) -> bool
     ensures { result ≡ list_all is_enable bytes.now }
 {
     let mut only = true;
     for byte in bytes {
-        only &= is_enable(*byte);
+        only &= *byte == 0 || *byte == 255;
     }
     only
 }
