@@ -2,7 +2,7 @@
 ghost use Rattle.std.specs.Prelude.{◌≡◌, ℕ, ◌<◌, ◌≤◌, [], not, length, All, IfOk};
 ghost use Rattle.std.specs.List.{list_all, list_any};
 ghost use Rattle.tlm_types.specs.declared.entry.What.TheVariants.{Call};
-ghost use Rattle.tlm_types.specs.Log.{entry_at};
+ghost use Rattle.tlm_types.specs.Entries.{entry_at};
 ghost use Rattle.token_book.specs.Account.{out_of};
 ghost use Rattle.flow_model.specs.Events.{Event, entries};
 ghost use Rattle.numbered_log.specs.Logged.{event_of, with_event};
@@ -13,7 +13,8 @@ use crate::lane::{Lane, all_ended, any_leg, any_requested, any_responding};
 use numbered_log::NumberedLog;
 use std::alloc::Global;
 use std::marker::Model;
-use tlm_types::{Head, Log, Memory, ObjectNo, Phase, Ps, ReqMode, RespMode, TlmSync, TxnId, What};
+use entry_log::Log;
+use tlm_types::{Head, Memory, ObjectNo, Phase, Ps, ReqMode, RespMode, TlmSync, TxnId, What};
 use token_book::Book;
 
 /// A bound pair of sockets (clause 11.1.2) with its lanes in use, the time of the last call that ended

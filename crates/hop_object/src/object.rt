@@ -6,7 +6,7 @@ use crate::hop::Hop;
 use crate::lane::Side;
 use one_history::Sign;
 use shared_object::Object;
-use tlm_types::Log;
+use entry_log::Log;
 use token_book::Tokens;
 
 impl<T> Hop<T> {

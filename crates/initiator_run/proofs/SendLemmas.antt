@@ -10,7 +10,7 @@ use Rattle.tlm_types.specs.declared.words.ObjectNo.TheVariants.{Memory as memory
 use Rattle.tlm_types.specs.declared.words.Response.{Response}
 use Rattle.tlm_types.specs.declared.words.TxnId.{TxnId}
 use Rattle.tlm_types.specs.declared.words.Way.TheVariants.{Blocking, Debug as by_debug}
-use Rattle.tlm_types.specs.Log.{kept_of}
+use Rattle.tlm_types.specs.Entries.{kept_of}
 use Rattle.tlm_model.specs.Log.{log_bytes}
 use Rattle.tlm_model.specs.Store.{got_by, status_of, zeros}
 use Rattle.generic_payload.specs.Payload.{PayloadView}

@@ -1,12 +1,13 @@
 // A log whose entries have numbers.
 ghost use Rattle.std.specs.Prelude.{◌≡◌, ◌<◌, false, [], length, map, IfOk};
-ghost use Rattle.tlm_types.specs.Log.{entry_at, is_access};
+ghost use Rattle.tlm_types.specs.Entries.{entry_at, is_access};
 ghost use Rattle.flow_model.specs.Events.{entries};
 ghost use Rattle.numbered_log.specs.Logged.{event_of, with_event};
 
 use std::alloc::Global;
 use std::marker::Model;
-use tlm_types::{Head, Log, Memory, What};
+use entry_log::Log;
+use tlm_types::{Head, Memory, What};
 
 /// A log without accesses, and the number of each entry. Contracts see its entries with their numbers,
 /// and for how many there is room.

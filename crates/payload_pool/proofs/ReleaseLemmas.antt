@@ -8,7 +8,7 @@ use Rattle.tlm_types.specs.declared.entry.Head.{Head}
 use Rattle.tlm_types.specs.declared.entry.What.{What}
 use Rattle.tlm_types.specs.declared.entry.What.TheVariants.{Access, Granted, Invalidated, Closed, Call, Take, Acquire, Release}
 use Rattle.tlm_types.specs.declared.words.TxnId.{TxnId}
-use Rattle.tlm_types.specs.Log.{head_of, plain_of, read_at}
+use Rattle.tlm_types.specs.Entries.{head_of, plain_of, read_at}
 use Rattle.flow_model.specs.Events.{Among, Event, Finds, IsReleased, entries}
 use Rattle.payload_pool.specs.Released.{IsReleaseRead, was_release}
 

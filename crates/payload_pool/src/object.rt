@@ -3,7 +3,7 @@ use crate::call::{PoolCall, PoolReply};
 use crate::pool::{Pool, PoolMade};
 use one_history::Sign;
 use shared_object::Object;
-use tlm_types::Log;
+use entry_log::Log;
 use token_book::Tokens;
 
 impl Object for Pool {

@@ -11,7 +11,8 @@ use crate::slot::{self, Slot};
 use numbered_log::NumberedLog;
 use std::alloc::Global;
 use std::marker::Model;
-use tlm_types::{Log, Memory};
+use entry_log::Log;
+use tlm_types::Memory;
 use token_book::Book;
 
 /// How a pool is made: how many slots it has, and how many bytes each payload can hold.

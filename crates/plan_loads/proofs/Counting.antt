@@ -3,7 +3,7 @@ use Rattle.std.proofs.Common.{◌≡◌, ℕ, ◌+◌, ◌≤◌, Bool, true, fa
 use Rattle.std.specs.Int.{from_bool}
 use Rattle.std.proofs.lemmas.List.Sums.{sum_by_push}
 use Rattle.tlm_types.specs.declared.entry.Entry.{Entry}
-use Rattle.tlm_types.specs.Log.{is_access}
+use Rattle.tlm_types.specs.Entries.{is_access}
 use Rattle.plan_loads.specs.Totals.{accesses_in, is_take, takes_in}
 
 pub accesses-more : (h : List Entry) (i : ℕ) (e : Entry) → take (i + 1) h ≡ take i h ++ e ∷ [] → accesses_in (take i h) + cond (is_access e.what) 1 0 ≡ accesses_in (take (i + 1) h)

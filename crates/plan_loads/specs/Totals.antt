@@ -5,7 +5,7 @@ use Rattle.tlm_types.specs.declared.ends.EndOf.{EndOf}
 use Rattle.tlm_types.specs.declared.entry.Entry.{Entry}
 use Rattle.tlm_types.specs.declared.entry.What.{What}
 use Rattle.tlm_types.specs.declared.entry.What.TheVariants.{Take}
-use Rattle.tlm_types.specs.Log.{is_access}
+use Rattle.tlm_types.specs.Entries.{is_access}
 use Rattle.tlm_model.specs.Plan.{Plan, Initiator, initiators_of}
 use Rattle.tlm_model.specs.Requests.{numbers_in}
 use Rattle.tlm_model.specs.Rounds.{syncs_of}

@@ -1,7 +1,7 @@
 // What a run counts in all.
 ghost use Rattle.std.specs.Prelude.{◌≡◌, ◌<◌, ◌≤◌, ◌^◌, ◌++◌, Some, IfOk, OnOk, length, slice_get, string_bytes};
 ghost use Rattle.tlm_types.specs.declared.entry.Entry.{Entry};
-ghost use Rattle.tlm_types.specs.Log.{is_access};
+ghost use Rattle.tlm_types.specs.Entries.{is_access};
 ghost use Rattle.trace_print.specs.Writes.{IsPrinted};
 ghost use Rattle.plan_loads.specs.Totals.{accesses_in, counted, is_take, syncs_in, takes_in, totals_in, totals_line, transactions_in, HasSmallTotals};
 
@@ -9,7 +9,8 @@ use outside::Sink;
 use run_outcome::{LogReader, Outcome};
 use std::alloc::{AllocError, Global};
 use std::fmt::Write;
-use tlm_types::{EndOf, Log, Memory, What};
+use entry_log::Log;
+use tlm_types::{EndOf, Memory, What};
 use trace_print::PrintFault;
 
 /// What a run counts in all: the sequence numbers that its initiators took, the accesses in its history

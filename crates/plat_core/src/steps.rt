@@ -21,7 +21,8 @@ use std::alloc::Global;
 use std::marker::Model;
 use time_board::Rounds;
 use tlm_model::Rows;
-use tlm_types::{Bytes, EndOf, Log, Memory, ObjectNo};
+use entry_log::Log;
+use tlm_types::{Bytes, EndOf, Memory, ObjectNo};
 
 /// A platform with its scripts on one thread: its actors move one at a time, as its caller picks them.
 /// The actors are the initiators, the routers and the memories, numbered in this order. Contracts see

@@ -21,7 +21,7 @@ use Rattle.tlm_types.specs.declared.entry.Content.{Content}
 use Rattle.tlm_types.specs.declared.entry.Entry.{Entry}
 use Rattle.tlm_types.specs.declared.words.ObjectNo.{ObjectNo}
 use Rattle.tlm_types.specs.declared.words.ObjectNo.TheVariants.{Memory, Hop, Pool}
-use Rattle.tlm_types.specs.Log.{LogView}
+use Rattle.entry_log.specs.Log.{LogView}
 use Rattle.tlm_model.specs.History.{IsNumbered, entries_at, last_store}
 use Rattle.tlm_model.specs.Plan.{Plan, initiators_of}
 use Rattle.flow_model.specs.Events.{entries}

@@ -8,7 +8,7 @@ use Rattle.one_history.specs.Held.{Held}
 use Rattle.token_book.specs.Purse.{Purse}
 use Rattle.tlm_types.specs.declared.ends.EndOf.{EndOf}
 use Rattle.tlm_types.specs.declared.entry.Content.{Content}
-use Rattle.tlm_types.specs.Log.{LogView}
+use Rattle.entry_log.specs.Log.{LogView}
 use Rattle.tlm_model.specs.Plan.{Plan}
 use Rattle.net_end.specs.Closed.{AreHandedBack, AreLeft}
 use Rattle.net_end.specs.Leaves.{IsFinished}

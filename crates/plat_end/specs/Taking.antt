@@ -8,7 +8,7 @@ use Rattle.one_history.specs.Held.{Held}
 use Rattle.one_history.specs.Moves.{own_of}
 use Rattle.token_book.specs.Purse.{Purse, left_of}
 use Rattle.tlm_types.specs.declared.entry.Content.{Content}
-use Rattle.tlm_types.specs.Log.{LogView}
+use Rattle.entry_log.specs.Log.{LogView}
 use Rattle.tlm_model.specs.Plan.{Plan}
 use Rattle.plat_end.specs.Apart.{HaveLeftLogs}
 

@@ -14,7 +14,8 @@ use route_plan::Plan;
 use shared_object::Naming;
 use std::alloc::{AllocError, Global};
 use std::sync::Wait;
-use tlm_types::{Bytes, Log, Memory};
+use entry_log::Log;
+use tlm_types::{Bytes, Memory};
 use token_book::{Tokens, Wallet};
 
 /// What is left of a net: the log and the seat of each object, in the order of the objects of its history

@@ -15,7 +15,8 @@ use plat_net::{PlatSeat, SharedHop, SharedMemory, SharedPool, TlmLaw};
 use route_plan::Plan;
 use shared_object::Naming;
 use std::sync::Wait;
-use tlm_types::{Bytes, Log};
+use entry_log::Log;
+use tlm_types::Bytes;
 use token_book::{Book, Tokens, Wallet};
 
 // Hands all tickets that the wallets have of a book's owner back into that book. No more than are out come back.

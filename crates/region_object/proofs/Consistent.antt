@@ -9,7 +9,7 @@ use Rattle.tlm_types.specs.declared.words.Way.{Way}
 use Rattle.tlm_types.specs.declared.entry.Access.{Access}
 use Rattle.tlm_types.specs.declared.entry.Entry.{Entry}
 use Rattle.tlm_types.specs.declared.entry.Head.{Head}
-use Rattle.tlm_types.specs.Log.{entry_at}
+use Rattle.tlm_types.specs.Entries.{entry_at}
 use Rattle.tlm_model.specs.Store.{zeros, status_of, store_after}
 use Rattle.tlm_model.proofs.LogLemmas.{bytes_from-push, IsLogFrom-push}
 use Rattle.tlm_types.specs.declared.entry.What.{What}

@@ -8,7 +8,7 @@ use Rattle.tlm_types.specs.declared.words.Response.{Response}
 use Rattle.tlm_types.specs.declared.words.Way.{Way}
 use Rattle.tlm_types.specs.declared.words.Way.TheVariants.{Direct as by_grant}
 use Rattle.tlm_types.specs.declared.entry.Access.{Access as AccessFacts}
-use Rattle.tlm_types.specs.Log.{kept_of, kept_sent}
+use Rattle.tlm_types.specs.Entries.{kept_of, kept_sent}
 use Rattle.tlm_model.specs.Actions.{data_logged}
 use Rattle.tlm_model.specs.Log.{log_bytes}
 use Rattle.tlm_model.specs.Store.{status_of, got_by}

@@ -10,7 +10,7 @@ use Rattle.tlm_types.specs.declared.words.MemoryTraits.{MemoryTraits}
 use Rattle.tlm_types.specs.declared.entry.Entry.{Entry}
 use Rattle.tlm_types.specs.declared.entry.Head.{Head}
 use Rattle.tlm_types.specs.declared.entry.What.TheVariants.{Granted, Closed}
-use Rattle.tlm_types.specs.Log.{entry_at}
+use Rattle.tlm_types.specs.Entries.{entry_at}
 use Rattle.region_object.specs.declared.gates.Gate.{Gate}
 use Rattle.region_object.specs.declared.gates.Gate.TheVariants.{Fresh, Given, Shut}
 use Rattle.region_object.specs.Gates.{GatesView, was_given, IsGate, HoldsGates}

@@ -14,7 +14,8 @@ use Rattle.tlm_types.specs.declared.entry.Entry.{Entry}
 use Rattle.tlm_types.specs.declared.entry.Head.{Head}
 use Rattle.tlm_types.specs.declared.entry.What.{What}
 use Rattle.tlm_types.specs.declared.entry.What.TheVariants.{Access as Accessed, Granted, Invalidated, Closed}
-use Rattle.tlm_types.specs.Log.{LogView, entry_at, with_entry}
+use Rattle.tlm_types.specs.Entries.{entry_at}
+use Rattle.entry_log.specs.Log.{LogView, with_entry}
 use Rattle.tlm_types.specs.Traits.{allowed_kind}
 use Rattle.tlm_model.specs.Log.{IsLog, log_bytes}
 use Rattle.tlm_model.specs.Store.{zeros, status_of, got_of}

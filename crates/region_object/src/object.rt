@@ -3,7 +3,8 @@ use crate::call::{RegionCall, RegionReply};
 use crate::region::Region;
 use one_history::Sign;
 use shared_object::Object;
-use tlm_types::{Log, MemoryTraits};
+use entry_log::Log;
+use tlm_types::MemoryTraits;
 use token_book::Tokens;
 
 impl Object for Region {

@@ -3,7 +3,8 @@ ghost use Rattle.std.specs.Prelude.{◌≡◌, ◌≢◌, ◌⊎◌, ◌+◌, �
 ghost use Rattle.tlm_types.specs.declared.words.Command.TheVariants.{Read};
 ghost use Rattle.tlm_types.specs.declared.entry.What.TheVariants.{Access as Accessed, Granted, Invalidated};
 ghost use Rattle.tlm_types.specs.Traits.{allowed_kind};
-ghost use Rattle.tlm_types.specs.Log.{entry_at, is_access, kept_sent, with_entry};
+ghost use Rattle.tlm_types.specs.Entries.{entry_at, is_access, kept_sent};
+ghost use Rattle.entry_log.specs.Log.{with_entry};
 ghost use Rattle.tlm_model.specs.Log.{IsLog, log_bytes};
 ghost use Rattle.tlm_model.specs.Store.{zeros, got_by, is_allowed, stored_by};
 ghost use Rattle.generic_payload.specs.Payload.{access_of, HasPlaces};
@@ -19,10 +20,8 @@ use generic_payload::Payload;
 use one_history::Sign;
 use std::alloc::Global;
 use std::marker::Model;
-use tlm_types::{
-    Bytes, Command, Facts, Head, Log, Memory, MemoryTraits, ObjectNo, Ps, Response, TxnId, Way,
-    What, kind_of,
-};
+use entry_log::Log;
+use tlm_types::{Bytes, Command, Facts, Head, Memory, MemoryTraits, ObjectNo, Ps, Response, TxnId, Way, What, kind_of};
 
 /// A memory, which is a target with debug transport and a direct memory interface (clauses 11.2 and 11.3), with its log. Contracts see its
 /// number, its traits, the number of its first gate, and its log with the room that it has left.

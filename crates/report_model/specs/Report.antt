@@ -20,7 +20,7 @@ use Rattle.tlm_types.specs.declared.words.TxnId.{TxnId}
 use Rattle.tlm_types.specs.declared.entry.Access.{Access}
 use Rattle.tlm_types.specs.declared.entry.Entry.{Entry}
 use Rattle.tlm_types.specs.declared.entry.What.{What}
-use Rattle.tlm_types.specs.Log.{is_access}
+use Rattle.tlm_types.specs.Entries.{is_access}
 use Rattle.tlm_types.specs.declared.entry.What.TheVariants.{Access as Accessed, Granted, Invalidated, Closed, Call, Take, Acquire, Release}
 use Rattle.tlm_model.specs.declared.platform.InitiatorRow.{InitiatorRow}
 use Rattle.tlm_model.specs.declared.platform.MemoryRow.{MemoryRow}

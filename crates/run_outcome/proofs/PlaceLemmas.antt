@@ -7,7 +7,8 @@ use Rattle.std.specs.Prelude.{slice_get}
 use Rattle.std.proofs.lemmas.Bool.Decides.{nat_tests}
 use Rattle.tlm_types.specs.declared.entry.Entry.{Entry}
 use Rattle.tlm_types.specs.declared.entry.Head.{Head}
-use Rattle.tlm_types.specs.Log.{LogView, head_of}
+use Rattle.tlm_types.specs.Entries.{head_of}
+use Rattle.entry_log.specs.Log.{LogView}
 use Rattle.tlm_model.specs.History.{IsNumbered, IsNumberedFrom}
 use Rattle.tlm_model.proofs.HistoryLemmas.{AllByRecursion-weaker}
 use Rattle.run_outcome.specs.declared.merge.window.Place.{Place}

@@ -2,7 +2,7 @@
 use Rattle.std.specs.Prelude.{ℕ, ◌≡◌, ◌≢◌, ◌<◌, List, map, Option, Some, slice_get}
 use Rattle.std.specs.Option.{option_and_then}
 use Rattle.tlm_types.specs.declared.entry.Entry.{Entry}
-use Rattle.tlm_types.specs.Log.{LogView}
+use Rattle.entry_log.specs.Log.{LogView}
 use Rattle.run_outcome.specs.declared.merge.window.Place.{Place}
 use Rattle.run_outcome.specs.Merge.{merged}
 

@@ -8,7 +8,8 @@ mod window;
 
 use std::alloc::Global;
 use std::marker::Model;
-use tlm_types::{Log, Memory};
+use entry_log::Log;
+use tlm_types::Memory;
 use window::Window;
 
 /// The entries of several logs in the order of their positions, which count from 0. They stay in their

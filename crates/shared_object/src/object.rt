@@ -5,7 +5,7 @@ ghost use Rattle.view_lists.specs.Lists.{Has, Within};
 ghost use Rattle.shared_object.specs.Written.{Built, own_number, sign_of, NamesOwnGate, Written, wrote, logged, MayWrite};
 
 use one_history::{NoLaw, Sign};
-use tlm_types::Log;
+use entry_log::Log;
 use token_book::Tokens;
 
 /// What stands under a lock and has a log: a memory, a hop or a pool. A call adds one entry to the

@@ -4,9 +4,15 @@ ghost use Rattle.std.specs.Prelude.{List};
 use std::marker::Model;
 
 /// A list of rows, which contracts see as a list.
-#[derive(Drop)]
 pub struct Rows<T> {
     items: Vec<T>,
+}
+
+// Written out, so that crates above call it and needn't prove again how each part is let go of.
+impl<T: Drop> Drop for Rows<T> {
+    fn drop(self) {
+        let Rows { items: _items } = self;
+    }
 }
 
 impl<T> Model for Rows<T> {

@@ -7,9 +7,15 @@ use std::alloc::Global;
 use std::marker::Model;
 
 /// A list of bytes.
-#[derive(Drop)]
 pub struct Bytes {
     items: Vec<u8>,
+}
+
+// Written out, so that crates above call it and needn't prove again how each part is let go of.
+impl Drop for Bytes {
+    fn drop(self) {
+        let Bytes { items: _items } = self;
+    }
 }
 
 impl Model for Bytes {
@@ -42,9 +48,15 @@ impl Bytes {
 }
 
 /// A text, as its bytes in UTF-8.
-#[derive(Drop)]
 pub struct Text {
     text: String,
+}
+
+// Written out, so that crates above call it and needn't prove again how each part is let go of.
+impl Drop for Text {
+    fn drop(self) {
+        let Text { text: _text } = self;
+    }
 }
 
 impl Model for Text {

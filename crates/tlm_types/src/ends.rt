@@ -17,10 +17,19 @@ pub struct RefusedItem {
 }
 
 /// A list of refused requests, whose room is made once.
-#[derive(Drop)]
 pub struct RefusedList {
     items: Vec<RefusedItem>,
     room: u32,
+}
+
+// Written out, so that crates above call it and needn't prove again how each part is let go of.
+impl Drop for RefusedList {
+    fn drop(self) {
+        let RefusedList {
+            items: _items,
+            room: _,
+        } = self;
+    }
 }
 
 impl Model for RefusedList {

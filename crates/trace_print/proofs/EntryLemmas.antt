@@ -16,12 +16,12 @@ use Rattle.tlm_types.specs.declared.entry.Entry.{Entry}
 use Rattle.tlm_types.specs.declared.entry.Facts.{Facts}
 use Rattle.tlm_types.specs.declared.entry.What.{What}
 use Rattle.tlm_types.specs.declared.entry.What.TheVariants.{Access as Accessed, Granted, Invalidated, Closed, Call, Take, Acquire, Release}
-use Rattle.tlm_types.specs.Log.{enables_of, facts_of, got_of, plain_of, sent_of}
+use Rattle.tlm_types.specs.Entries.{enables_of, facts_of, got_of, plain_of, sent_of}
 use Rattle.tlm_model.specs.declared.platform.Platform.{Platform}
 use Rattle.tlm_model.specs.declared.trace.Trace.{Trace}
 use Rattle.tlm_model.specs.declared.trace.Trace.TheVariants.{All, Accesses, None as no_entries}
 use Rattle.report_model.specs.Report.{bytes_word, command_word, entry_words, freed_words, has_operand, initiator_name, kind_word, memory_name, object_word, operand_text, phase_word, range_word, shown_by, status_word, sync_words, traced, txn_word, way_word, what_words}
-use Rattle.tlm_types.specs.Log.{is_access}
+use Rattle.tlm_types.specs.Entries.{is_access}
 use Rattle.tlm_model.specs.Text.{address_word, data_word, line_of}
 use Rattle.line_text.specs.EventText.{freed_text, what_of}
 use Rattle.line_text.specs.declared.event.Event.{Event}

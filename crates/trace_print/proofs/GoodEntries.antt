@@ -33,7 +33,7 @@ use Rattle.good_history.specs.Good.{IsGood}
 use Rattle.tlm_model.specs.History.{IsAnswer, IsLegalEntry, IsLegalFrom, IsNumberedFrom, Store, after, is_object, opening_store, put, zeros_of}
 use Rattle.tlm_model.specs.Plan.{Plan, Initiator, initiators_of}
 use Rattle.report_model.specs.Report.{operand_in, shown_by}
-use Rattle.tlm_types.specs.Log.{read_sends}
+use Rattle.tlm_types.specs.Entries.{read_sends}
 use Rattle.tlm_model.specs.Numbers.{added, le_number}
 use Rattle.tlm_model.specs.Requests.{Asked, Transport, DebugRead, Invalidation, Request, got_in, requests_of}
 use Rattle.tlm_model.specs.Route.{Found, Route, into_memory, into_router, into_window, window_has, later, latency_of, before_of, route_of, walk, window_of}

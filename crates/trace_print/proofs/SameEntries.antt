@@ -14,7 +14,7 @@ use Rattle.tlm_types.specs.declared.entry.Access.{Access}
 use Rattle.tlm_types.specs.declared.entry.Entry.{Entry}
 use Rattle.tlm_types.specs.declared.entry.What.{What}
 use Rattle.tlm_types.specs.declared.entry.What.TheVariants.{Access as Accessed, Granted, Invalidated, Closed, Call, Take, Acquire, Release}
-use Rattle.tlm_types.specs.Log.{read_sends}
+use Rattle.tlm_types.specs.Entries.{read_sends}
 use Rattle.tlm_model.specs.declared.platform.Platform.{Platform}
 use Rattle.tlm_model.specs.declared.platform.Target.{Target}
 use Rattle.tlm_model.specs.declared.platform.Target.TheVariants.{Router as to_router, Memory as to_memory}

@@ -5,7 +5,7 @@ ghost use Rattle.std.specs.List.{join_with_byte};
 ghost use Rattle.tlm_types.specs.declared.entry.Entry.{Entry};
 ghost use Rattle.tlm_types.specs.declared.entry.What.TheVariants.{Granted, Call};
 ghost use Rattle.report_model.specs.Report.{entry_words, has_operand, operand_text, traced, txn_word, what_words};
-ghost use Rattle.tlm_types.specs.Log.{is_access};
+ghost use Rattle.tlm_types.specs.Entries.{is_access};
 ghost use Rattle.tlm_model.specs.Text.{line_of};
 ghost use Rattle.line_text.specs.AccessText.{access_text, IsShort};
 ghost use Rattle.line_text.specs.EventText.{event_text, what_of, IsBrief};
@@ -22,7 +22,8 @@ use outside::Sink;
 use route_plan::{HopEnds, Plan};
 use run_outcome::LogReader;
 use tlm_model::{Platform, Trace};
-use tlm_types::{Command, Facts, Head, Kind, Log, LoggedAccess, ObjectNo, Phase, TlmSync, What};
+use entry_log::{Log, LoggedAccess};
+use tlm_types::{Command, Facts, Head, Kind, ObjectNo, Phase, TlmSync, What};
 
 // The position, the time, the transaction and the object of an entry.
 #[inline(always)]

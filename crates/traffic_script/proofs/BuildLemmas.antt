@@ -1,7 +1,7 @@
 -- What a builder has so far.
 use Rattle.std.proofs.Common.{◌≡◌, ℕ, ◌+◌, ◌-◌, ◌*◌, List, [], ◌∷◌, ◌++◌, length, Option, Some, None, refl, ap, arith, length-append, append_assoc, append-nil}
 use Rattle.tlm_model.specs.declared.operation.Operation.{Operation}
-use Rattle.traffic_script.specs.declared.repeat.Repeat.{Repeat}
+use Rattle.traffic_script.specs.declared.builder.Repeat.{Repeat}
 use Rattle.traffic_script.specs.Drafts.{Draft, count_of, added_in}
 use Rattle.traffic_script.specs.Pieces.{repeated}
 use Rattle.traffic_script.proofs.DraftLemmas.{length-repeated}

@@ -1,7 +1,7 @@
 -- What a builder has so far.
 use Rattle.std.specs.Prelude.{List, ◌++◌, Option, Some, None}
 use Rattle.tlm_model.specs.declared.operation.Operation.{Operation}
-use Rattle.traffic_script.specs.declared.repeat.Repeat.{Repeat}
+use Rattle.traffic_script.specs.declared.builder.Repeat.{Repeat}
 use Rattle.traffic_script.specs.Drafts.{Draft}
 
 -- the last operations stand behind the others, or in a repeat that hasn't ended

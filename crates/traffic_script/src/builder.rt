@@ -8,7 +8,6 @@ ghost use Rattle.traffic_script.specs.Proper.{IsProperDraft};
 
 use crate::fault::{LineFault, ScriptCode, ScriptFault};
 use crate::piece::Piece;
-use crate::repeat::Repeat;
 use crate::script::Script;
 use crate::statement::{Statement, read_statement};
 use std::alloc::Global;
@@ -26,6 +25,13 @@ pub struct Builder {
     last: Vec<Operation>,
     repeat: Option<Repeat>,
     count: u64,
+}
+
+/// A repeat that hasn't ended: the line at which it stands, and how often it is done.
+#[derive(Clone, Copy)]
+pub struct Repeat {
+    line: u32,
+    times: u32,
 }
 
 impl Model for Builder {

@@ -29,7 +29,6 @@ mod options;
 mod piece;
 mod place;
 mod reader;
-mod repeat;
 mod script;
 mod statement;
 mod words;

@@ -89,21 +89,13 @@ pub fn addend(word: &[u8]) -> Result<u32, ScriptCode>
     Ok(addend as u32)
 }
 
-fn is_hex(byte: u8) -> bool
-    ensures { result ≡ is_digit byte 16 }
-{
-    (b'0' <= byte && byte <= b'9')
-        || (b'A' <= byte && byte <= b'F')
-        || (b'a' <= byte && byte <= b'f')
-}
-
 // It looks at every byte, since a loop that may stop early takes them one at a time.
 fn all_hex(digits: &[u8]) -> bool
     ensures { result ≡ list_all (λ b. is_digit b 16) digits.now }
 {
     let mut all = true;
     for byte in digits {
-        all &= is_hex(*byte);
+        all &= byte.is_ascii_hexdigit();
     }
     all
 }

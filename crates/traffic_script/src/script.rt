@@ -8,10 +8,19 @@ use tlm_types::Memory;
 
 /// The operations that an initiator is asked for, in order, which contracts see as a list. Memory is
 /// taken for the text's lines, not for each round of a repeat; copies share it, also between threads.
-#[derive(Drop)]
 pub struct Script {
     pieces: Arc<Vec<Piece>, Global>,
     count: u64,
+}
+
+// Written out, so that crates above call it and needn't prove again how each part is let go of.
+impl Drop for Script {
+    fn drop(self) {
+        let Script {
+            pieces: _pieces,
+            count: _,
+        } = self;
+    }
 }
 
 impl Model for Script {
@@ -57,7 +66,8 @@ impl Script {
         ensures written { written_out (arc_value result).items ≡ self }
         ensures proper { AreProper self }
     {
-        self.pieces
+        let Script { pieces, count: _ } = self;
+        pieces
     }
 
     /// The number of operations, with each round of a repeat counted: at most 100,000.

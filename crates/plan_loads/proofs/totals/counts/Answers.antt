@@ -1,6 +1,6 @@
 use Rattle.std.proofs.Common.{◌≡◌, ◌∙◌, List, ap, arith, slice_get, cond}
 use Rattle.tlm_types.specs.declared.entry.Entry.{Entry}
-use Rattle.tlm_types.specs.Log.{is_access}
+use Rattle.tlm_types.specs.Entries.{is_access}
 use Rattle.run_outcome.specs.Places.{MergedView}
 use Rattle.trace_print.proofs.EntryLemmas.{next-entry}
 use Rattle.plan_loads.specs.Totals.{is_take}

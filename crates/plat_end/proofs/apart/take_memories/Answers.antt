@@ -4,7 +4,7 @@ use Rattle.one_history.specs.Held.{Held}
 use Rattle.shared_object.specs.Standing.{Numbers}
 use Rattle.tlm_types.specs.declared.entry.Content.{Content}
 use Rattle.tlm_types.specs.declared.words.ObjectNo.TheVariants.{Memory}
-use Rattle.tlm_types.specs.Log.{LogView}
+use Rattle.entry_log.specs.Log.{LogView}
 use Rattle.tlm_model.specs.Plan.{Plan}
 use Rattle.plat_build.proofs.KeptLemmas.{next_is, whole_next}
 use Rattle.plat_end.proofs.TakenLemmas.{next_memory, longer_by, stores_next, taken_next}

@@ -3,7 +3,7 @@ use Rattle.one_history.specs.Held.{Held}
 use Rattle.shared_object.specs.Standing.{Numbers}
 use Rattle.tlm_types.specs.declared.entry.Content.{Content}
 use Rattle.tlm_types.specs.declared.words.ObjectNo.TheVariants.{Pool}
-use Rattle.tlm_types.specs.Log.{LogView}
+use Rattle.entry_log.specs.Log.{LogView}
 use Rattle.tlm_model.specs.Plan.{Plan}
 use Rattle.plat_net.specs.Objects.{pools_start}
 use Rattle.plat_build.proofs.KeptLemmas.{next_is, whole_next}

@@ -1,7 +1,7 @@
 use Rattle.std.proofs.Common.{◌≡◌, ap, sym, ◌∙◌}
 use Rattle.std.specs.Prelude.{slice_get}
 use Rattle.tlm_types.specs.declared.entry.Head.{Head}
-use Rattle.tlm_types.specs.Log.{head_of}
+use Rattle.tlm_types.specs.Entries.{head_of}
 use Rattle.trace_print.proofs.EntryLemmas.{access-text-is, no-operand, operand-access-at, shown-access-at}
 use Rattle.line_text.proofs.WordLemmas.{data-none}
 use Rattle.trace_print.proofs.entries.access_line.Goals as goal

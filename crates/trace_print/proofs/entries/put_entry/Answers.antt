@@ -1,6 +1,6 @@
 use Rattle.std.proofs.Common.{◌≡◌}
 use Rattle.std.proofs.lemmas.List.{append-nil}
-use Rattle.tlm_types.specs.Log.{head_of}
+use Rattle.tlm_types.specs.Entries.{head_of}
 use Rattle.trace_print.proofs.EntryLemmas.{entry-text-is}
 use Rattle.trace_print.proofs.HopLemmas.{object-is}
 use Rattle.trace_print.proofs.Putting.{puts-as, puts-more}

@@ -1,7 +1,7 @@
 use Rattle.std.proofs.Common.{◌≡◌, ◌∙◌, ap, sym}
 use Rattle.std.proofs.lemmas.List.{append-nil}
 use Rattle.tlm_types.specs.declared.entry.Head.{Head}
-use Rattle.tlm_types.specs.Log.{head_of}
+use Rattle.tlm_types.specs.Entries.{head_of}
 use Rattle.tlm_model.specs.declared.platform.Platform.{Platform}
 use Rattle.report_model.specs.Report.{entry_words}
 use Rattle.tlm_model.specs.Text.{line_of}

@@ -1,5 +1,5 @@
 use Rattle.std.proofs.Common.{◌<◌, length, arith, sym, subst, refl}
-use Rattle.tlm_types.specs.Log.{entry_at}
+use Rattle.tlm_types.specs.Entries.{entry_at}
 use Rattle.numbered_log.specs.Logged.{LoggedView}
 use Rattle.numbered_log.proofs.Written.{events_of-push, length-events_of}
 use Rattle.numbered_log.proofs.log.NumberedLog.push.Goals as goal

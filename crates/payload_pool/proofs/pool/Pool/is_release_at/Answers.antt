@@ -2,7 +2,7 @@ use Rattle.std.proofs.Common.{◌≡◌, ℕ, ◌<◌, List, length, get_or, Som
 use Rattle.std.specs.Prelude.{IsSomeAnd, IsTrue, slice_get}
 use Rattle.std.specs.Option.{option_map}
 use Rattle.tlm_types.specs.declared.entry.Entry.{Entry}
-use Rattle.tlm_types.specs.Log.{head_of, plain_of, read_at}
+use Rattle.tlm_types.specs.Entries.{head_of, plain_of, read_at}
 use Rattle.flow_model.specs.Events.{Event, IsReleased}
 use Rattle.payload_pool.specs.Pool.{PoolView}
 use Rattle.payload_pool.proofs.ReleaseLemmas.{is_read, read_is}

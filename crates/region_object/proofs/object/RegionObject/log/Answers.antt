@@ -1,6 +1,6 @@
 use Rattle.std.proofs.Common.{ap, ◌∙◌}
 use Rattle.tlm_types.specs.declared.words.ObjectNo.TheVariants.{Memory}
-use Rattle.tlm_types.specs.Log.{LogView}
+use Rattle.entry_log.specs.Log.{LogView}
 use Rattle.region_object.proofs.Written.{logged_written}
 use Rattle.region_object.proofs.object.RegionObject.log.Goals as goal
 

@@ -2,7 +2,8 @@ use Rattle.std.proofs.Common.{◌≡◌, ℕ, ◌+◌, ◌++◌, ◌∷◌, [], 
 use Rattle.std.proofs.lemmas.List.{take_at}
 use Rattle.tlm_types.specs.declared.words.ObjectNo.TheVariants.{Memory}
 use Rattle.tlm_types.specs.declared.entry.What.{What}
-use Rattle.tlm_types.specs.Log.{LogView, entry_at, with_entry}
+use Rattle.tlm_types.specs.Entries.{entry_at}
+use Rattle.entry_log.specs.Log.{LogView, with_entry}
 use Rattle.tlm_model.specs.Store.{status_by, status_of, store_after}
 use Rattle.generic_payload.specs.Payload.{HasPlaces, access_of}
 use Rattle.tlm_model.specs.Actions.{data_logged}

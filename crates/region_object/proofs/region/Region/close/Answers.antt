@@ -2,7 +2,8 @@ use Rattle.std.proofs.Common.{◌≡◌, ◌++◌, ◌∷◌, [], false, IsTrue,
 use Rattle.tlm_types.specs.declared.words.ObjectNo.TheVariants.{Memory}
 use Rattle.tlm_types.specs.declared.entry.Head.{Head}
 use Rattle.tlm_types.specs.declared.entry.What.TheVariants.{Closed}
-use Rattle.tlm_types.specs.Log.{LogView, entry_at}
+use Rattle.tlm_types.specs.Entries.{entry_at}
+use Rattle.entry_log.specs.Log.{LogView}
 use Rattle.region_object.specs.Grants.{is_given, is_closed}
 use Rattle.region_object.specs.Region.{LoggedMemory}
 use Rattle.region_object.proofs.Consistent.{tells_closing}

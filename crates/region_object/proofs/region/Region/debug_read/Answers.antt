@@ -1,7 +1,7 @@
 use Rattle.std.proofs.Common.{◌≡◌, ◌++◌, ◌∷◌, [], length, refl, sym, ap, ◌∙◌}
 use Rattle.tlm_types.specs.declared.words.ObjectNo.TheVariants.{Memory}
 use Rattle.tlm_types.specs.declared.words.Way.TheVariants.{Debug}
-use Rattle.tlm_types.specs.Log.{entry_at}
+use Rattle.tlm_types.specs.Entries.{entry_at}
 use Rattle.region_object.specs.Call.{debug_access}
 use Rattle.region_object.specs.Region.{LoggedMemory, answered}
 use Rattle.region_object.proofs.Consistent.{IsConsistent-push}

@@ -2,7 +2,7 @@ use Rattle.std.proofs.Common.{◌≡◌, ◌<◌, ◌+◌, ◌-◌, ◌++◌, �
 use Rattle.tlm_types.specs.declared.words.ObjectNo.TheVariants.{Memory}
 use Rattle.tlm_types.specs.declared.entry.Head.{Head}
 use Rattle.tlm_types.specs.declared.entry.What.TheVariants.{Granted}
-use Rattle.tlm_types.specs.Log.{entry_at}
+use Rattle.tlm_types.specs.Entries.{entry_at}
 use Rattle.tlm_types.specs.Traits.{allowed_kind}
 use Rattle.region_object.specs.Grants.{grants_in}
 use Rattle.region_object.specs.Region.{LoggedMemory}

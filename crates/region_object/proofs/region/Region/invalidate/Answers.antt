@@ -1,7 +1,8 @@
 use Rattle.std.proofs.Common.{◌≡◌, ◌++◌, ◌∷◌, [], sym, ap, ◌∙◌}
 use Rattle.tlm_types.specs.declared.words.ObjectNo.TheVariants.{Memory}
 use Rattle.tlm_types.specs.declared.entry.What.TheVariants.{Invalidated}
-use Rattle.tlm_types.specs.Log.{LogView, entry_at}
+use Rattle.tlm_types.specs.Entries.{entry_at}
+use Rattle.entry_log.specs.Log.{LogView}
 use Rattle.tlm_types.specs.declared.entry.Head.{Head}
 use Rattle.region_object.specs.Region.{LoggedMemory}
 use Rattle.region_object.proofs.Consistent.{tells_invalidation}

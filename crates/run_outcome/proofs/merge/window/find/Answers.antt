@@ -1,6 +1,6 @@
 use Rattle.std.proofs.Common.{arith}
 use Rattle.std.proofs.lemmas.List.{length-map}
-use Rattle.tlm_types.specs.Log.{LogView}
+use Rattle.entry_log.specs.Log.{LogView}
 use Rattle.run_outcome.specs.Places.{entries_of_logs}
 use Rattle.run_outcome.proofs.PlaceLemmas.{log_at, none_in_more, placed_at, some_has}
 use Rattle.run_outcome.proofs.merge.window.find.Goals as goal

@@ -5,20 +5,20 @@ use Rattle.tlm_types.specs.declared.entry.Facts.{Facts}
 use Rattle.tlm_types.specs.declared.entry.Head.{Head}
 use Rattle.tlm_types.specs.declared.entry.What.{What}
 use Rattle.tlm_types.specs.declared.entry.What.TheVariants as whats
-use Rattle.tlm_types.specs.declared.log.item.Item.{Item}
-use Rattle.tlm_types.specs.declared.log.item.Item.TheVariants as items
-use Rattle.tlm_types.specs.declared.log.item.ShortAccess.{ShortAccess}
-use Rattle.tlm_types.specs.declared.log.item.ShortHead.{ShortHead}
-use Rattle.tlm_types.specs.declared.log.item.ShortWay.{ShortWay}
-use Rattle.tlm_types.specs.declared.log.item.ShortWay.TheVariants as short_ways
-use Rattle.tlm_types.specs.declared.log.long.Event.{Event}
-use Rattle.tlm_types.specs.declared.log.long.Event.TheVariants.{Plain as Simple, Access}
-use Rattle.tlm_types.specs.declared.log.long.LongItem.{LongItem}
-use Rattle.tlm_types.specs.declared.log.long.PlacedAccess.{PlacedAccess}
-use Rattle.tlm_types.specs.declared.log.long.Plain.{Plain}
-use Rattle.tlm_types.specs.declared.log.long.Plain.TheVariants.{Granted, Invalidated, Closed, Call, Take, Acquire, Release}
-use Rattle.tlm_types.specs.declared.log.long.Span.{Span}
-use Rattle.tlm_types.specs.declared.log.long.StoredAccess.{StoredAccess}
+use Rattle.entry_log.specs.declared.log.item.Item.{Item}
+use Rattle.entry_log.specs.declared.log.item.Item.TheVariants as items
+use Rattle.entry_log.specs.declared.log.item.ShortAccess.{ShortAccess}
+use Rattle.entry_log.specs.declared.log.item.ShortHead.{ShortHead}
+use Rattle.entry_log.specs.declared.log.item.ShortWay.{ShortWay}
+use Rattle.entry_log.specs.declared.log.item.ShortWay.TheVariants as short_ways
+use Rattle.entry_log.specs.declared.log.long.Event.{Event}
+use Rattle.entry_log.specs.declared.log.long.Event.TheVariants.{Plain as Simple, Access}
+use Rattle.entry_log.specs.declared.log.long.LongItem.{LongItem}
+use Rattle.entry_log.specs.declared.log.long.PlacedAccess.{PlacedAccess}
+use Rattle.entry_log.specs.declared.log.long.Plain.{Plain}
+use Rattle.entry_log.specs.declared.log.long.Plain.TheVariants.{Granted, Invalidated, Closed, Call, Take, Acquire, Release}
+use Rattle.entry_log.specs.declared.log.long.Span.{Span}
+use Rattle.entry_log.specs.declared.log.long.StoredAccess.{StoredAccess}
 use Rattle.tlm_types.specs.declared.words.Command.{Command}
 use Rattle.tlm_types.specs.declared.words.Command.TheVariants.{Read, Write, Ignore, FetchAdd}
 use Rattle.tlm_types.specs.declared.words.ObjectNo.{ObjectNo}
@@ -26,7 +26,7 @@ use Rattle.tlm_types.specs.declared.words.ObjectNo.TheVariants.{Memory, Hop, Poo
 use Rattle.tlm_types.specs.declared.words.Response.TheVariants.{Ok}
 use Rattle.tlm_types.specs.declared.words.Way.{Way}
 use Rattle.tlm_types.specs.declared.words.Way.TheVariants.{Blocking, FourPhase, Direct, Debug}
-use Rattle.tlm_types.specs.Log.{access_by, entry_at}
+use Rattle.tlm_types.specs.Entries.{access_by, entry_at}
 
 -- the long item of an event at this place and time, and back
 abbrev pub item_for : Head → ℕ → Event → LongItem

@@ -1,9 +1,9 @@
 use Rattle.std.proofs.Common.{subst, ◌<◌, ◌^◌}
 use Rattle.std.specs.Prelude.{All}
 use Rattle.tlm_types.specs.declared.entry.Entry.{Entry}
-use Rattle.tlm_types.specs.Log.{LogView}
-use Rattle.tlm_types.proofs.Stored.{entries_timed}
-use Rattle.tlm_types.proofs.log.Log.len.Goals as goal
+use Rattle.entry_log.specs.Log.{LogView}
+use Rattle.entry_log.proofs.Stored.{entries_timed}
+use Rattle.entry_log.proofs.log.Log.len.Goals as goal
 
 pub returns-clause-timed : goal.returns-clause-timed
 returns-clause-timed c =

@@ -1,19 +1,19 @@
 // The log of an object: its entries in order, kept without a list of bytes for each.
 ghost use Rattle.std.specs.Prelude.{◌≡◌, ◌≢◌, ◌+◌, ◌^◌, ◌<◌, ◌≤◌, [], ◌++◌, length, false, All, Some, IsOk, IsSome, IsSomeAnd, IfSome, IfOk, IfErr, OnOk, OnErr, IsTrue, ◌↔◌, slice_get, option_map, vec_len, vec_capacity};
-ghost use Rattle.tlm_types.specs.LogItem.{IsLast};
-ghost use Rattle.tlm_types.specs.Log.{access_by, enables_of, entry_at, facts_of, got_of, head_of, is_access, plain_of, read_at, read_sends, sent_of, with_entry};
+ghost use Rattle.entry_log.specs.LogItem.{IsLast};
+ghost use Rattle.tlm_types.specs.Entries.{access_by, enables_of, entry_at, facts_of, got_of, head_of, is_access, plain_of, read_at, read_sends, sent_of};
+ghost use Rattle.entry_log.specs.Log.{with_entry};
 ghost use Rattle.tlm_types.specs.declared.words.Command.TheVariants.{Read};
 
 mod item;
 mod items;
 mod long;
 
-use crate::entry::{Facts, Head, What};
-use crate::words::Memory;
 use items::Items;
 use long::{Span, plain_event};
 use std::alloc::Global;
 use std::marker::Model;
+use tlm_types::{Facts, Head, Memory, What};
 
 /// An access of a log, with its bytes. What a read sent isn't kept, so of a read `sent` says nothing.
 #[derive(Clone, Copy)]
@@ -28,17 +28,27 @@ pub struct LoggedAccess<'a> {
 /// The log of an object: its entries in order. Contracts see the list of them, with the room that was
 /// made for entries and for the bytes of accesses. A log holds less than 4 GiB of bytes: more is
 /// refused as want of memory is.
-#[derive(Drop)]
 pub struct Log {
     items: Items,
     bytes: Vec<u8>,
     room_bytes: u64,
 }
 
+// Written out, so that crates above call it and needn't prove again how each part is let go of.
+impl Drop for Log {
+    fn drop(self) {
+        let Log {
+            items: _items,
+            bytes: _bytes,
+            room_bytes: _,
+        } = self;
+    }
+}
+
 impl Model for Log {
     ghost use Rattle.std.specs.Prelude.{vec_capacity};
-    ghost use Rattle.tlm_types.specs.Log.{LogView};
-    ghost use Rattle.tlm_types.specs.LogItem.{entries_of, IsStored};
+    ghost use Rattle.entry_log.specs.Log.{LogView};
+    ghost use Rattle.entry_log.specs.LogItem.{entries_of, IsStored};
 
     ghost Value = { LogView };
 

@@ -1,10 +1,11 @@
 // The long form of a log's items, which has room for any entry.
 ghost use Rattle.std.specs.Prelude.{◌≡◌, false, Some, IsSome};
-ghost use Rattle.tlm_types.specs.LogItem.{access_in, facts_from, facts_in, head_in, item_for, plain_in, plain_what, span_from, span_in, stored_at};
-ghost use Rattle.tlm_types.specs.Log.{is_access};
+ghost use Rattle.entry_log.specs.LogItem.{access_in, facts_from, facts_in, head_in, item_for, plain_in, plain_what, span_from, span_in, stored_at};
+ghost use Rattle.tlm_types.specs.Entries.{is_access};
 
-use crate::entry::{Facts, Head, What};
-use crate::words::{Command, Kind, ObjectNo, Phase, Ps, Response, TlmSync, TxnId, Way};
+use tlm_types::{
+    Command, Facts, Head, Kind, ObjectNo, Phase, Ps, Response, TlmSync, TxnId, Way, What,
+};
 
 // An entry, with where the bytes of an access begin.
 #[derive(Clone, Copy)]

@@ -6,16 +6,16 @@ use Rattle.std.proofs.lemmas.List.Elements.{All-cons, All-head, All-nil, All-pus
 use Rattle.tlm_types.specs.declared.entry.Entry.{Entry}
 use Rattle.tlm_types.specs.declared.entry.Facts.{Facts}
 use Rattle.tlm_types.specs.declared.entry.Head.{Head}
-use Rattle.tlm_types.specs.declared.log.long.Event.{Event}
-use Rattle.tlm_types.specs.declared.log.long.Event.TheVariants.{Plain as Simple, Access}
-use Rattle.tlm_types.specs.declared.log.long.LongItem.{LongItem}
-use Rattle.tlm_types.specs.declared.log.long.Plain.TheVariants as plains
-use Rattle.tlm_types.specs.declared.log.long.Span.{Span}
+use Rattle.entry_log.specs.declared.log.long.Event.{Event}
+use Rattle.entry_log.specs.declared.log.long.Event.TheVariants.{Plain as Simple, Access}
+use Rattle.entry_log.specs.declared.log.long.LongItem.{LongItem}
+use Rattle.entry_log.specs.declared.log.long.Plain.TheVariants as plains
+use Rattle.entry_log.specs.declared.log.long.Span.{Span}
 use Rattle.tlm_types.specs.declared.words.Command.{Command}
 use Rattle.tlm_types.specs.declared.words.Way.{Way}
 use Rattle.tlm_types.specs.declared.words.Command.TheVariants.{Read, Write, Ignore, FetchAdd}
-use Rattle.tlm_types.specs.Log.{access_by, entry_at, kept_of, kept_sent, plain_of, read_at, sent_by}
-use Rattle.tlm_types.specs.LogItem.{what_in, item_entry, entries_of, item_for, plain_in, stored_at, IsKept, IsLast}
+use Rattle.tlm_types.specs.Entries.{access_by, entry_at, kept_of, kept_sent, plain_of, read_at, sent_by}
+use Rattle.entry_log.specs.LogItem.{what_in, item_entry, entries_of, item_for, plain_in, stored_at, IsKept, IsLast}
 
 -- a part of the bytes is the same after more were appended
 pub slice_range-append : (xs ys : List ℕ) (i j : ℕ) → i ≤ j → j ≤ length xs → slice_range (xs ++ ys) i j ≡ slice_range xs i j

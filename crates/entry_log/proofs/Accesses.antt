@@ -3,15 +3,15 @@ use Rattle.std.proofs.Common.{◌≡◌, ℕ, zero, suc, ◌≤◌, List, [], �
 use Rattle.std.specs.Prelude.{◌≢◌, option_and_then, option_map}
 use Rattle.tlm_types.specs.declared.entry.Entry.{Entry}
 use Rattle.tlm_types.specs.declared.entry.Head.{Head}
-use Rattle.tlm_types.specs.declared.log.long.Event.{Event}
-use Rattle.tlm_types.specs.declared.log.long.Event.TheVariants.{Plain as Simple, Access}
-use Rattle.tlm_types.specs.declared.log.long.LongItem.{LongItem}
-use Rattle.tlm_types.specs.declared.log.long.PlacedAccess.{PlacedAccess}
+use Rattle.entry_log.specs.declared.log.long.Event.{Event}
+use Rattle.entry_log.specs.declared.log.long.Event.TheVariants.{Plain as Simple, Access}
+use Rattle.entry_log.specs.declared.log.long.LongItem.{LongItem}
+use Rattle.entry_log.specs.declared.log.long.PlacedAccess.{PlacedAccess}
 use Rattle.tlm_types.specs.declared.words.Command.{Command}
 use Rattle.tlm_types.specs.declared.words.Command.TheVariants.{Read, Write, Ignore, FetchAdd}
 use Rattle.tlm_types.specs.declared.words.Way.{Way}
-use Rattle.tlm_types.specs.Log.{enables_of, entry_at, facts_of, got_of, head_of, read_sends, sent_by, sent_of}
-use Rattle.tlm_types.specs.LogItem.{access_from, access_in, entries_of, facts_in, head_in, span_in, what_in, IsKept}
+use Rattle.tlm_types.specs.Entries.{enables_of, entry_at, facts_of, got_of, head_of, read_sends, sent_by, sent_of}
+use Rattle.entry_log.specs.LogItem.{access_from, access_in, entries_of, facts_in, head_in, span_in, what_in, IsKept}
 
 -- an entry reads as this access, whose parts lie among the bytes
 pub record IsRead (bytes : List ℕ) (e : Option Entry) (a : PlacedAccess) : Type 0 where

@@ -1,7 +1,8 @@
 use Rattle.std.proofs.Common.{◌∙◌, ap, sym}
-use Rattle.tlm_types.specs.Log.{LogView, plain_of, read_at}
-use Rattle.tlm_types.proofs.Stored.{read_at-plain}
-use Rattle.tlm_types.proofs.log.Log.what.Goals as goal
+use Rattle.tlm_types.specs.Entries.{plain_of, read_at}
+use Rattle.entry_log.specs.Log.{LogView}
+use Rattle.entry_log.proofs.Stored.{read_at-plain}
+use Rattle.entry_log.proofs.log.Log.what.Goals as goal
 
 pub returns : goal.returns
 returns c =

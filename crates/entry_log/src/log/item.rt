@@ -2,16 +2,15 @@
 // entries have is kept in a short form, and the fields of an item are in an order that leaves no room
 // between them.
 ghost use Rattle.std.specs.Prelude.{◌≡◌, ◌+◌, ◌^◌, ◌<◌, length, Some, IfSome, IsSome, IsTrue};
-ghost use Rattle.tlm_types.specs.LogItem.{access_in, facts_from, full_access, full_head, full_way, head_in, item_for, long_form, plain_in, short_facts, short_span, span_from, stored_at, IsOrdered, FitsItems, IsShortFor};
-ghost use Rattle.tlm_types.specs.declared.log.long.Event.TheVariants as events;
+ghost use Rattle.entry_log.specs.LogItem.{access_in, facts_from, full_access, full_head, full_way, head_in, item_for, long_form, plain_in, short_facts, short_span, span_from, stored_at, IsOrdered, FitsItems, IsShortFor};
+ghost use Rattle.entry_log.specs.declared.log.long.Event.TheVariants as events;
 ghost use Rattle.tlm_types.specs.declared.words.ObjectNo.TheVariants.{Memory};
 
 use super::long::{
     LongItem, PlacedAccess, Plain, Span, access_of, facts_of, head_of, span_of, what_of,
 };
-use crate::entry::{Facts, Head, What};
-use crate::words::{Command, ObjectNo, Phase, Ps, Response, TlmSync, TxnId, Way};
 use std::mem::size_of;
+use tlm_types::{Command, Facts, Head, ObjectNo, Phase, Ps, Response, TlmSync, TxnId, Way, What};
 
 #[derive(Clone, Copy)]
 pub(super) enum Item {

@@ -1,5 +1,5 @@
--- What is seen of the log of an object: its entries, and what is read of one.
-use Rattle.std.specs.Prelude.{ℕ, Bool, true, false, ◌-◌, ◌+◌, List, ◌∷◌, [], ◌++◌, length, replicate, Option, Some, None, slice_get, option_and_then}
+-- What is read of an entry.
+use Rattle.std.specs.Prelude.{ℕ, Bool, true, false, ◌+◌, List, [], length, replicate, Option, Some, None, slice_get, option_and_then}
 use Rattle.tlm_types.specs.declared.words.Command.{Command}
 use Rattle.tlm_types.specs.declared.words.Command.TheVariants.{Read, Write, Ignore, FetchAdd}
 use Rattle.tlm_types.specs.declared.words.Way.{Way}
@@ -9,12 +9,6 @@ use Rattle.tlm_types.specs.declared.entry.Facts.{Facts}
 use Rattle.tlm_types.specs.declared.entry.Head.{Head}
 use Rattle.tlm_types.specs.declared.entry.What.{What}
 use Rattle.tlm_types.specs.declared.entry.What.TheVariants.{Access as Accessed}
-
--- its entries in order, for how many it has room, and for how many more bytes of accesses
-pub record LogView : Type 0 where
-  pub entries : List Entry
-  pub room : ℕ
-  pub room_bytes : ℕ
 
 -- the entry that says what happened, at this place and time
 abbrev pub entry_at : Head → What → Entry
@@ -53,10 +47,6 @@ kept_sent FetchAdd sent = sent
 abbrev pub kept_of : What → ℕ
 kept_of (Accessed way a status got) = length (kept_sent a.command a.sent) + length a.enables + length got
 kept_of w = 0
-
--- the log with one more entry, whose bytes come out of its room
-abbrev pub with_entry : LogView → Entry → LogView
-with_entry log e = record log { entries = log.entries ++ e ∷ []; room_bytes = log.room_bytes - kept_of e.what }
 
 -- an entry without what happened
 abbrev pub head_of : Entry → Head

@@ -1,8 +1,9 @@
 use Rattle.std.proofs.Common.{ℕ, ◌≤◌, List, length, slice_get, slice_range, Some, ap, sym, subst, ◌∙◌}
 use Rattle.std.specs.Prelude.{option_map}
-use Rattle.tlm_types.specs.Log.{LogView, enables_of, facts_of, got_of, head_of, read_at, sent_of}
-use Rattle.tlm_types.proofs.Accesses.{read_place}
-use Rattle.tlm_types.proofs.log.Log.access.Goals as goal
+use Rattle.tlm_types.specs.Entries.{enables_of, facts_of, got_of, head_of, read_at, sent_of}
+use Rattle.entry_log.specs.Log.{LogView}
+use Rattle.entry_log.proofs.Accesses.{read_place}
+use Rattle.entry_log.proofs.log.Log.access.Goals as goal
 
 pub returns-clause-facts : goal.returns-clause-facts
 returns-clause-facts c =

@@ -1,14 +1,13 @@
 // The items of a log: those of most entries in a short form, and the others in a second list.
 ghost use Rattle.std.specs.Prelude.{◌≡◌, ◌<◌, [], ◌∷◌, ◌++◌, length, Some, IsOk, IsSome, IfOk, OnOk, OnErr, slice_get, option_map, option_and_then};
-ghost use Rattle.tlm_types.specs.LogItem.{access_in, facts_from, head_in, item_for, long_form, plain_in, span_at, stored_at, IsOrdered, FitsItems};
-ghost use Rattle.tlm_types.specs.declared.log.long.Event.TheVariants as events;
+ghost use Rattle.entry_log.specs.LogItem.{access_in, facts_from, head_in, item_for, long_form, plain_in, span_at, stored_at, IsOrdered, FitsItems};
+ghost use Rattle.entry_log.specs.declared.log.long.Event.TheVariants as events;
 
 use super::item::{Item, short_access, short_event};
 use super::long::{Event, LongItem, PlacedAccess, Plain, Span, long_item, stored_access};
-use crate::entry::{Facts, Head, What};
-use crate::words::Memory;
 use std::alloc::Global;
 use std::marker::Model;
+use tlm_types::{Facts, Head, Memory, What};
 
 // Contracts see the list of the items in their long form, and the room that was made for them.
 #[derive(Drop)]
@@ -20,7 +19,7 @@ pub(super) struct Items {
 
 impl Model for Items {
     ghost use Rattle.std.specs.Prelude.{map, vec_capacity};
-    ghost use Rattle.tlm_types.specs.LogItem.{AreItems, ItemsView, long_form};
+    ghost use Rattle.entry_log.specs.LogItem.{AreItems, ItemsView, long_form};
 
     ghost Value = { ItemsView };
 

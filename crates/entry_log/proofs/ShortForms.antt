@@ -2,10 +2,10 @@
 use Rattle.std.proofs.Common.{◌≡◌, suc, List, [], ◌∷◌, ◌++◌, length, All, refl, arith}
 use Rattle.std.proofs.lemmas.List.{get_or_append_left}
 use Rattle.std.specs.Prelude.{map}
-use Rattle.tlm_types.specs.declared.log.item.Item.{Item}
-use Rattle.tlm_types.specs.declared.log.item.Item.TheVariants.{Access, Direct, Call, Take, Acquire, Release, Long}
-use Rattle.tlm_types.specs.declared.log.long.LongItem.{LongItem}
-use Rattle.tlm_types.specs.LogItem.{long_form, no_item, FitsItems}
+use Rattle.entry_log.specs.declared.log.item.Item.{Item}
+use Rattle.entry_log.specs.declared.log.item.Item.TheVariants.{Access, Direct, Call, Take, Acquire, Release, Long}
+use Rattle.entry_log.specs.declared.log.long.LongItem.{LongItem}
+use Rattle.entry_log.specs.LogItem.{long_form, no_item, FitsItems}
 
 pub long_form-append : (long more : List LongItem) (item : Item) → FitsItems (length long) item → long_form (long ++ more) item ≡ long_form long item
 long_form-append long more (Access way count access head) placed = refl
