@@ -16,8 +16,8 @@ use Rattle.tlm_model.specs.Plan.{Plan, Initiator, initiators_of}
 use Rattle.tlm_model.specs.Route.{Route, route_of}
 use Rattle.flow_model.specs.Events.{Event}
 use Rattle.good_history.specs.Counting.{IsRising}
+use Rattle.platform_shape.specs.Paths.{once}
 use Rattle.route_plan.specs.Counted.{share_at, share_by}
-use Rattle.route_plan.specs.Paths.{once}
 use Rattle.route_plan.specs.Planned.{asks_in, at_gates, at_hop, at_memory, at_pool, by_fourphase, gates_by, is_routed_to, leads_to, share_of}
 use Rattle.begun_traffic.specs.Begun.{HasSpent}
 use Rattle.begun_traffic.specs.Told.{Told, known_at, left_at}

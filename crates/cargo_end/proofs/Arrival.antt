@@ -23,7 +23,7 @@ use Rattle.flow_model.specs.World.{IsPassage, Passage, hop_at, hop_count}
 use Rattle.flow_model.specs.Events.{Finds}
 use Rattle.flow_model.specs.Platform.{passage_of, world_of}
 use Rattle.flow_model.proofs.More.{end_more, finds_more}
-use Rattle.route_plan.specs.Paths.{once}
+use Rattle.platform_shape.specs.Paths.{once}
 use Rattle.route_plan.specs.Planned.{by_fourphase, leads_to}
 use Rattle.cargo_model.specs.Called.{IsCalled}
 use Rattle.cargo_model.specs.Known.{object_number}

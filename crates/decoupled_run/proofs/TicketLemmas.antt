@@ -17,7 +17,7 @@ use Rattle.tlm_model.specs.Actions.{asks_of}
 use Rattle.tlm_model.specs.Plan.{Plan, Initiator}
 use Rattle.tlm_model.specs.Route.{Route as RouteOfModel, route_of}
 use Rattle.tlm_model.specs.Scripts.{first_gate}
-use Rattle.route_plan.specs.Paths.{has_path, once}
+use Rattle.platform_shape.specs.Paths.{has_path, once}
 use Rattle.route_plan.specs.Planned.{asks_in, at_gates, gates_by, invalidates, is_direct, is_routed_to, leads_to}
 use Rattle.route_plan.specs.Valid.{IsValid}
 use Rattle.script_engine.specs.declared.part.Part.TheVariants.{Invalidates}

@@ -7,7 +7,7 @@ use Rattle.tlm_types.specs.declared.entry.Content.{Content}
 use Rattle.tlm_model.specs.declared.platform.Target.TheVariants.{Memory}
 use Rattle.tlm_model.specs.Plan.{Plan, Initiator}
 use Rattle.tlm_model.specs.Scripts.{first_gate}
-use Rattle.route_plan.specs.Paths.{has_path}
+use Rattle.platform_shape.specs.Paths.{has_path}
 use Rattle.route_plan.specs.Planned.{asks_in, invalidates, is_direct}
 use Rattle.dmi_grants.specs.Made.{count_without, dmi_gates, is_given_in, unclosed}
 pub use Rattle.dmi_grants.specs.Known.{entries_read, entry_read, known_to}

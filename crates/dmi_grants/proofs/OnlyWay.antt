@@ -24,14 +24,14 @@ use Rattle.tlm_model.specs.declared.platform.WindowRow.{WindowRow}
 use Rattle.tlm_model.specs.Plan.{Plan}
 use Rattle.tlm_model.specs.Route.{Found, Walk, later, walk, window_has, window_of}
 use Rattle.tlm_model.specs.Route as model
+use Rattle.platform_shape.specs.Paths.{has_path, is_on_cycle, once, paths_to, reaches, targets_of}
+use Rattle.platform_shape.specs.Shape.{IsShape, checked_acyclic, checked_depth, checked_memory_named, checked_router_named, checked_shape, checked_single, checked_windowed, has_two_paths}
+use Rattle.platform_shape.proofs.PathLemmas.{along, any-some, number_found, reaches-some}
 use Rattle.route_plan.specs.declared.step.Route.{Route}
-use Rattle.route_plan.specs.Paths.{has_path, is_on_cycle, once, paths_to, reaches, targets_of}
 use Rattle.route_plan.specs.Plans.{walk_at}
 use Rattle.route_plan.specs.Routes.{bound_walk, route_by, route_seen, row_walk}
-use Rattle.route_plan.specs.Shape.{IsShape, checked_acyclic, checked_depth, checked_memory_named, checked_router_named, checked_shape, checked_single, checked_windowed, has_two_paths}
 use Rattle.route_plan.specs.Valid.{IsValid as IsValidPlan}
 use Rattle.route_plan.proofs.NumberLemmas.{window_is_found}
-use Rattle.route_plan.proofs.PathLemmas.{along, any-some, number_found, reaches-some}
 use Rattle.route_plan.proofs.PlanLemmas.{walk_of_row}
 use Rattle.plat_net.specs.Calls.{route_at}
 use Rattle.dmi_grants.specs.Ranges.{AreAddressesOf, lifted, lifted_at, lifted_by}

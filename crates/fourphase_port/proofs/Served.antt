@@ -20,7 +20,7 @@ use Rattle.tlm_model.specs.declared.platform.Target.TheVariants as targets
 use Rattle.tlm_model.specs.Plan.{Plan}
 use Rattle.tlm_model.specs.Route.{later}
 use Rattle.token_book.specs.Account.{Slip}
-use Rattle.route_plan.specs.Shape.{IsShape}
+use Rattle.platform_shape.specs.Shape.{IsShape}
 use Rattle.flow_model.specs.World.{HopEnds, Passage, hop_at, is_refused, row_by, row_of}
 use Rattle.flow_model.specs.Events.{Event, Finds, FindsAt, IsAccess, IsCall}
 use Rattle.flow_model.specs.Numbers.{UpIs}

@@ -18,8 +18,8 @@ use Rattle.tlm_model.specs.Plan.{Plan, Initiator, initiators_of}
 use Rattle.tlm_model.specs.Route.{Route, hops_of, route_of}
 use Rattle.token_book.specs.Pocket.{Pocket}
 use Rattle.token_book.specs.Purse.{HasPlace, Purse, left_in, left_of}
+use Rattle.platform_shape.specs.Paths.{once}
 use Rattle.route_plan.specs.Counted.{share_at, share_by}
-use Rattle.route_plan.specs.Paths.{once}
 use Rattle.route_plan.specs.Planned.{asks_in, at_gates, at_hop, at_memory, at_pool, by_fourphase, gates_by, is_routed_to, leads_to, share_of}
 use Rattle.flow_model.specs.Events.{Among}
 use Rattle.cargo_model.specs.Known.{object_number, objects_of}

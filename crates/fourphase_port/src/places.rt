@@ -1,7 +1,7 @@
 // Where the objects of a port stand in the history.
 ghost use Rattle.std.specs.Prelude.{◌≡◌, ℕ, ◌<◌, IfNone, IfSome, length};
 ghost use Rattle.tlm_model.specs.declared.platform.Target.TheVariants as targets;
-ghost use Rattle.route_plan.specs.Shape.{IsShape};
+ghost use Rattle.platform_shape.specs.Shape.{IsShape};
 ghost use Rattle.route_plan.specs.Valid.{hop_count};
 ghost use Rattle.flow_model.specs.Platform.{world_of};
 ghost use Rattle.plat_net.specs.Net.{HasPool};

@@ -10,10 +10,10 @@ ghost use Rattle.hop_object.specs.Lanes.{any_responding, has_leg, is_ended};
 
 use crate::call::{HopTraits, Leg};
 use crate::lane::{Lane, all_ended, any_leg, any_requested, any_responding};
+use entry_log::Log;
 use numbered_log::NumberedLog;
 use std::alloc::Global;
 use std::marker::Model;
-use entry_log::Log;
 use tlm_types::{Head, Memory, ObjectNo, Phase, Ps, ReqMode, RespMode, TlmSync, TxnId, What};
 use token_book::Book;
 

@@ -4,9 +4,9 @@ ghost use Rattle.std.specs.Prelude.{◌≡◌, true};
 use crate::call::{HopCall, HopReply, HopTraits};
 use crate::hop::Hop;
 use crate::lane::Side;
+use entry_log::Log;
 use one_history::Sign;
 use shared_object::Object;
-use entry_log::Log;
 use token_book::Tokens;
 
 impl<T> Hop<T> {

@@ -15,7 +15,7 @@ use Rattle.script_engine.specs.declared.part.Transfer.{Transfer}
 use Rattle.script_engine.specs.Part.{is_fenced_kind, part_of}
 use Rattle.script_engine.specs.State.{Due, State, next_of, op_at, passed_by, payload_at}
 use Rattle.script_engine.proofs.States.{state}
-use Rattle.route_plan.specs.Paths.{once}
+use Rattle.platform_shape.specs.Paths.{once}
 use Rattle.route_plan.specs.Planned.{leads_to}
 use Rattle.region_object.specs.Call.{payload_cost}
 use Rattle.initiator_run.specs.Left.{asks_left, bytes_at, bytes_left, leads, total_of}

@@ -16,7 +16,7 @@ use Rattle.flow_model.specs.World.{Passage, World, hop_at, hop_count, row_of}
 use Rattle.flow_model.specs.Events.{Among, Event}
 use Rattle.flow_model.specs.Platform.{world_of}
 use Rattle.flow_model.specs.Valid.{HasNoCycle}
-use Rattle.route_plan.specs.Paths.{once}
+use Rattle.platform_shape.specs.Paths.{once}
 use Rattle.route_plan.specs.Planned.{leads_to}
 use Rattle.begun_traffic.specs.Known.{HasMoved}
 use Rattle.cargo_model.specs.declared.cargo.Cargo.{Cargo}

@@ -14,7 +14,7 @@ use Rattle.tlm_model.specs.Route.{Route, route_of}
 use Rattle.flow_model.specs.World.{Passage}
 use Rattle.flow_model.specs.Events.{Event}
 use Rattle.flow_model.specs.Platform.{accessed, addresses_of}
-use Rattle.route_plan.specs.Paths.{once}
+use Rattle.platform_shape.specs.Paths.{once}
 use Rattle.route_plan.specs.Planned.{asks_in, leads_to}
 use Rattle.cargo_model.specs.Travel.{IsAsked, route_for}
 use Rattle.port_model.specs.Stages.{price, price_by}

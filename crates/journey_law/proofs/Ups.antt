@@ -19,7 +19,7 @@ use Rattle.flow_model.specs.Backed.{IsBacked}
 use Rattle.flow_model.specs.Events.{Among, Event, Finds, IsAcquire, IsCall, IsTake}
 use Rattle.flow_model.specs.Platform.{world_of}
 use Rattle.flow_model.specs.Valid.{HasNoCycle}
-use Rattle.route_plan.specs.Paths.{once}
+use Rattle.platform_shape.specs.Paths.{once}
 use Rattle.route_plan.specs.Planned.{leads_to}
 use Rattle.joined_traffic.specs.Accesses.{sum_below}
 use Rattle.cargo_model.specs.declared.cargo.Cargo.{Cargo}

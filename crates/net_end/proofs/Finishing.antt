@@ -28,8 +28,8 @@ use Rattle.report_model.proofs.Ending.{ends_by_latencies}
 use Rattle.good_history.specs.Counting.{IsRising}
 use Rattle.good_history.specs.Own.{own}
 use Rattle.good_history.proofs.OwnLemmas.{own_is_enough}
+use Rattle.platform_shape.specs.Paths.{once}
 use Rattle.route_plan.specs.Counted.{share_at, share_by}
-use Rattle.route_plan.specs.Paths.{once}
 use Rattle.route_plan.specs.Planned.{asks_in, at_gates, at_hop, at_memory, at_pool, by_fourphase, gates_by, is_routed_to, leads_to, share_of}
 use Rattle.cargo_model.proofs.There.{end_there}
 use Rattle.joined_traffic.specs.Accesses.{txn_of}

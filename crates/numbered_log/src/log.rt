@@ -4,9 +4,9 @@ ghost use Rattle.tlm_types.specs.Entries.{entry_at, is_access};
 ghost use Rattle.flow_model.specs.Events.{entries};
 ghost use Rattle.numbered_log.specs.Logged.{event_of, with_event};
 
+use entry_log::Log;
 use std::alloc::Global;
 use std::marker::Model;
-use entry_log::Log;
 use tlm_types::{Head, Memory, What};
 
 /// A log without accesses, and the number of each entry. Contracts see its entries with their numbers,

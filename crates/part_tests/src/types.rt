@@ -1,8 +1,11 @@
+use entry_log::{Log, LoggedAccess};
 use std::alloc::Global;
 use std::process::Abort;
 use tlm_model::Rows;
-use entry_log::{Log, LoggedAccess};
-use tlm_types::{Bytes, Command, Facts, Head, Kind, MemoryTraits, ObjectNo, Phase, RefusedItem, RefusedList, Response, Text, TlmSync, TxnId, Way, What, kind_of};
+use tlm_types::{
+    Bytes, Command, Facts, Head, Kind, MemoryTraits, ObjectNo, Phase, RefusedItem, RefusedList,
+    Response, Text, TlmSync, TxnId, Way, What, kind_of,
+};
 
 fn bytes_are_kept(rt: &impl Abort, alloc: Global) -> bool {
     let copied = Bytes::from_slice(alloc, &[1, 2, 3]).expect(rt, "memory");

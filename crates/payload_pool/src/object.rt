@@ -1,9 +1,9 @@
 // A pool as an object of the history.
 use crate::call::{PoolCall, PoolReply};
 use crate::pool::{Pool, PoolMade};
+use entry_log::Log;
 use one_history::Sign;
 use shared_object::Object;
-use entry_log::Log;
 use token_book::Tokens;
 
 impl Object for Pool {

@@ -8,10 +8,10 @@ ghost use Rattle.payload_pool.specs.Pool.{live_of, has_free, Follows, IsPool};
 ghost use Rattle.payload_pool.specs.Calls.{is_out};
 
 use crate::slot::{self, Slot};
+use entry_log::Log;
 use numbered_log::NumberedLog;
 use std::alloc::Global;
 use std::marker::Model;
-use entry_log::Log;
 use tlm_types::Memory;
 use token_book::Book;
 

@@ -5,7 +5,7 @@ use Rattle.platform_model.specs.Reading.{Fails, rows_from}
 use Rattle.platform_model.specs.declared.fault.PlatformFault.{PlatformFault}
 use Rattle.platform_model.specs.declared.fault.PlatformFault.TheVariants.{Refused, Memory}
 use Rattle.platform_model.specs.Bounded.{IsBounded, IsBoundedInitiator, IsBoundedMemory}
-use Rattle.route_plan.specs.Shape.{checked_shape}
+use Rattle.platform_shape.specs.Shape.{checked_shape}
 use Rattle.plan_loads.specs.BuiltIn.{cpu_row, ram_row, built_in_platform}
 use Rattle.plan_loads.specs.Exits.{exit_of}
 use Rattle.plan_loads.specs.declared.exit.Exit.TheVariants.{NoMemory}

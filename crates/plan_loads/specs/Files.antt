@@ -10,7 +10,7 @@ use Rattle.platform_model.specs.Reading.{PlatformRefusal}
 use Rattle.tlm_types.specs.Reading.{◌>>=◌}
 use Rattle.traffic_script.specs.Lines.{script_of}
 use Rattle.traffic_script.specs.Reading.{ScriptRefusal}
-use Rattle.route_plan.specs.Shape.{checked_shape}
+use Rattle.platform_shape.specs.Shape.{checked_shape}
 use Rattle.route_plan.specs.Valid.{checked_plan}
 use Rattle.command_words.specs.Words.{CommandLine, run, script, gen}
 use Rattle.plan_loads.specs.BuiltIn.{built_in_platform}

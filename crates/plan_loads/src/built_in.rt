@@ -4,7 +4,7 @@ ghost use Rattle.plan_loads.specs.BuiltIn.{ram, ram_row, cpu_row, built_in_platf
 ghost use Rattle.plan_loads.specs.declared.exit.Exit.TheVariants.{NoMemory};
 
 use crate::exit::Exit;
-use route_plan::{Shape, shape};
+use platform_shape::{Shape, shape};
 use std::alloc::Global;
 use tlm_model::{InitiatorRow, MemoryRow, Platform, Rows, Style, Target};
 use tlm_types::{Memory, MemoryTraits, ReqMode, RespMode, Text};

@@ -8,7 +8,7 @@ ghost use Rattle.std.specs.Prelude.{length};
 use crate::exit::Exit;
 use outside::{Library, LoadFault};
 use platform_file::{PlatformFault, read_platform};
-use route_plan::{Shape, shape};
+use platform_shape::{Shape, shape};
 use std::alloc::Global;
 use tlm_model::InitiatorRow;
 use tlm_types::Text;

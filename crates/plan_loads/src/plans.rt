@@ -12,7 +12,8 @@ use crate::generated::{PLATFORM_NAME, generated};
 use crate::loads::{load_platform, load_scripts};
 use command_words::Command;
 use outside::Library;
-use route_plan::{Plan, Shape, plan};
+use platform_shape::Shape;
+use route_plan::{Plan, plan};
 use std::alloc::Global;
 
 // The platform that a command line asks for, of the files that it reads.

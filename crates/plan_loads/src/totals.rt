@@ -5,11 +5,11 @@ ghost use Rattle.tlm_types.specs.Entries.{is_access};
 ghost use Rattle.trace_print.specs.Writes.{IsPrinted};
 ghost use Rattle.plan_loads.specs.Totals.{accesses_in, counted, is_take, syncs_in, takes_in, totals_in, totals_line, transactions_in, HasSmallTotals};
 
+use entry_log::Log;
 use outside::Sink;
 use run_outcome::{LogReader, Outcome};
 use std::alloc::{AllocError, Global};
 use std::fmt::Write;
-use entry_log::Log;
 use tlm_types::{EndOf, Memory, What};
 use trace_print::PrintFault;
 

@@ -12,12 +12,12 @@ use Rattle.good_history.specs.GrantLaws.{HasNoInvalidation}
 use Rattle.good_history.specs.Good.{IsSound}
 use Rattle.good_history.proofs.Ungranted.{sound_empty}
 use Rattle.region_object.specs.Region.{LoggedMemory}
+use Rattle.platform_shape.specs.Shape.{IsBlocking}
 use Rattle.route_plan.specs.Planned.{logged_bytes, logged_share, planned_at, share_of}
 use Rattle.script_engine.specs.State.{State}
 use Rattle.script_engine.proofs.Remaining.{few_numbers}
 use Rattle.script_engine.proofs.Steps.{begins}
 use Rattle.plat_core.specs.Core.{IsCore, IsMemoryAt, IsRunOf, are_finished, begun_run, history_of, logs_of, no_runs}
-use Rattle.route_plan.specs.Shape.{IsBlocking}
 use Rattle.route_plan.specs.Valid.{IsValid}
 use Rattle.plat_core.specs.Fresh.{AreFresh, IsFresh}
 use Rattle.initiator_run.specs.Left.{asks_left, bytes_left, total_bytes, total_left, total_of}

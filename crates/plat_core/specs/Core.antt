@@ -19,7 +19,7 @@ use Rattle.initiator_run.specs.Left.{total_bytes, total_left}
 use Rattle.run_outcome.specs.Merge.{merged}
 use Rattle.plat_core.specs.Rounds.{IsHeldBack, due_round}
 use Rattle.initiator_run.specs.Run.{Run, fresh_run}
-use Rattle.route_plan.specs.Shape.{IsBlocking}
+use Rattle.platform_shape.specs.Shape.{IsBlocking}
 use Rattle.route_plan.specs.Valid.{IsValid}
 use Rattle.plat_core.specs.declared.steps.CoreStep.{CoreStep}
 use Rattle.plat_core.specs.declared.steps.CoreStep.TheVariants.{Made, Waits, Finished}

@@ -2,10 +2,11 @@
 ghost use Rattle.std.specs.Prelude.{◌≡◌, ◌↔◌, true, false, All};
 ghost use Rattle.std.specs.List.{AllByRecursion};
 ghost use Rattle.good_history.specs.GrantLaws.{HasNoInvalidation, IsNoInvalidation};
-ghost use Rattle.route_plan.specs.Shape.{IsBlocking};
+ghost use Rattle.platform_shape.specs.Shape.{IsBlocking};
 ghost use Rattle.traffic_script.specs.declared.piece.Piece.{Piece as PieceView};
 
-use route_plan::{Plan, is_blocking};
+use platform_shape::is_blocking;
+use route_plan::Plan;
 use tlm_model::Operation;
 use traffic_script::{Piece, Script};
 

@@ -2,7 +2,7 @@
 ghost use Rattle.std.specs.Prelude.{IfOk};
 ghost use Rattle.good_history.specs.GrantLaws.{HasNoInvalidation};
 ghost use Rattle.plat_core.specs.Outcome.{IsScheduled, IsTurnOf};
-ghost use Rattle.route_plan.specs.Shape.{IsBlocking};
+ghost use Rattle.platform_shape.specs.Shape.{IsBlocking};
 ghost use Rattle.run_outcome.specs.Outcome.{IsWhole};
 
 use crate::steps::{Core, CoreStep};

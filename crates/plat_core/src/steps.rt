@@ -3,7 +3,7 @@ ghost use Rattle.std.specs.Prelude.{◌≡◌, ◌<◌, ◌≤◌, length, map, 
 ghost use Rattle.tlm_model.specs.Log.{log_bytes};
 ghost use Rattle.good_history.specs.GrantLaws.{HasNoInvalidation};
 ghost use Rattle.region_object.specs.Region.{LoggedMemory};
-ghost use Rattle.route_plan.specs.Shape.{IsBlocking};
+ghost use Rattle.platform_shape.specs.Shape.{IsBlocking};
 ghost use Rattle.time_board.specs.declared.rounds.Member.{Member};
 ghost use Rattle.plat_core.specs.Fresh.{AreFresh};
 ghost use Rattle.plat_core.specs.Outcome.{IsOutcome};
@@ -11,6 +11,7 @@ ghost use Rattle.run_outcome.specs.Places.{entries_of_logs};
 ghost use Rattle.initiator_run.specs.Run.{end_at};
 ghost use Rattle.plat_core.specs.Core.{GoesOn, HasStopped, IsStep, IsStuck, actors_of, all_true, are_finished, begun_core, logs_of, no_runs, progress};
 
+use entry_log::Log;
 use generic_payload::Payload;
 use initiator_run::{InitiatorRun, Turn, take_turn};
 use outside::{NoPace, Pace};
@@ -21,7 +22,6 @@ use std::alloc::Global;
 use std::marker::Model;
 use time_board::Rounds;
 use tlm_model::Rows;
-use entry_log::Log;
 use tlm_types::{Bytes, EndOf, Memory, ObjectNo};
 
 /// A platform with its scripts on one thread: its actors move one at a time, as its caller picks them.

@@ -9,12 +9,12 @@ ghost use Rattle.plat_build.specs.Kept.{HasNoOthers};
 ghost use Rattle.plat_end.specs.Taking.{IsTaken};
 
 use crate::parts::{hop_part, memory_part, pool_part};
+use entry_log::Log;
 use plat_net::{PlatSeat, SharedHop, SharedMemory, SharedPool, TlmLaw};
 use route_plan::Plan;
 use shared_object::Naming;
 use std::alloc::{AllocError, Global};
 use std::sync::Wait;
-use entry_log::Log;
 use tlm_types::{Bytes, Memory};
 use token_book::{Tokens, Wallet};
 

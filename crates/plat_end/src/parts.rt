@@ -10,12 +10,12 @@ ghost use Rattle.plat_net.specs.Net.{hop_numbers, memory_numbers, pool_numbers};
 ghost use Rattle.plat_end.specs.Apart.{HasLeftLog};
 ghost use Rattle.plat_end.specs.Taking.{HaveSameBut, IsPaid, tickets_at};
 
+use entry_log::Log;
 use payload_pool::Pool;
 use plat_net::{PlatSeat, SharedHop, SharedMemory, SharedPool, TlmLaw};
 use route_plan::Plan;
 use shared_object::Naming;
 use std::sync::Wait;
-use entry_log::Log;
 use tlm_types::Bytes;
 use token_book::{Book, Tokens, Wallet};
 

@@ -23,9 +23,9 @@ use Rattle.tlm_model.specs.declared.platform.Target.TheVariants.{Router, Memory}
 use Rattle.tlm_model.specs.declared.platform.WindowRow.{WindowRow}
 use Rattle.tlm_model.specs.Plan.{Plan}
 use Rattle.platform_model.specs.Bounded.{IsBounded, IsBoundedInitiator, IsBoundedRouter, is_router_mode, is_there}
+use Rattle.platform_shape.specs.Shape.{IsShape}
 use Rattle.route_plan.specs.declared.ends.HopEnds.{HopEnds}
 use Rattle.route_plan.specs.Routes.{ends_of}
-use Rattle.route_plan.specs.Shape.{IsShape}
 use Rattle.flow_model.specs.Platform.{all_hops, all_windows, hop_in, hop_to, no_hop, to_memory, to_router, world_of}
 use Rattle.flow_model.specs.World.{Passage, hop_at, hop_count}
 use Rattle.flow_model.specs.World as worlds

@@ -22,8 +22,8 @@ use Rattle.flow_model.specs.Platform.{addresses_of, passage_by, passage_of, pass
 use Rattle.flow_model.specs.World.{Passage, hop_at, hop_count}
 use Rattle.tlm_model.proofs.InitiatorLemmas.{initiator_from}
 use Rattle.flow_model.proofs.Ways.{world_law}
+use Rattle.platform_shape.specs.Shape.{IsShape}
 use Rattle.route_plan.specs.Routes.{row_walk}
-use Rattle.route_plan.specs.Shape.{IsShape}
 use Rattle.route_plan.specs.Valid.{IsValid, hop_count as route_hops}
 use Rattle.route_plan.proofs.StepLemmas.{few_hops_at}
 use Rattle.token_book.specs.Account.{Slip}

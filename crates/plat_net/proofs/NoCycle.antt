@@ -14,9 +14,9 @@ use Rattle.tlm_model.specs.declared.platform.Target.{Target}
 use Rattle.tlm_model.specs.declared.platform.Target.TheVariants.{Router}
 use Rattle.tlm_model.specs.declared.platform.WindowRow.{WindowRow}
 use Rattle.flow_model.specs.Valid.{LeadsOver, LeadsTo}
-use Rattle.route_plan.specs.Paths.{is_on_cycle, is_target, reaches, targets_of}
-use Rattle.route_plan.specs.Shape.{checked_acyclic, checked_memory_named, checked_router_named, checked_shape, checked_windowed}
-use Rattle.route_plan.proofs.PathLemmas.{along}
+use Rattle.platform_shape.specs.Paths.{is_on_cycle, is_target, reaches, targets_of}
+use Rattle.platform_shape.specs.Shape.{checked_acyclic, checked_memory_named, checked_router_named, checked_shape, checked_windowed}
+use Rattle.platform_shape.proofs.PathLemmas.{along}
 use Rattle.plat_net.specs.Laws.{ShapesHaveNoCycle}
 
 not_none : {A : Type 0} (x : A) → ◌≡◌ {A = Option A} None (Some x) → ⊥

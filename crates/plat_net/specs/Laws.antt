@@ -9,7 +9,7 @@ use Rattle.tlm_model.specs.declared.platform.Target.{Target}
 use Rattle.tlm_model.specs.Plan.{Plan}
 use Rattle.flow_model.specs.World.{Passage, hop_at, hop_count}
 use Rattle.flow_model.specs.Valid.{HasNoCycle}
-use Rattle.route_plan.specs.Shape.{IsShape}
+use Rattle.platform_shape.specs.Shape.{IsShape}
 use Rattle.cargo_model.specs.Known.{Known}
 use Rattle.cargo_model.specs.Tickets.{AreApart}
 use Rattle.cargo_model.specs.Travel.{IsAsked, numbers_for, stop_for}

@@ -17,8 +17,8 @@ use Rattle.tlm_model.proofs.RequestLemmas.{ask_at}
 use Rattle.flow_model.specs.Events.{Event}
 use Rattle.flow_model.specs.Platform.{addresses_of, passage_by, passage_of, passage_to}
 use Rattle.joined_traffic.specs.Accesses.{sum_below, txn_of}
+use Rattle.platform_shape.specs.Paths.{once}
 use Rattle.route_plan.specs.Planned.{asks_in, invalidates, is_routed_to}
-use Rattle.route_plan.specs.Paths.{once}
 use Rattle.script_engine.specs.declared.part.Part.TheVariants.{Invalidates}
 use Rattle.script_engine.specs.Part.{part_of}
 use Rattle.script_engine.specs.State.{Due, next_of, op_at}

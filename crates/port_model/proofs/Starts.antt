@@ -29,6 +29,7 @@ use Rattle.port_model.specs.Issues.{issue_by, issue_of, time_after, time_by, eng
 use Rattle.port_model.specs.Laws.{HasSettled}
 use Rattle.port_model.proofs.Takes.{all_back, low_made, made_count, made_passed, q}
 use Rattle.view_lists.proofs.Members.{has_none}
+use Rattle.platform_shape.specs.Paths.{has_path, once}
 use Rattle.route_plan.specs.Counted.{share_at}
 use Rattle.port_model.proofs.PlainTakes.{false_is_true, true_false}
 use Rattle.std.specs.Prelude.{sum_by}
@@ -40,7 +41,6 @@ use Rattle.tlm_model.specs.declared.operation.Operation.{Operation}
 use Rattle.tlm_model.specs.declared.platform.MemoryRow.{MemoryRow}
 use Rattle.tlm_model.specs.declared.platform.Target.TheVariants as Target
 use Rattle.tlm_model.specs.Scripts.{first_gate}
-use Rattle.route_plan.specs.Paths.{has_path, once}
 use Rattle.port_model.specs.Closings.{count_open, gates_given_by, invalidates_at, is_closed_at, open_gates}
 use Rattle.tlm_model.specs.Actions.{asks_of}
 use Rattle.tlm_model.specs.Plan.{initiators_of}

@@ -2,7 +2,8 @@
 ghost use Rattle.std.specs.Prelude.{◌≡◌, length};
 
 use platform_file::read_platform;
-use route_plan::{Down, HopEnds, Plan, Route, Shape, Up, plan, shape};
+use platform_shape::{Shape, shape};
+use route_plan::{Down, HopEnds, Plan, Route, Up, plan};
 use std::alloc::Global;
 use std::process::Abort;
 use tlm_types::ObjectNo;

@@ -1,9 +1,9 @@
 // A memory as an object of the history.
 use crate::call::{RegionCall, RegionReply};
 use crate::region::Region;
+use entry_log::Log;
 use one_history::Sign;
 use shared_object::Object;
-use entry_log::Log;
 use tlm_types::MemoryTraits;
 use token_book::Tokens;
 

@@ -16,12 +16,15 @@ ghost use Rattle.region_object.specs.Written.{written_from};
 
 use crate::call::{Denial, RegionCall, RegionReply};
 use crate::gates::Gates;
+use entry_log::Log;
 use generic_payload::Payload;
 use one_history::Sign;
 use std::alloc::Global;
 use std::marker::Model;
-use entry_log::Log;
-use tlm_types::{Bytes, Command, Facts, Head, Memory, MemoryTraits, ObjectNo, Ps, Response, TxnId, Way, What, kind_of};
+use tlm_types::{
+    Bytes, Command, Facts, Head, Memory, MemoryTraits, ObjectNo, Ps, Response, TxnId, Way, What,
+    kind_of,
+};
 
 /// A memory, which is a target with debug transport and a direct memory interface (clauses 11.2 and 11.3), with its log. Contracts see its
 /// number, its traits, the number of its first gate, and its log with the room that it has left.

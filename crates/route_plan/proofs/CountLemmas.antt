@@ -16,15 +16,15 @@ use Rattle.tlm_model.specs.Route.{Walk}
 use Rattle.traffic_script.specs.declared.piece.Piece.{Piece}
 use Rattle.traffic_script.specs.Pieces.{repeated, written_out}
 use Rattle.traffic_script.specs.Proper.{IsProper, AreProper}
+use Rattle.platform_shape.specs.Paths.{once}
+use Rattle.platform_shape.specs.Shape.{IsShape}
 use Rattle.route_plan.specs.declared.counts.Count.{Count}
 use Rattle.route_plan.specs.declared.step.Step.{Step}
 use Rattle.route_plan.specs.Counted.{Counted, added_by_hop, added_by_hops, counted_in, counted_of, is_led_to, passed_at, passed_by}
 use Rattle.route_plan.specs.Counted.Counted.{Entries, Logged, Invalidations}
 use Rattle.route_plan.specs.Counts.{AreMore, capped, count_in, counts_of, entries_only, kept_at, no_count, counted_number}
-use Rattle.route_plan.specs.Paths.{once}
 use Rattle.route_plan.specs.Places.{object_count}
 use Rattle.route_plan.specs.Routes.{bound_walk, next_step, walk_on}
-use Rattle.route_plan.specs.Shape.{IsShape}
 use Rattle.route_plan.proofs.StepLemmas.{few_hops_at, step_taken, stopped_hops}
 use Rattle.route_plan.proofs.WayLemmas.{few_added, fourphase_le}
 

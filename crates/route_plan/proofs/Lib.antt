@@ -1,7 +1,3 @@
-pub mod Chains
-pub mod WalkLemmas
-pub mod PathLemmas
-pub mod CopyLemmas
 pub mod NumberLemmas
 pub mod StepLemmas
 pub mod PlanLemmas
@@ -12,4 +8,3 @@ pub mod ShareLemmas
 pub mod TotalLemmas
 pub mod KeptLemmas
 pub mod LatencyLemmas
-pub mod SinglePaths

@@ -16,18 +16,18 @@ use Rattle.tlm_model.specs.declared.ask.Ask.TheVariants.{Access as AnAccess, Deb
 use Rattle.tlm_model.specs.Actions.{asks_of}
 use Rattle.tlm_model.specs.Plan.{Plan, Initiator, initiators_from, initiators_of}
 use Rattle.tlm_model.specs.Route.{hops_of}
+use Rattle.platform_shape.specs.Paths.{has_path, once}
+use Rattle.platform_shape.proofs.PathLemmas.{any-some, some-once}
 use Rattle.route_plan.specs.declared.counts.Count.{Count}
 use Rattle.route_plan.specs.declared.shares.Share.{Share}
 use Rattle.route_plan.specs.Counted.Counted.{Entries, Logged, Invalidations}
 use Rattle.route_plan.specs.Counted.{added_by_hops, counted_in, counted_of, is_granted_at, is_granted_by, is_led_to, logged_share_at, logged_share_by, passed_at, passed_by, share_at, share_by}
 use Rattle.route_plan.specs.Counts.{count_in, counts_of}
-use Rattle.route_plan.specs.Paths.{has_path, once}
 use Rattle.route_plan.specs.Places.{object_at, object_count}
 use Rattle.route_plan.specs.Planned.{asks_in, at_gates, at_hop, at_memory, at_pool, by_fourphase, gates_by, invalidates, is_direct, is_routed_to, leads_to, logged_at, logged_share, share_of}
 use Rattle.route_plan.specs.Routes.{row_walk}
 use Rattle.route_plan.specs.Shares.{gates_in, gates_of, initiator_shares, no_share, object_shares, pair_share, script_shares, share_in, shares_by_initiator}
 use Rattle.route_plan.specs.Valid.{hop_count}
-use Rattle.route_plan.proofs.PathLemmas.{any-some, some-once}
 use Rattle.route_plan.proofs.PlaceLemmas.{IsPlace, hop_at, memory_at, of_hop, of_memory, of_pool, place_is, pool_at}
 use Rattle.route_plan.proofs.WayLemmas.{added_at_hop, added_at_memory, added_at_pool, bound_within, fourphase_if, fourphase_none}
 

@@ -19,9 +19,9 @@ use Rattle.tlm_model.specs.Route.{Found, Walk, into_memory, into_window, into_ro
 use Rattle.platform_model.specs.Bounded.{IsBounded, IsBoundedRouter}
 use Rattle.platform_model.specs.Reading.{rows_from}
 use Rattle.platform_model.proofs.ReadLemmas.{bind_ok, unless_ok, rows_passed}
+use Rattle.platform_shape.specs.Paths.{targets_of, is_deeper}
+use Rattle.platform_shape.specs.Shape.{IsShape, checked_shape, checked_windowed, checked_router_named, checked_memory_named, checked_acyclic, checked_depth}
 use Rattle.route_plan.specs.declared.step.Step.{Step}
-use Rattle.route_plan.specs.Paths.{targets_of, is_deeper}
-use Rattle.route_plan.specs.Shape.{IsShape, checked_shape, checked_windowed, checked_router_named, checked_memory_named, checked_acyclic, checked_depth}
 use Rattle.route_plan.specs.Routes.{first_hops, first_step, next_step, numbered_windows, route_by, step_from, step_over, step_through, bound_walk, row_walk, walk_on}
 use Rattle.route_plan.proofs.NumberLemmas.{decoded_numbered, seen_by, window_hop-le, window_is_found}
 

@@ -1,5 +1,5 @@
 -- What all initiators of a plan add up to, and its limits.
-use Rattle.std.proofs.Common.{◌≡◌, ℕ, ◌+◌, ◌*◌, ◌<◌, ◌≤◌, Bool, true, false, List, [], ◌∷◌, length, get_or, sum_by, Option, Some, slice_get, nat_lt, Result, Ok, Err, refl, sym, ap, subst, ◌∙◌, add-one, mul-zero, zero-add, arith}
+use Rattle.std.proofs.Common.{◌≡◌, ℕ, ◌+◌, ◌*◌, ◌<◌, ◌≤◌, Bool, false, List, [], ◌∷◌, length, get_or, sum_by, Option, Some, slice_get, nat_lt, Result, Ok, Err, refl, sym, ap, subst, ◌∙◌, add-one, mul-zero, zero-add, arith}
 use Rattle.std.specs.Prelude.{codes, if◌then◌else◌}
 use Rattle.std.specs.List.{range_with_len}
 use Rattle.std.proofs.lemmas.Bool.{ltb-false}
@@ -20,9 +20,9 @@ use Rattle.tlm_model.specs.declared.platform.Platform.{Platform}
 use Rattle.tlm_model.specs.declared.ask.Ask.{Ask}
 use Rattle.tlm_model.specs.declared.ask.Ask.TheVariants.{Access as AnAccess, DebugRead as ADebugRead, Invalidation as AnInvalidation}
 use Rattle.tlm_model.specs.Plan.{Plan, Initiator, initiators_of}
+use Rattle.platform_shape.specs.Paths.{once}
 use Rattle.route_plan.specs.declared.shares.Share.{Share}
 use Rattle.route_plan.specs.Counted.{logged_share_at, logged_share_by, share_at, share_by}
-use Rattle.route_plan.specs.Paths.{once}
 use Rattle.route_plan.specs.Places.{object_at, object_count}
 use Rattle.route_plan.specs.Planned.{asks_in, is_routed_to, logged_at, logged_bytes, logged_share, planned_at}
 use Rattle.route_plan.specs.Shares.{checked_shares, entries_in, logged_in, object_shares, pair_share, shares_of, with_scripts}

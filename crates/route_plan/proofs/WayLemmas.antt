@@ -15,8 +15,8 @@ use Rattle.tlm_model.specs.declared.platform.Style.TheVariants.{Blocking, Direct
 use Rattle.tlm_model.specs.declared.platform.Target.{Target}
 use Rattle.tlm_model.specs.declared.platform.Target.TheVariants as target
 use Rattle.tlm_model.specs.Route.{Found, Walk, into_memory, into_router, into_window, later, nowhere, over_hop, walk, window_hop, window_of}
+use Rattle.platform_shape.specs.Paths.{once}
 use Rattle.route_plan.specs.Counted.{added_by_hop, added_by_hops}
-use Rattle.route_plan.specs.Paths.{once}
 use Rattle.route_plan.specs.Places.{object_place}
 use Rattle.route_plan.specs.Planned.{by_fourphase, leads_to}
 use Rattle.route_plan.specs.Routes.{bound_walk, row_walk}

@@ -11,7 +11,7 @@ use Rattle.tlm_model.specs.declared.platform.Target.TheVariants.{Memory}
 use Rattle.tlm_model.specs.declared.ask.Ask.{Ask}
 use Rattle.tlm_model.specs.declared.ask.Ask.TheVariants.{Access as AnAccess, DebugRead as ADebugRead, Invalidation as AnInvalidation}
 use Rattle.tlm_model.specs.Actions.{asks_of}
-use Rattle.route_plan.specs.Paths.{has_path, once}
+use Rattle.platform_shape.specs.Paths.{has_path, once}
 use Rattle.route_plan.specs.Places.{object_place}
 use Rattle.route_plan.specs.Planned.{by_fourphase, leads_to, is_direct, share_of, logged_share}
 use Rattle.route_plan.specs.Routes.{bound_walk}

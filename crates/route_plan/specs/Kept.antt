@@ -1,8 +1,8 @@
 -- What the routes of a platform keep in tables.
 use Rattle.std.specs.Prelude.{◌≡◌, map}
+use Rattle.platform_shape.specs.Shape.{IsShape}
 use Rattle.route_plan.specs.declared.routes.Routes.TheInside.{Inside}
 use Rattle.route_plan.specs.Routes.{ends_of, first_hops, numbered_windows}
-use Rattle.route_plan.specs.Shape.{IsShape}
 
 pub record AreKept (r : Inside) : Type 0 where
   pub shape : IsShape r.platform

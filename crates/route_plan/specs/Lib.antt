@@ -1,6 +1,3 @@
-pub mod Paths
-pub mod Walks
-pub mod Shape
 pub mod Planned
 pub mod Valid
 pub mod Places

@@ -12,7 +12,7 @@ use Rattle.tlm_model.specs.declared.ask.Ask.TheVariants.{Access as AnAccess, Deb
 use Rattle.tlm_model.specs.Actions.{asks_of}
 use Rattle.tlm_model.specs.Plan.{Plan, Initiator, initiators_of}
 use Rattle.tlm_model.specs.Route.{Route, route_of, hops_of}
-use Rattle.route_plan.specs.Paths.{has_path, once}
+use Rattle.platform_shape.specs.Paths.{has_path, once}
 
 abbrev pub asks_in : Initiator → List Ask
 asks_in i = flat_map asks_of i.script

@@ -8,11 +8,11 @@ use Rattle.tlm_model.specs.declared.operation.Operation.{Operation}
 use Rattle.tlm_model.specs.declared.platform.MemoryRow.{MemoryRow}
 use Rattle.tlm_model.specs.declared.platform.Platform.{Platform}
 use Rattle.tlm_model.specs.Plan.{Plan}
+use Rattle.platform_shape.specs.Paths.{once}
 use Rattle.route_plan.specs.declared.counts.Count.{Count}
 use Rattle.route_plan.specs.declared.shares.Share.{Share}
 use Rattle.route_plan.specs.Counted.{is_granted_at, logged_share_at, share_at}
 use Rattle.route_plan.specs.Counts.{count_in}
-use Rattle.route_plan.specs.Paths.{once}
 use Rattle.route_plan.specs.Places.{object_at, object_count}
 use Rattle.route_plan.specs.Valid.{most_entries, most_logged}
 

@@ -11,8 +11,8 @@ use Rattle.tlm_model.specs.declared.platform.Platform.{Platform}
 use Rattle.tlm_model.specs.declared.platform.RouterRow.{RouterRow}
 use Rattle.tlm_model.specs.Plan.{Plan}
 use Rattle.traffic_script.specs.Proper.{AreProper}
+use Rattle.platform_shape.specs.Shape.{IsShape}
 use Rattle.route_plan.specs.Planned.{planned_at, logged_bytes}
-use Rattle.route_plan.specs.Shape.{IsShape}
 
 -- how many hops a platform has: one for each initiator, and one for each window
 abbrev pub hop_count : Platform → ℕ

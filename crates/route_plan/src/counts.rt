@@ -1,9 +1,9 @@
 // What is counted of scripts at the objects of a platform.
 ghost use Rattle.std.specs.Prelude.{◌≡◌, ◌<◌, ◌≤◌, ◌*◌, ◌+◌, ◌==◌, ℕ, All, IfOk, length, slice_get, sum_by};
 ghost use Rattle.std.specs.List.{AllByRecursion};
+ghost use Rattle.platform_shape.specs.Paths.{once};
 ghost use Rattle.route_plan.specs.Counted.{Counted, added_by_hop, added_by_hops, is_led_to, counted_of, counted_in, passed_at, passed_by};
 ghost use Rattle.route_plan.specs.Counts.{AreMore, capped, counts_of, counted_number, entries_only};
-ghost use Rattle.route_plan.specs.Paths.{once};
 ghost use Rattle.route_plan.specs.Planned.{by_fourphase};
 ghost use Rattle.route_plan.specs.Routes.{bound_walk};
 ghost use Rattle.tlm_model.specs.declared.ask.Ask.TheVariants.{Access as AnAccess, DebugRead as ADebugRead, Invalidation as AnInvalidation};

@@ -2,17 +2,16 @@
 ghost use Rattle.std.specs.Prelude.{◌≡◌, ◌<◌, ◌≤◌, Some, Ok, length, map, slice_get, IfOk};
 ghost use Rattle.platform_model.specs.Reading.{Gives};
 ghost use Rattle.tlm_model.specs.Route.{into_memory};
+ghost use Rattle.platform_shape.specs.Shape.{IsShape};
 ghost use Rattle.route_plan.specs.Places.{object_count, object_place};
 ghost use Rattle.route_plan.specs.Routes.{ends_of, first_step, next_step, numbered_windows, route_by, bound_walk};
-ghost use Rattle.route_plan.specs.Shape.{IsShape};
 
-use crate::copies::copy_platform;
 use crate::ends::{HopEnds, hop_ends};
 use crate::numbering::{all_windows, first_hops};
-use crate::shapes::Shape;
 use crate::step::{Route, Step};
 use addr_router::Windows;
 use platform_model::PlatformFault;
+use platform_shape::{Shape, copy_platform};
 use std::alloc::{AllocError, Global};
 use std::marker::Model;
 use tlm_model::{Platform, Target};
@@ -54,11 +53,11 @@ impl Model for Routes {
 }
 
 impl Routes {
-    /// The routes of a shape, which is not copied.
-    pub fn of_shape(alloc: Global, shape: Shape) -> Result<Routes, AllocError>
-        ensures { IfOk result (λ routes. routes ≡ shape) }
+    /// The routes of a platform that was checked, which is not copied.
+    fn of_checked(alloc: Global, platform: Platform) -> Result<Routes, AllocError>
+        requires { IsShape platform }
+        ensures { IfOk result (λ routes. routes ≡ platform) }
     {
-        let platform = shape.into_platform();
         let windows = all_windows(alloc, &platform)?;
         let first_hops = first_hops(alloc, &platform)?;
         let ends = hop_ends(alloc, &platform)?;
@@ -70,12 +69,19 @@ impl Routes {
         })
     }
 
+    /// The routes of a shape, which is not copied.
+    pub fn of_shape(alloc: Global, shape: Shape) -> Result<Routes, AllocError>
+        ensures { IfOk result (λ routes. routes ≡ shape) }
+    {
+        Routes::of_checked(alloc, shape.into_platform())
+    }
+
     /// Routes of the same platform. Its only error is want of memory.
     pub fn copy(&self, alloc: Global) -> Result<Routes, PlatformFault>
         ensures { Gives result (Ok self.now) }
     {
         let platform = copy_platform(alloc, &self.platform)?;
-        let routes = Routes::of_shape(alloc, Shape::of_checked(platform))?;
+        let routes = Routes::of_checked(alloc, platform)?;
         Ok(routes)
     }
 

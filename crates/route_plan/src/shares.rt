@@ -9,9 +9,8 @@ ghost use Rattle.route_plan.specs.Counts.{capped};
 ghost use Rattle.route_plan.specs.Shares.{entries_in, gates_in, logged_in, no_share, script_shares, share_in, shares_by_initiator, shares_of, with_scripts};
 
 use crate::counts::{Count, counts};
-use crate::paths::has_path;
 use crate::routes::Routes;
-use crate::walks::Component;
+use platform_shape::has_path_to_memory;
 use std::alloc::{AllocError, Global};
 use tlm_model::{Platform, Rows, Style};
 use traffic_script::Script;
@@ -35,7 +34,7 @@ fn is_granted(
 {
     let row = &platform.initiators.as_slice()[initiator as usize];
     match row.style {
-        Style::Direct => has_path(alloc, platform, row, Component::Memory(memory)),
+        Style::Direct => has_path_to_memory(alloc, platform, row, memory),
         Style::Blocking | Style::FourPhase => Ok(false),
     }
 }

@@ -26,7 +26,7 @@ use Rattle.flow_model.specs.World.{hop_at, hop_count, row_of}
 use Rattle.flow_model.specs.Events.{Among, FindsAt, IsCall}
 use Rattle.flow_model.specs.Numbers.{Past}
 use Rattle.flow_model.specs.Platform.{world_of}
-use Rattle.route_plan.specs.Shape.{IsShape}
+use Rattle.platform_shape.specs.Shape.{IsShape}
 use Rattle.route_plan.specs.Valid as valid
 use Rattle.cargo_model.specs.declared.cargo.Cargo.{Cargo}
 use Rattle.cargo_model.specs.Called.{IsAnswerIn}

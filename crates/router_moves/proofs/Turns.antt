@@ -31,7 +31,7 @@ use Rattle.flow_model.specs.Events.{FindsAt, IsCall}
 use Rattle.flow_model.specs.Numbers.{UpFrom}
 use Rattle.flow_model.specs.Platform.{all_windows, hop_in, hop_to, no_hop, passage_of, to_memory, to_router, world_of}
 use Rattle.flow_model.proofs.Ways.{world_law}
-use Rattle.route_plan.specs.Shape.{IsShape}
+use Rattle.platform_shape.specs.Shape.{IsShape}
 use Rattle.route_plan.specs.Valid as valid
 use Rattle.cargo_model.specs.Counts.{owed_by}
 use Rattle.cargo_model.specs.Known.{Known}

@@ -21,7 +21,7 @@ use Rattle.payload_pool.specs.declared.baton.Baton.{Baton}
 use Rattle.flow_model.specs.World.{Passage, hop_at, hop_count, row_of}
 use Rattle.flow_model.specs.Events.{Event, Finds, IsAccess, IsCall}
 use Rattle.flow_model.specs.Platform.{world_of}
-use Rattle.route_plan.specs.Shape.{IsShape}
+use Rattle.platform_shape.specs.Shape.{IsShape}
 use Rattle.cargo_model.specs.Known.{Known}
 use Rattle.cargo_model.specs.Tickets.{AreApart, Pulls, PullsOwed}
 use Rattle.cargo_model.specs.Travel.{GoesUp, IsReplied, Ready, numbers_for, route_for}

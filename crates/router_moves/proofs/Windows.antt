@@ -22,8 +22,8 @@ use Rattle.tlm_model.specs.Route.{Found, Route, hops_of, route_of, window_hop, w
 use Rattle.flow_model.specs.World.{HopEnds, Passage, hop_at, hop_count, row_by, row_of}
 use Rattle.flow_model.specs.Platform.{hop_in, hop_to, to_router, world_of}
 use Rattle.tlm_model.proofs.InitiatorLemmas.{initiator_from}
+use Rattle.platform_shape.specs.Shape.{IsShape}
 use Rattle.route_plan.specs.Routes.{numbered_windows}
-use Rattle.route_plan.specs.Shape.{IsShape}
 use Rattle.route_plan.proofs.NumberLemmas.{decoded_numbered, seen_by, window_is_found}
 use Rattle.route_plan.proofs.StepLemmas.{hop_fits}
 use Rattle.cargo_model.specs.Known.{Known}

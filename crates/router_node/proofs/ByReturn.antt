@@ -15,7 +15,7 @@ use Rattle.tlm_model.specs.Route.{later}
 use Rattle.flow_model.specs.World.{HopEnds, hop_at, is_refused, row_by}
 use Rattle.flow_model.specs.Events.{FindsAt, IsAccess, IsPhase}
 use Rattle.flow_model.specs.Platform.{world_of}
-use Rattle.route_plan.specs.Shape.{IsShape}
+use Rattle.platform_shape.specs.Shape.{IsShape}
 use Rattle.cargo_model.specs.Counts.{responses}
 use Rattle.cargo_model.specs.Known.{Known}
 use Rattle.cargo_model.specs.Stops.{response_at}

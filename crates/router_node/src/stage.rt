@@ -7,7 +7,7 @@ ghost use Rattle.tlm_model.specs.declared.platform.Target.TheVariants as targets
 ghost use Rattle.flow_model.specs.Events.{Finds};
 ghost use Rattle.flow_model.specs.Numbers.{IsEnder};
 ghost use Rattle.cargo_model.specs.Known.{Known};
-ghost use Rattle.route_plan.specs.Shape.{IsShape};
+ghost use Rattle.platform_shape.specs.Shape.{IsShape};
 ghost use Rattle.route_plan.specs.Valid.{hop_count};
 ghost use Rattle.plat_net.specs.Places.{LeadsTo};
 ghost use Rattle.node_hops.specs.Modes.{hop_latency};

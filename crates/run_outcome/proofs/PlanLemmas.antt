@@ -12,7 +12,7 @@ use Rattle.tlm_model.specs.Plan.{Plan, Initiator, initiators_from, initiators_of
 use Rattle.flow_model.specs.Plans.{HasNoFourPhase}
 use Rattle.tlm_model.proofs.InitiatorLemmas.{initiator_from}
 use Rattle.good_history.specs.GrantLaws.{HasNoDirect}
-use Rattle.route_plan.specs.Shape.{IsBlocking}
+use Rattle.platform_shape.specs.Shape.{IsBlocking}
 use Rattle.run_outcome.proofs.ListLemmas.{within}
 
 -- initiators are numbered in order

@@ -6,9 +6,9 @@ ghost use Rattle.run_outcome.specs.Places.{entries_of_logs};
 
 mod window;
 
+use entry_log::Log;
 use std::alloc::Global;
 use std::marker::Model;
-use entry_log::Log;
 use tlm_types::Memory;
 use window::Window;
 

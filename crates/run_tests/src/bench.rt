@@ -1,10 +1,11 @@
 // The plans of a platform's text with the scripts of its initiators.
 ghost use Rattle.std.specs.Prelude.{IfSome};
-ghost use Rattle.route_plan.specs.Shape.{IsBlocking};
+ghost use Rattle.platform_shape.specs.Shape.{IsBlocking};
 ghost use Rattle.route_plan.specs.Valid.{IsValid};
 
 use platform_file::read_platform;
-use route_plan::{Plan, is_blocking, plan, shape};
+use platform_shape::{is_blocking, shape};
+use route_plan::{Plan, plan};
 use std::alloc::Global;
 use std::process::Abort;
 use traffic_script::{Script, read_script};

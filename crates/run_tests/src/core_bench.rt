@@ -1,10 +1,11 @@
 // Plans, and rows to compare outcomes with.
 ghost use Rattle.good_history.specs.GrantLaws.{HasNoInvalidation};
-ghost use Rattle.route_plan.specs.Shape.{IsBlocking};
+ghost use Rattle.platform_shape.specs.Shape.{IsBlocking};
 
 use plat_core::can_run;
 use platform_file::read_platform;
-use route_plan::{Plan, plan, shape};
+use platform_shape::shape;
+use route_plan::{Plan, plan};
 use run_outcome::{LogReader, Outcome};
 use std::alloc::Global;
 use std::process::Abort;

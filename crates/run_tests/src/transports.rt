@@ -5,7 +5,7 @@ ghost use Rattle.tlm_types.specs.declared.words.Command.TheVariants.{Read};
 ghost use Rattle.tlm_model.specs.Store.{zeros};
 ghost use Rattle.region_object.specs.Call.{payload_cost};
 ghost use Rattle.tlm_types.specs.declared.words.TxnId.{TxnId as Txn};
-ghost use Rattle.route_plan.specs.Shape.{IsBlocking};
+ghost use Rattle.platform_shape.specs.Shape.{IsBlocking};
 ghost use Rattle.plat_net.specs.Calls.{CanPay, HasNoPassage, route_at};
 ghost use Rattle.run_tests.specs.Bag.{IsBag};
 

@@ -4,8 +4,8 @@ ghost use Rattle.std.specs.Option.{ForSome};
 ghost use Rattle.view_lists.specs.Lists.{Has, Within};
 ghost use Rattle.shared_object.specs.Written.{Built, own_number, sign_of, NamesOwnGate, Written, wrote, logged, MayWrite};
 
-use one_history::{NoLaw, Sign};
 use entry_log::Log;
+use one_history::{NoLaw, Sign};
 use token_book::Tokens;
 
 /// What stands under a lock and has a log: a memory, a hop or a pool. A call adds one entry to the

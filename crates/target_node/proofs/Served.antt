@@ -23,7 +23,7 @@ use Rattle.flow_model.specs.Events.{Event, Finds, FindsAt, IsCall, IsPhase}
 use Rattle.flow_model.specs.Numbers.{UpIs, served_hop}
 use Rattle.flow_model.specs.Platform.{hop_in, hop_to, to_memory, world_of}
 use Rattle.tlm_model.proofs.InitiatorLemmas.{initiator_from}
-use Rattle.route_plan.specs.Shape.{IsShape}
+use Rattle.platform_shape.specs.Shape.{IsShape}
 use Rattle.cargo_model.specs.declared.cargo.Cargo.{Cargo}
 use Rattle.cargo_model.specs.Known.{Known}
 use Rattle.cargo_model.specs.Stops.{response_at}

@@ -40,8 +40,8 @@ use Rattle.good_history.specs.Grants.{closes, gives, is_closed, is_given}
 use Rattle.good_history.specs.Kept.{IsGateInOrder}
 use Rattle.traffic_script.specs.Proper.{AreProper}
 use Rattle.platform_model.specs.Bounded.{IsBounded}
+use Rattle.platform_shape.proofs.SinglePaths.{not_none, some_same}
 use Rattle.route_plan.specs.Valid.{IsObject, IsValid}
-use Rattle.route_plan.proofs.SinglePaths.{not_none, some_same}
 use Rattle.run_outcome.proofs.PlanLemmas.{initiator_number, initiator_within}
 use Rattle.trace_print.proofs.AtMemories.{gate-few, memories-there}
 use Rattle.trace_print.proofs.EntryKinds.{HaveKinds, IsKind, Places}

@@ -53,9 +53,9 @@ use Rattle.good_history.specs.Kept.{GrantsAll, IsUse, IsWholeOf}
 use Rattle.platform_model.specs.Bounded.{IsBounded, IsBoundedMemory, IsBoundedRouter}
 use Rattle.platform_model.specs.Windows.{window_at}
 use Rattle.traffic_script.specs.Proper.{AreBytes, AreProper}
+use Rattle.platform_shape.proofs.SinglePaths.{not_none, some_same}
 use Rattle.route_plan.specs.Valid.{IsValid}
 use Rattle.route_plan.specs.Valid.{IsObject as IsObjectOf}
-use Rattle.route_plan.proofs.SinglePaths.{not_none, some_same}
 use Rattle.run_outcome.proofs.PlanLemmas.{initiator_within}
 use Rattle.trace_print.specs.Naming.{AreUsual, HasGate, HasNumbers, HasUsualBytes, IsObject, IsTellable}
 use Rattle.trace_print.proofs.AtMemories.{gate-few}

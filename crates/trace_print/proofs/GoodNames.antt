@@ -17,8 +17,8 @@ use Rattle.tlm_model.specs.declared.platform.Target.{Target}
 use Rattle.tlm_model.specs.declared.platform.Target.TheVariants.{Router, Memory}
 use Rattle.tlm_model.specs.declared.platform.WindowRow.{WindowRow}
 use Rattle.report_model.specs.Report.{hop_word, hop_words, initiator_name, memory_name, name_of_initiator, name_of_memory, name_of_router, object_word, target_name}
-use Rattle.route_plan.specs.Shape.{IsShape}
-use Rattle.route_plan.proofs.SinglePaths.{or_true, some_same, windows_apart}
+use Rattle.platform_shape.specs.Shape.{IsShape}
+use Rattle.platform_shape.proofs.SinglePaths.{or_true, some_same, windows_apart}
 use Rattle.trace_print.specs.Naming.{HasOwnNames, HasPlainNames, IsPlainName}
 use Rattle.trace_print.proofs.SplitLemmas.{split-at}
 

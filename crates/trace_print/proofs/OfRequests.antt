@@ -8,7 +8,7 @@ use Rattle.tlm_model.specs.declared.platform.InitiatorRow.{InitiatorRow}
 use Rattle.tlm_model.specs.Plan.{Plan, Initiator, initiators_from, initiators_of}
 use Rattle.tlm_model.specs.Requests.{Request, requests_of}
 use Rattle.tlm_model.specs.Scripts.{OfRequest}
-use Rattle.route_plan.proofs.SinglePaths.{not_none, some_same}
+use Rattle.platform_shape.proofs.SinglePaths.{not_none, some_same}
 
 -- the initiator and the request of an entry
 pub record HasRequest (p : Plan) (before : List Entry) (e : Entry) : Type 0 where

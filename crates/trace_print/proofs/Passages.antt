@@ -22,11 +22,11 @@ use Rattle.flow_model.specs.World.{hop_count as passed_count}
 use Rattle.flow_model.specs.Platform.{accessed, addresses_of, passage_by, passage_of, passage_to}
 use Rattle.tlm_model.proofs.InitiatorLemmas.{initiator_from}
 use Rattle.platform_model.specs.Bounded.{IsBounded}
+use Rattle.platform_shape.specs.Shape.{IsShape}
+use Rattle.platform_shape.proofs.SinglePaths.{some_same}
 use Rattle.route_plan.specs.Routes.{ends_of, row_walk}
-use Rattle.route_plan.specs.Shape.{IsShape}
 use Rattle.route_plan.specs.Valid.{hop_count}
 use Rattle.route_plan.proofs.NumberLemmas.{length-ends_of, window_hop-le}
-use Rattle.route_plan.proofs.SinglePaths.{some_same}
 use Rattle.route_plan.proofs.StepLemmas.{few_hops_at}
 use Rattle.route_plan.proofs.WayLemmas.{bound_within}
 use Rattle.trace_print.specs.Hops.{hop_word_of}

@@ -15,7 +15,7 @@ use Rattle.tlm_model.specs.Requests.{Asked, Transport, DebugRead, Invalidation, 
 use Rattle.tlm_model.specs.Route.{Route, later, latency_of, route_of}
 use Rattle.tlm_model.specs.Store.{zeros}
 use Rattle.traffic_script.specs.Proper.{AreBytes, IsProper}
-use Rattle.route_plan.proofs.SinglePaths.{some_same}
+use Rattle.platform_shape.proofs.SinglePaths.{some_same}
 
 -- a buffer as a run has one
 pub record IsBuffer (got : List ℕ) : Type 0 where

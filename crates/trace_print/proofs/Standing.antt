@@ -14,7 +14,7 @@ use Rattle.flow_model.specs.World.{hop_count as passed_count}
 use Rattle.flow_model.specs.Events.{Event, number_in, numbered_from}
 use Rattle.flow_model.specs.Platform.{passage_of, world_of}
 use Rattle.flow_model.specs.Points.{InOrderBy}
-use Rattle.route_plan.specs.Shape.{IsShape}
+use Rattle.platform_shape.specs.Shape.{IsShape}
 use Rattle.route_plan.specs.Valid.{IsObject, hop_count}
 use Rattle.trace_print.proofs.AtMemories.{IsMemoryThere}
 use Rattle.trace_print.proofs.EntryKinds.{HaveKinds, IsKind}

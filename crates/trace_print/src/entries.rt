@@ -17,12 +17,12 @@ ghost use Rattle.trace_print.specs.Told.{access_words, shown_of, text_of};
 use crate::line::{Line, flush, put, put_access_line, put_event_line, put_piece};
 use crate::names::{ends_at, initiator_name, memory_name, place_at, put_object, put_txn};
 use crate::words::{kind_text, phase_text, put_data, put_number, put_range, put_sync, put_text};
+use entry_log::{Log, LoggedAccess};
 use line_text::{AccessLine, Event, EventLine, LinePiece};
 use outside::Sink;
 use route_plan::{HopEnds, Plan};
 use run_outcome::LogReader;
 use tlm_model::{Platform, Trace};
-use entry_log::{Log, LoggedAccess};
 use tlm_types::{Command, Facts, Head, Kind, ObjectNo, Phase, TlmSync, What};
 
 // The position, the time, the transaction and the object of an entry.

@@ -4,8 +4,8 @@ ghost use Rattle.tlm_model.specs.History.{IsNumbered};
 ghost use Rattle.run_outcome.specs.Merge.{merged};
 ghost use Rattle.run_outcome.specs.Places.{entries_of_logs, HasAt, HasNoneBefore, StandsAt};
 
-use std::alloc::Global;
 use entry_log::Log;
+use std::alloc::Global;
 use tlm_types::Memory;
 
 // Where an entry stands: in which log, and at which index there.

@@ -5,8 +5,8 @@ use Rattle.tlm_model.specs.declared.platform.MemoryRow.{MemoryRow}
 use Rattle.tlm_model.specs.declared.platform.Platform.{Platform}
 use Rattle.tlm_model.specs.Plan.{Plan}
 use Rattle.flow_model.specs.Platform.{to_memory}
+use Rattle.platform_shape.specs.Shape.{IsShape}
 use Rattle.route_plan.specs.Routes.{ends_of}
-use Rattle.route_plan.specs.Shape.{IsShape}
 use Rattle.plat_net.proofs.Forwarding.{end_there, latency_at, latency_by, memory_below}
 use Rattle.plat_net.proofs.Given.{shape_of}
 use Rattle.plat_net.proofs.Lookups.{row_at}

@@ -1,6 +1,6 @@
 use Rattle.std.proofs.Common.{subst}
 use Rattle.platform_model.specs.Reading.{Gives}
-use Rattle.route_plan.proofs.CopyLemmas.{rows_from-itself}
+use Rattle.platform_shape.proofs.CopyLemmas.{rows_from-itself}
 use Rattle.route_plan.proofs.copies.copy_shares.Goals as goal
 
 pub returns : goal.returns

@@ -1,5 +1,5 @@
 use Rattle.tlm_model.specs.Route.{window_hop}
-use Rattle.route_plan.proofs.WalkLemmas.{values_more}
+use Rattle.platform_shape.proofs.WalkLemmas.{values_more}
 use Rattle.route_plan.proofs.numbering.first_hops.Goals as goal
 
 pub loop-router-preserved : goal.loop-router-preserved

@@ -7,11 +7,11 @@ use Rattle.tlm_model.specs.declared.operation.Operation.{Operation}
 use Rattle.tlm_model.specs.declared.platform.Platform.{Platform}
 use Rattle.tlm_model.specs.Plan.{Plan}
 use Rattle.traffic_script.specs.Proper.{AreProper}
+use Rattle.platform_shape.specs.Shape.{IsShape}
+use Rattle.platform_shape.proofs.Chains.{returned}
 use Rattle.route_plan.specs.declared.shares.Share.{Share}
-use Rattle.route_plan.specs.Shape.{IsShape}
 use Rattle.route_plan.specs.Shares.{checked_shares, shares_of, with_scripts, HavePassed}
 use Rattle.route_plan.specs.Valid.{checked_plan, planned, IsValid}
-use Rattle.route_plan.proofs.Chains.{returned}
 use Rattle.route_plan.proofs.TotalLemmas.{limits_by_shares, planned_fails, planned_ok}
 use Rattle.route_plan.proofs.planning.plan.Goals as goal
 

@@ -1,8 +1,8 @@
 use Rattle.std.proofs.Common.{◌≡◌, length, ap, ◌∙◌, arith}
 use Rattle.tlm_model.specs.declared.platform.Platform.{Platform}
+use Rattle.platform_shape.proofs.WalkLemmas.{values_more}
 use Rattle.route_plan.specs.Shares.{initiator_shares, with_scripts}
 use Rattle.route_plan.proofs.ShareLemmas.{shares_counted}
-use Rattle.route_plan.proofs.WalkLemmas.{values_more}
 use Rattle.route_plan.proofs.shares.all_shares.Goals as goal
 
 pub loop-initiator-preserved : goal.loop-initiator-preserved

@@ -1,10 +1,10 @@
 use Rattle.std.proofs.Common.{◌<◌, ap, ◌∙◌, arith}
 use Rattle.tlm_model.specs.declared.platform.Platform.{Platform}
+use Rattle.platform_shape.proofs.WalkLemmas.{values_more}
 use Rattle.route_plan.specs.Counts.{count_in}
 use Rattle.route_plan.specs.Places.{object_count}
 use Rattle.route_plan.specs.Shares.{share_in}
 use Rattle.route_plan.proofs.ShareLemmas.{few_within, place_within, share_of_count}
-use Rattle.route_plan.proofs.WalkLemmas.{values_more}
 use Rattle.route_plan.proofs.shares.script_shares.Goals as goal
 
 pub index-requires : goal.index-requires

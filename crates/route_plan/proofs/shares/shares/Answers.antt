@@ -1,9 +1,9 @@
 use Rattle.std.proofs.Common.{◌≡◌, ◌<◌, map, ap, ◌∙◌, arith}
 use Rattle.std.specs.List.{range_with_len}
+use Rattle.platform_shape.proofs.WalkLemmas.{values_more}
 use Rattle.route_plan.specs.Places.{object_count}
 use Rattle.route_plan.specs.Shares.{object_shares, shares_of, with_scripts}
 use Rattle.route_plan.proofs.ShareLemmas.{object_by_rows, rows_reach}
-use Rattle.route_plan.proofs.WalkLemmas.{values_more}
 use Rattle.route_plan.proofs.shares.shares.Goals as goal
 
 pub object_shares-requires : goal.object_shares-requires

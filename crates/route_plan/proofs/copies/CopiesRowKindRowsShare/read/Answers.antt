@@ -1,6 +1,6 @@
 use Rattle.std.proofs.Common.{Ok, subst, ap, ◌∙◌}
 use Rattle.platform_model.specs.Reading.{Gives}
-use Rattle.route_plan.proofs.CopyLemmas.{rows_from-itself}
+use Rattle.platform_shape.proofs.CopyLemmas.{rows_from-itself}
 use Rattle.route_plan.proofs.copies.CopiesRowKindRowsShare.read.Goals as goal
 
 pub returns : goal.returns

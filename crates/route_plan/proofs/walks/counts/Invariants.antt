@@ -1,5 +1,0 @@
-use Rattle.route_plan.specs.Walks.{AreCounts}
-use Rattle.route_plan.proofs.walks.counts.Given as goal
-
-abbrev pub invariant-loop-done : goal.invariant-loop-done
-invariant-loop-done l = AreCounts l.walks l.done l.platform l.counts.items
