@@ -14,15 +14,16 @@ use Rattle.script_engine.specs.declared.part.TransferKind.TheVariants as kinds
 use Rattle.script_engine.specs.Part.{is_fenced_kind}
 use Rattle.script_engine.specs.State.{next_of}
 use Rattle.port_model.specs.Issues.{IsPlainKind, IsPlainPart}
-use Rattle.fourphase_port.specs.Moved.{ends, made, went}
-use Rattle.fourphase_port.specs.Moves.{FindsFull, Takes, Fetches, FindsNone}
+use Rattle.port_moves.specs.Moved.{ends, made, went}
+use Rattle.port_moves.specs.Moves.{Fetches, FindsNone}
+use Rattle.fourphase_port.specs.Moves.{FindsFull, Takes}
 use Rattle.fourphase_port.specs.Pumps.{DoesNext, GoesOn, GoesOnIn, IsFreeMove, IsMove, IsMoveOf, TakesNext, empty_handed, unheld, GoesOnWith, TriesBegin}
-use Rattle.fourphase_port.specs.State.{GoesBack, IsHandOf, IsHeld, IsInHand, IsPort, PortView, StateView, with_note}
-use Rattle.fourphase_port.specs.declared.hand.Hand.{Hand}
-use Rattle.fourphase_port.specs.declared.hand.Hand.TheVariants.{Free, Taken, Acquired, Begun, Owed, Ended, Released}
-use Rattle.fourphase_port.specs.declared.hand.Moved.{Moved}
-use Rattle.fourphase_port.specs.declared.hand.Pumped.TheVariants.{Nothing}
-use Rattle.fourphase_port.proofs.Goes.{goes_on}
+use Rattle.port_moves.specs.State.{GoesBack, IsHandOf, IsHeld, IsInHand, IsPort, PortView, StateView, with_note}
+use Rattle.port_moves.specs.declared.hand.Hand.{Hand}
+use Rattle.port_moves.specs.declared.hand.Hand.TheVariants.{Free, Taken, Acquired, Begun, Owed, Ended, Released}
+use Rattle.port_moves.specs.declared.hand.Moved.{Moved}
+use Rattle.port_moves.specs.declared.hand.Pumped.TheVariants.{Nothing}
+use Rattle.port_moves.proofs.Goes.{goes_on}
 
 no_cargo : (c : Cargo) → None ≡ Some c → ⊥
 no_cargo c q = cc

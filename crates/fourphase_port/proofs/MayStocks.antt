@@ -58,13 +58,14 @@ use Rattle.script_engine.specs.declared.part.Transfer.{Transfer}
 use Rattle.script_engine.specs.declared.part.TransferKind.{TransferKind}
 use Rattle.script_engine.specs.declared.part.TransferKind.TheVariants as kinds
 use Rattle.script_engine.specs.State.{next_of, payload_of}
-use Rattle.fourphase_port.specs.Laws.{IsAccessOf, NextIsPaid, NextMayBeStocked, NextMayStart}
-use Rattle.fourphase_port.specs.Reach.{first_hop, own_pool}
-use Rattle.fourphase_port.specs.State.{IsPort, PortView, bytes_under, bytes_while, left_at}
-use Rattle.fourphase_port.specs.Stocks.{HasPaid, IsApart, IsStocked, MayStock, hops_at, place_at}
-use Rattle.fourphase_port.proofs.FirstHop.{has_its_pool}
+use Rattle.port_moves.specs.Loaded.{IsAccessOf}
+use Rattle.fourphase_port.specs.Laws.{NextIsPaid, NextMayBeStocked, NextMayStart}
+use Rattle.port_moves.specs.Reach.{first_hop, own_pool}
+use Rattle.port_moves.specs.State.{IsPort, PortView, bytes_under, bytes_while, left_at}
+use Rattle.port_moves.specs.Stocks.{HasPaid, IsApart, IsStocked, MayStock, hops_at, place_at}
+use Rattle.port_moves.proofs.FirstHop.{has_its_pool}
 use Rattle.fourphase_port.proofs.NextIsAsked.{access_passes, filled_asks, filled_new, filled_room, taken_asked, way}
-use Rattle.fourphase_port.proofs.TakesIn.{other_pulled, same_pulled}
+use Rattle.port_moves.proofs.TakesIn.{other_pulled, same_pulled}
 use Rattle.fourphase_port.proofs.SeenRoute.{Seen, seen_route}
 
 -- a hop of a list is counted

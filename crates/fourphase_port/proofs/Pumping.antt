@@ -18,15 +18,17 @@ use Rattle.script_engine.specs.State.{next_of, op_of}
 use Rattle.initiator_run.proofs.AccessLemmas.{after_initiator}
 use Rattle.port_model.specs.Issues.{IsPlainKind, IsPlainPart}
 use Rattle.port_model.specs.Way.{Port}
-use Rattle.fourphase_port.specs.Moved.{after_begin, ends, ends_made, made, went}
-use Rattle.fourphase_port.specs.Moves.{Fetches, FindsNone, HasGone, IsDue, IsFetched, IsItsInitiator, IsToStow, KeepsPort, PutsStray, Settles, TakesBack, port_back, port_read, port_taken}
+use Rattle.port_moves.specs.Moved.{after_begin, ends, ends_made, made, went}
+use Rattle.port_moves.specs.Moves.{Fetches, FindsNone, HasGone, IsDue, IsFetched, IsToStow, KeepsPort, PutsStray, Settles, TakesBack, port_back, port_read, port_taken}
+use Rattle.fourphase_port.specs.Moves.{IsItsInitiator}
 use Rattle.fourphase_port.specs.Pumps.{DoesKind, DoesNext, GoesOn, GoesOnIn, HasFinished, IsMove, IsMoveOf, IsMoved, IsPump, TakesNext, TriesBegin, empty_handed, moves_left, unheld}
-use Rattle.fourphase_port.specs.State.{IsAtRest, PortView, RestView, StateView, with_note}
-use Rattle.fourphase_port.specs.declared.hand.Hand.{Hand}
-use Rattle.fourphase_port.specs.declared.hand.Hand.TheVariants.{Free, Taken, Acquired, Begun, Owed, Ended, Released}
-use Rattle.fourphase_port.specs.declared.hand.Moved.{Moved}
-use Rattle.fourphase_port.specs.declared.hand.Pumped.{Pumped}
-use Rattle.fourphase_port.specs.declared.hand.Pumped.TheVariants.{Did, Nothing, Finished}
+use Rattle.port_moves.specs.State.{PortView, StateView, with_note}
+use Rattle.fourphase_port.specs.Rest.{IsAtRest, RestView}
+use Rattle.port_moves.specs.declared.hand.Hand.{Hand}
+use Rattle.port_moves.specs.declared.hand.Hand.TheVariants.{Free, Taken, Acquired, Begun, Owed, Ended, Released}
+use Rattle.port_moves.specs.declared.hand.Moved.{Moved}
+use Rattle.port_moves.specs.declared.hand.Pumped.{Pumped}
+use Rattle.port_moves.specs.declared.hand.Pumped.TheVariants.{Did, Nothing, Finished}
 
 -- what a move comes to isn't two things
 goes_or_ends : (m : Moved) (a b : Option Pumped) → m.pumped ≡ a → m.pumped ≡ b → a ≡ b

@@ -72,23 +72,24 @@ use Rattle.script_engine.specs.State.{State, next_of, passed_by, payload_of, tol
 use Rattle.script_engine.proofs.Payloads.{room_of_payload}
 use Rattle.script_engine.proofs.Steps.{fills}
 use Rattle.fourphase_port.specs.Laws.{MayBeRead}
-use Rattle.fourphase_port.specs.Moves.{IsReadOf, ReadsDebug, port_read}
+use Rattle.port_moves.specs.Moves.{port_read}
+use Rattle.fourphase_port.specs.Moves.{IsReadOf, ReadsDebug}
 use Rattle.fourphase_port.specs.Pumps.{read_moved}
-use Rattle.fourphase_port.specs.Reads.{HasAsked, HasSpent, debug_call}
-use Rattle.fourphase_port.specs.Returned.{with_port}
-use Rattle.fourphase_port.specs.State.{GoesBack, IsInHand, IsPort, StateView, bytes_under, bytes_while, left_at, with_note}
-use Rattle.fourphase_port.specs.declared.hand.Hand.{Hand}
-use Rattle.fourphase_port.specs.declared.hand.Hand.TheVariants.{Free}
-use Rattle.fourphase_port.specs.declared.hand.Moved.{Moved}
-use Rattle.fourphase_port.specs.declared.hand.Pumped.TheVariants.{Did}
-use Rattle.fourphase_port.proofs.Backs.{its, stands}
+use Rattle.port_moves.specs.Reads.{HasAsked, HasSpent, debug_call}
+use Rattle.port_moves.specs.Returned.{with_port}
+use Rattle.port_moves.specs.State.{GoesBack, IsInHand, IsPort, StateView, bytes_under, bytes_while, left_at, with_note}
+use Rattle.port_moves.specs.declared.hand.Hand.{Hand}
+use Rattle.port_moves.specs.declared.hand.Hand.TheVariants.{Free}
+use Rattle.port_moves.specs.declared.hand.Moved.{Moved}
+use Rattle.port_moves.specs.declared.hand.Pumped.TheVariants.{Did}
+use Rattle.port_moves.proofs.Backs.{its, stands}
 use Rattle.fourphase_port.proofs.NextIsAsked.{has_of, request}
-use Rattle.fourphase_port.proofs.Proper.{proper_passed}
+use Rattle.port_moves.proofs.Proper.{proper_passed}
 use Rattle.fourphase_port.proofs.ReadsNext.{may_be_read}
 use Rattle.fourphase_port.proofs.SeenRoute.{Seen, none_seen, seen_route}
-use Rattle.fourphase_port.proofs.Stocking.{gave_bytes_else, gave_bytes_here, gave_else, gave_here}
+use Rattle.port_moves.proofs.Stocking.{gave_bytes_else, gave_bytes_here, gave_else, gave_here}
 use Rattle.fourphase_port.proofs.Taking.{among_known}
-use Rattle.fourphase_port.proofs.TakenBack.{moved_port}
+use Rattle.port_moves.proofs.TakenBack.{moved_port}
 use Rattle.fourphase_port.proofs.TakesNext.{passed_who, room_told}
 
 kept_one : (f : Entry → Bool) (e : Entry) → f e ≡ true → length (filter f (e ∷ [])) ≡ 1

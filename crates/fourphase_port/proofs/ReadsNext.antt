@@ -28,7 +28,7 @@ use Rattle.port_model.proofs.NextAsks.{is_priced}
 use Rattle.port_model.proofs.Starts.{planned}
 use Rattle.script_engine.specs.State.{next_of, payload_of}
 use Rattle.fourphase_port.specs.Laws.{NextMayBeRead}
-use Rattle.fourphase_port.specs.State.{bytes_under, bytes_while, left_at}
+use Rattle.port_moves.specs.State.{bytes_under, bytes_while, left_at}
 use Rattle.fourphase_port.proofs.NextIsAsked.{read_passes_none}
 use Rattle.fourphase_port.proofs.SeenRoute.{Seen, seen_route}
 

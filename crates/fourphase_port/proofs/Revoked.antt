@@ -70,20 +70,20 @@ use Rattle.script_engine.specs.State.{Due, State, next_of, op_at, passed_by}
 use Rattle.script_engine.proofs.States.{state}
 use Rattle.fourphase_port.specs.Moves.{InvalidatesNext, last_place}
 use Rattle.fourphase_port.specs.Pumps.{invalidation_moved}
-use Rattle.fourphase_port.specs.Returned.{TakesAll, with_port}
+use Rattle.port_moves.specs.Returned.{TakesAll, with_port}
 use Rattle.fourphase_port.specs.Revoking.{MayRevoke, Revokes}
-use Rattle.fourphase_port.specs.State.{GoesBack, IsInHand, IsPort, StateView, bytes_under, bytes_while, left_at, with_note}
-use Rattle.fourphase_port.specs.declared.hand.Hand.{Hand}
-use Rattle.fourphase_port.specs.declared.hand.Hand.TheVariants.{Free}
-use Rattle.fourphase_port.specs.declared.hand.Moved.{Moved}
-use Rattle.fourphase_port.specs.declared.hand.Pumped.TheVariants.{Did}
-use Rattle.fourphase_port.proofs.Backs.{its, stands}
+use Rattle.port_moves.specs.State.{GoesBack, IsInHand, IsPort, StateView, bytes_under, bytes_while, left_at, with_note}
+use Rattle.port_moves.specs.declared.hand.Hand.{Hand}
+use Rattle.port_moves.specs.declared.hand.Hand.TheVariants.{Free}
+use Rattle.port_moves.specs.declared.hand.Moved.{Moved}
+use Rattle.port_moves.specs.declared.hand.Pumped.TheVariants.{Did}
+use Rattle.port_moves.proofs.Backs.{its, stands}
 use Rattle.fourphase_port.proofs.NextIsAsked.{has_of}
 use Rattle.fourphase_port.proofs.OpenGates.{open_same}
-use Rattle.fourphase_port.proofs.Proper.{proper_passed}
+use Rattle.port_moves.proofs.Proper.{proper_passed}
 use Rattle.fourphase_port.proofs.SeenRoute.{Seen, none_seen, seen_route}
-use Rattle.fourphase_port.proofs.TakenBack.{moved_port}
-use Rattle.fourphase_port.proofs.TakesIn.{in_range}
+use Rattle.port_moves.proofs.TakenBack.{moved_port}
+use Rattle.port_moves.proofs.TakesIn.{in_range}
 use Rattle.fourphase_port.proofs.TakesNext.{passed_who}
 
 -- an invalidation logs nothing
@@ -121,13 +121,13 @@ nothing_left : (o : ℕ) → (left_of (empty_purse 1) o ≡ 0) × (bytes_of (emp
 nothing_left o = (ap left_in (get-empty nat_cmp o), ap bytes_left_in (get-empty nat_cmp o))
 
 -- a wallet has room for what an empty purse has
-pub room_for_none : (m : ℕ) (w v : Purse) → v ≡ empty_purse 1 → IsRoomyFor m w → HasRoomForAll w v
-room_for_none m w v q r = subst (HasRoomForAll w) (sym q) (record {
+pub room_for_none : (m : ℕ) (w : Purse) → IsRoomyFor m w → HasRoomForAll w (empty_purse 1)
+room_for_none m w r = record {
   objects = r.objects;
   few = r.few;
   own = r.all;
   others = λ o some. absurd (let n = nothing_left o in omega (arith, some, n.0, n.1));
-})
+}
 
 -- all of these entries stand at one object
 all_there : (o : ObjectNo) (es : List Entry) → ((e : Entry) → Has es e → e.object ≡ o) → length (entries_at o es) ≡ length es

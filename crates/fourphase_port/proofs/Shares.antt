@@ -29,7 +29,7 @@ use Rattle.cargo_model.proofs.There.{there_law}
 use Rattle.joined_traffic.specs.Accesses.{txn_of}
 use Rattle.plat_net.specs.Objects.{HasObject}
 use Rattle.plat_net.proofs.NumberLemmas.{memory_there}
-use Rattle.fourphase_port.specs.State.{left_at}
+use Rattle.port_moves.specs.State.{left_at}
 
 decide : (o : ObjectNo) (os : List ObjectNo) → Among os o ⊎ (Among os o → ⊥)
 decide o [] = inr (λ a. a)

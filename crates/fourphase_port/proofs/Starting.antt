@@ -1,5 +1,5 @@
 -- A port that begins is a port.
-use Rattle.std.proofs.Common.{◌≡◌, false, ℕ, zero, suc, ◌+◌, ◌*◌, ◌<◌, ◌≤◌, List, [], ◌∷◌, length, Some, None, refl, sym, ap, ◌∙◌, subst, arith}
+use Rattle.std.proofs.Common.{◌≡◌, ℕ, zero, suc, ◌+◌, ◌*◌, ◌<◌, ◌≤◌, List, [], ◌∷◌, length, Some, refl, sym, ap, ◌∙◌, subst, arith}
 use Rattle.std.specs.Prelude.{slice_get}
 use Rattle.std.specs.List.{AllByRecursion}
 use Rattle.view_lists.proofs.Members.{has_none}
@@ -7,7 +7,6 @@ use Rattle.atomic_table.specs.Seated.{TableId}
 use Rattle.one_history.specs.Held.{Held}
 use Rattle.one_history.specs.declared.entry.Entry.{Entry}
 use Rattle.one_history.specs.declared.view.Frame.{Frame}
-use Rattle.tlm_types.specs.declared.ends.RefusedItem.{RefusedItem}
 use Rattle.tlm_types.specs.declared.entry.Content.{Content}
 use Rattle.tlm_types.specs.declared.words.ObjectNo.TheVariants.{Memory}
 use Rattle.tlm_model.specs.declared.operation.Operation.{Operation}
@@ -30,9 +29,9 @@ use Rattle.port_model.proofs.Starts.{begins_law, numbers_count}
 use Rattle.run_outcome.proofs.PlanLemmas.{initiator_number, initiator_within}
 use Rattle.script_engine.specs.State.{State, begun_engine}
 use Rattle.script_engine.proofs.Remaining.{few_numbers}
-use Rattle.fourphase_port.specs.Fresh.{IsFresh, begun_state}
-use Rattle.fourphase_port.specs.State.{IsAtRest, IsPort, left_at, with_note}
-use Rattle.fourphase_port.specs.declared.hand.Hand.TheVariants.{Free}
+use Rattle.fourphase_port.specs.Fresh.{IsFresh}
+use Rattle.port_moves.specs.State.{IsPort, StateView, begun_state, left_at, with_note}
+use Rattle.fourphase_port.specs.Rest.{IsAtRest}
 use Rattle.fourphase_port.proofs.Shares.{all_left}
 
 no_bytes_more : (p : Plan) (i : Initiator) (m : ℕ) → logged_in p i m i.script ≡ logged_share p i m
@@ -131,19 +130,6 @@ module _ (table tokens : TableId) (frame : Frame Plan) (n : ℕ) (e : State) (b 
     proper = subst (λ (x : State). AllByRecursion IsProper x.remaining) (sym engine_is) (proper_at p valid n i f.is).each;
   }
 
-  -- by the parts that the code has made
-  pub begun_by : (numbers : List ℕ) (items : List RefusedItem) (room places : ℕ) (u : Purse) → numbers ≡ [] → items ≡ [] → places ≡ room → u ≡ w → count_of i ≤ room
-      → IsAtRest table tokens frame (record {
-        state = record { port = record { engine = e; waiting = false; time = 0; latest = 0; away = numbers; refused = items }; hand = Free; held = None; room = places; payload = Some b; wallet = u };
-        note = Some note;
-      })
-  begun_by numbers items room places u away refused same from all =
-      record {
-        its_note = note;
-        has_note = refl;
-        is_port = subst (λ (x : Purse). IsPort table tokens frame (with_note (record { port = record { engine = e; waiting = false; time = 0; latest = 0; away = numbers; refused = items }; hand = Free; held = None; room = places; payload = Some b; wallet = x }) note)) (sym from)
-            (subst (λ (x : ℕ). IsPort table tokens frame (with_note (record { port = record { engine = e; waiting = false; time = 0; latest = 0; away = numbers; refused = items }; hand = Free; held = None; room = x; payload = Some b; wallet = w }) note)) (sym same)
-            (subst (λ (x : List RefusedItem). IsPort table tokens frame (with_note (record { port = record { engine = e; waiting = false; time = 0; latest = 0; away = numbers; refused = x }; hand = Free; held = None; room = room; payload = Some b; wallet = w }) note)) (sym refused)
-            (subst (λ (x : List ℕ). IsPort table tokens frame (with_note (record { port = record { engine = e; waiting = false; time = 0; latest = 0; away = x; refused = [] }; hand = Free; held = None; room = room; payload = Some b; wallet = w }) note)) (sym away)
-            (fresh_port room all))));
-      }
+  -- as the code has made it
+  pub begun_by : (room : ℕ) (s : StateView) → s ≡ begun_state e b room w → count_of i ≤ room → IsAtRest table tokens frame (record { state = s; note = Some note })
+  begun_by room s is all = record { its_note = note; has_note = refl; is_port = subst (λ (x : StateView). IsPort table tokens frame (with_note x note)) (sym is) (fresh_port room all) }

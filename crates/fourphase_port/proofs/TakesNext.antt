@@ -22,17 +22,17 @@ use Rattle.std.specs.Ordering.{nat_cmp}
 use Rattle.traffic_script.specs.Proper.{IsProper}
 use Rattle.token_book.specs.Pocket.{Pocket}
 use Rattle.token_book.specs.Purse.{HasPlace, HasRoom, IsOf, Purse, bytes_of, empty_purse, left_in, left_of}
-use Rattle.fourphase_port.specs.Wallets.{Gets}
-use Rattle.fourphase_port.specs.declared.hand.Hand.TheVariants.{Free}
+use Rattle.port_moves.specs.Wallets.{Gets}
+use Rattle.port_moves.specs.declared.hand.Hand.TheVariants.{Free}
 use Rattle.port_model.proofs.Begins.{keeps_stray}
 use Rattle.port_end.proofs.Arrives.{knows_more as events_more, stand_below as events_below}
 use Rattle.cargo_model.specs.Known.{object_number, objects_of}
 use Rattle.view_lists.specs.Lists.{Has}
-use Rattle.fourphase_port.specs.Stocks.{MayStock}
-use Rattle.fourphase_port.proofs.AwayLemmas.{among_of}
-use Rattle.fourphase_port.proofs.PortFacts.{next_is_new}
-use Rattle.fourphase_port.proofs.Proper.{proper_passed}
-use Rattle.fourphase_port.proofs.TakesIn.{same_pulled}
+use Rattle.port_moves.specs.Stocks.{MayStock}
+use Rattle.port_moves.proofs.AwayLemmas.{among_of}
+use Rattle.port_moves.proofs.PortFacts.{next_is_new}
+use Rattle.port_moves.proofs.Proper.{proper_passed}
+use Rattle.port_moves.proofs.TakesIn.{same_pulled}
 use Rattle.region_object.specs.Call.{payload_cost}
 use Rattle.payload_pool.specs.declared.baton.Baton.{Baton}
 use Rattle.flow_model.specs.Events.{Event, FindsAt, IsTake}
@@ -60,18 +60,20 @@ use Rattle.script_engine.specs.declared.part.TransferKind.{TransferKind}
 use Rattle.script_engine.specs.declared.part.TransferKind.TheVariants as kinds
 use Rattle.script_engine.specs.Part.{is_fenced_kind, is_fenced_part}
 use Rattle.script_engine.specs.State.{State, next_of, passed_by, passed_over, payload_of, told_by}
-use Rattle.fourphase_port.specs.Laws.{IsAccessOf}
-use Rattle.fourphase_port.specs.Loaded.{IsLoaded, filled_baton, taken_state}
-use Rattle.fourphase_port.specs.Moves.{MayTakeKind, MayTakeNext, Takes, port_taken}
-use Rattle.fourphase_port.specs.Reach.{TakesLate, own_pool}
-use Rattle.fourphase_port.specs.State.{GoesBack, IsInHand, IsPort, StateView, bytes_under, bytes_while, left_at, with_note}
-use Rattle.fourphase_port.specs.declared.hand.Hand.{Hand}
-use Rattle.fourphase_port.specs.declared.hand.Hand.TheVariants.{Taken}
-use Rattle.fourphase_port.proofs.Backs.{its, pool_is_there}
-use Rattle.fourphase_port.proofs.Loads.{bytes_paid, same_bytes}
+use Rattle.port_moves.specs.Loaded.{IsAccessOf}
+use Rattle.port_moves.specs.Loaded.{IsLoaded, filled_baton, taken_state}
+use Rattle.port_moves.specs.Moves.{port_taken}
+use Rattle.fourphase_port.specs.Moves.{MayTakeKind, MayTakeNext, Takes}
+use Rattle.port_moves.specs.Reach.{own_pool}
+use Rattle.fourphase_port.specs.Moves.{TakesLate}
+use Rattle.port_moves.specs.State.{GoesBack, IsInHand, IsPort, StateView, bytes_under, bytes_while, left_at, with_note}
+use Rattle.port_moves.specs.declared.hand.Hand.{Hand}
+use Rattle.port_moves.specs.declared.hand.Hand.TheVariants.{Taken}
+use Rattle.port_moves.proofs.Backs.{its, pool_is_there}
+use Rattle.port_moves.proofs.Loads.{bytes_paid, same_bytes}
 use Rattle.fourphase_port.proofs.MayStocks.{has_paid, may_start, may_stock}
 use Rattle.fourphase_port.proofs.NextIsAsked.{access_passes, way}
-use Rattle.fourphase_port.proofs.TakenBack.{moved_port}
+use Rattle.port_moves.proofs.TakenBack.{moved_port}
 use Rattle.fourphase_port.proofs.Taking.{takes_fenced, takes_plain}
 
 free_by : (port : Port) (k : TransferKind) → MayTakeKind port k → port.waiting ≡ false

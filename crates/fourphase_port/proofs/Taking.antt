@@ -23,8 +23,8 @@ use Rattle.port_model.specs.Way.{IsUnderWay, Port}
 use Rattle.port_model.proofs.PlainTakes.{fenced_taken, plain_taken}
 use Rattle.port_end.specs.Arrives.{StandBelow, events_of}
 use Rattle.port_end.proofs.Arrives.{knows_more as events_more, stand_below as events_below}
-use Rattle.fourphase_port.specs.Moves.{port_taken}
-use Rattle.fourphase_port.specs.Reach.{TakesLate}
+use Rattle.port_moves.specs.Moves.{port_taken}
+use Rattle.fourphase_port.specs.Moves.{TakesLate}
 
 among_event : (p : Platform) (entries : List (Entry Content)) (n : ℕ) (entry : Entry Content) → get_elem? entries n ≡ some entry → Among (events_of p entries) (event_of p entry)
 among_event p [] n entry q = absurd (some-ne-none entry (sym q))

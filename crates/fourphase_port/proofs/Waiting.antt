@@ -11,17 +11,18 @@ use Rattle.script_engine.specs.declared.part.TransferKind.TheVariants as kinds
 use Rattle.script_engine.specs.State.{State, next_of, op_of}
 use Rattle.port_model.specs.Issues.{IsPlainPart}
 use Rattle.port_model.specs.Way.{Port}
-use Rattle.fourphase_port.specs.Moved.{after_begin, ends, ends_made, made, went}
-use Rattle.fourphase_port.specs.Moves.{Fetches, FindsFull, FindsNone, HasGone, IsFetched, Settles}
+use Rattle.port_moves.specs.Moved.{after_begin, ends, ends_made, made, went}
+use Rattle.port_moves.specs.Moves.{Fetches, FindsNone, HasGone, IsFetched, Settles}
+use Rattle.fourphase_port.specs.Moves.{FindsFull}
 use Rattle.fourphase_port.specs.Pumps.{AreMoves, DidNothing, DoesKind, DoesNext, GoesOn, IsMoveOf, NothingHasLooked, TakesNext, TriesBegin, WhyNothing, empty_handed, moves_left}
 use Rattle.fourphase_port.specs.Pumps.WhyNothing.{AllLive, RefusedAgain, SomeLive, SomeOut}
-use Rattle.fourphase_port.specs.Reach.{own_pool}
-use Rattle.fourphase_port.specs.State.{PortView, StateView, with_note}
-use Rattle.fourphase_port.specs.declared.hand.Hand.{Hand}
-use Rattle.fourphase_port.specs.declared.hand.Hand.TheVariants.{Free, Taken, Acquired, Begun, Owed, Ended, Released}
-use Rattle.fourphase_port.specs.declared.hand.Moved.{Moved}
-use Rattle.fourphase_port.specs.declared.hand.Pumped.{Pumped}
-use Rattle.fourphase_port.specs.declared.hand.Pumped.TheVariants.{Did, Nothing, Finished}
+use Rattle.port_moves.specs.Reach.{own_pool}
+use Rattle.port_moves.specs.State.{PortView, StateView, with_note}
+use Rattle.port_moves.specs.declared.hand.Hand.{Hand}
+use Rattle.port_moves.specs.declared.hand.Hand.TheVariants.{Free, Taken, Acquired, Begun, Owed, Ended, Released}
+use Rattle.port_moves.specs.declared.hand.Moved.{Moved}
+use Rattle.port_moves.specs.declared.hand.Pumped.{Pumped}
+use Rattle.port_moves.specs.declared.hand.Pumped.TheVariants.{Did, Nothing, Finished}
 use Rattle.fourphase_port.proofs.Pumping.{GoesSo, done_by, goes_so, nearer}
 use Rattle.fourphase_port.proofs.Pumping.GoesSo.{Takes, Waits, Does}
 

@@ -1,5 +1,5 @@
 -- With what a port begins.
-use Rattle.std.specs.Prelude.{ℕ, ◌≡◌, ◌<◌, false, [], length, Some, None, slice_get}
+use Rattle.std.specs.Prelude.{ℕ, ◌≡◌, ◌<◌, [], length, Some, slice_get}
 use Rattle.atomic_table.specs.Seated.{TableId}
 use Rattle.one_history.specs.Held.{Held}
 use Rattle.tlm_types.specs.declared.entry.Content.{Content}
@@ -13,8 +13,6 @@ use Rattle.route_plan.specs.Counted.{share_at}
 use Rattle.cargo_model.specs.Known.{objects_of}
 use Rattle.plat_net.specs.Objects.{HasObject, bytes_at}
 use Rattle.script_engine.specs.State.{State, begun_engine}
-use Rattle.fourphase_port.specs.State.{StateView}
-use Rattle.fourphase_port.specs.declared.hand.Hand.TheVariants.{Free}
 
 -- The four parts of a four-phase initiator of a plan that hasn't begun: an engine with its whole script, a payload with room for all that it reads, a note that
 -- has seen nothing, and a wallet with a place for each object, and as many tickets and bytes of it as the plan counts for this initiator.
@@ -32,14 +30,3 @@ pub record IsFresh (table tokens : TableId) (p : Plan) (n : ℕ) (e : State) (b 
   pub few : (o : ℕ) → HasPlace w o → o < length (objects_of p.platform)
   pub left : (k : ℕ) (o : ObjectNo) → HasObject p.platform k o → left_of w k ≡ share_at p n o
   pub bytes : (k : ℕ) (o : ObjectNo) → HasObject p.platform k o → bytes_of w k ≡ bytes_at p n o
-
--- a port that begins: its whole script is before it, and nothing is outstanding
-abbrev pub begun_state : State → PayloadView → ℕ → Purse → StateView
-begun_state e b room w = record {
-  port = record { engine = e; waiting = false; time = 0; latest = 0; away = []; refused = [] };
-  hand = Free;
-  held = None;
-  room = room;
-  payload = Some b;
-  wallet = w;
-}

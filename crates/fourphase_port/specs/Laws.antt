@@ -21,17 +21,12 @@ use Rattle.cargo_model.specs.Tickets.{Pulls}
 use Rattle.port_model.specs.Stages.{price}
 use Rattle.script_engine.specs.declared.part.Part.TheVariants.{Asks}
 use Rattle.script_engine.specs.declared.part.Transfer.{Transfer}
-use Rattle.script_engine.specs.declared.part.TransferKind.{TransferKind}
 use Rattle.script_engine.specs.declared.part.TransferKind.TheVariants as kinds
 use Rattle.script_engine.specs.State.{next_of, payload_of}
-use Rattle.fourphase_port.specs.Reach.{own_pool}
-use Rattle.fourphase_port.specs.State.{IsPort, PortView, left_at}
-use Rattle.fourphase_port.specs.Stocks.{HasPaid, IsStocked, MayStock}
-
--- a transfer that isn't a debug read
-abbrev pub IsAccessOf : TransferKind → Type 0
-IsAccessOf (kinds.Access command plain fenced) = Unit {0}
-IsAccessOf kinds.DebugRead = ⊥
+use Rattle.port_moves.specs.Loaded.{IsAccessOf}
+use Rattle.port_moves.specs.Reach.{own_pool}
+use Rattle.port_moves.specs.State.{IsPort, PortView, left_at}
+use Rattle.port_moves.specs.Stocks.{HasPaid, IsStocked, MayStock}
 
 -- A port that waits for nothing has all tickets and bytes of the access that is next: once the ticket of its Take was pulled, the others may move into
 -- the wallet of its payload.

@@ -1,14 +1,6 @@
-pub mod Away
-pub mod Wallets
-pub mod Reach
-pub mod State
+pub mod Rest
 pub mod Moves
-pub mod Moved
-pub mod Returned
 pub mod Revoking
-pub mod Stocks
-pub mod Loaded
 pub mod Laws
-pub mod Reads
 pub mod Pumps
 pub mod Fresh

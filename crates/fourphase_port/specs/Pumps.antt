@@ -15,15 +15,17 @@ use Rattle.script_engine.specs.declared.part.TransferKind.TheVariants as kinds
 use Rattle.script_engine.specs.State.{State, next_of, op_of}
 use Rattle.plat_net.specs.Calls.{route_at}
 use Rattle.port_model.specs.Issues.{IsPlainPart}
-use Rattle.fourphase_port.specs.Moved.{after_begin, ends, ends_made, made, went}
-use Rattle.fourphase_port.specs.Moves.{Acquires, Begins, Ends, Fetches, FindsBusy, FindsFull, FindsNone, InvalidatesNext, LooksLive, Passes, PutsStray, ReadsDebug, Serves, Settles, Stows, Takes, TakesBack}
-use Rattle.fourphase_port.specs.Reach.{first_hop, own_pool}
-use Rattle.fourphase_port.specs.State.{PortView, RestView, StateView, with_note}
-use Rattle.fourphase_port.specs.declared.hand.Hand.{Hand}
-use Rattle.fourphase_port.specs.declared.hand.Hand.TheVariants.{Free, Taken, Acquired, Begun, Owed, Ended, Released}
-use Rattle.fourphase_port.specs.declared.hand.Moved.{Moved}
-use Rattle.fourphase_port.specs.declared.hand.Pumped.{Pumped}
-use Rattle.fourphase_port.specs.declared.hand.Pumped.TheVariants.{Did, Nothing, Finished}
+use Rattle.port_moves.specs.Moved.{after_begin, ends, ends_made, made, went}
+use Rattle.port_moves.specs.Moves.{Acquires, Begins, Ends, Fetches, FindsBusy, FindsNone, Passes, PutsStray, Serves, Settles, Stows, TakesBack}
+use Rattle.fourphase_port.specs.Moves.{FindsFull, InvalidatesNext, LooksLive, ReadsDebug, Takes}
+use Rattle.port_moves.specs.Reach.{first_hop, own_pool}
+use Rattle.port_moves.specs.State.{PortView, StateView, with_note}
+use Rattle.fourphase_port.specs.Rest.{RestView}
+use Rattle.port_moves.specs.declared.hand.Hand.{Hand}
+use Rattle.port_moves.specs.declared.hand.Hand.TheVariants.{Free, Taken, Acquired, Begun, Owed, Ended, Released}
+use Rattle.port_moves.specs.declared.hand.Moved.{Moved}
+use Rattle.port_moves.specs.declared.hand.Pumped.{Pumped}
+use Rattle.port_moves.specs.declared.hand.Pumped.TheVariants.{Did, Nothing, Finished}
 
 -- the number that an access or a debug read has which is next
 abbrev pub asks_for : Part → Option ℕ

@@ -13,7 +13,7 @@ use Rattle.plat_net.specs.Calls.{HasNoPassage, route_at}
 use Rattle.dmi_grants.specs.Invalidating.{HasInvalidated}
 use Rattle.dmi_grants.specs.Made.{IsRoomyFor, unclosed}
 use Rattle.fourphase_port.specs.Moves.{last_place}
-use Rattle.fourphase_port.specs.Returned.{TakesAll}
+use Rattle.port_moves.specs.Returned.{TakesAll}
 
 -- The invalidation x of initiator n at this address passes no hop. Where the address has a route, there is a ticket of its memory, and one for each gate there
 -- that isn't known to be closed.

@@ -1,30 +1,31 @@
 // A port: a four-phase initiator under way.
-ghost use Rattle.std.specs.Prelude.{◌≡◌, ◌<◌, ◌≤◌, [], IfOk, Some, length, slice_get};
+ghost use Rattle.std.specs.Prelude.{◌≡◌, ◌<◌, ◌≤◌, IfOk, Some, length, slice_get};
 ghost use Rattle.view_lists.specs.Lists.{AreDistinct};
-ghost use Rattle.token_book.specs.Purse.{empty_purse};
 ghost use Rattle.tlm_model.specs.Plan.{Initiator, initiators_of};
 ghost use Rattle.script_engine.specs.State.{next_of};
 ghost use Rattle.port_model.specs.Ends.{IsEndOfPort};
 ghost use Rattle.port_model.specs.Stages.{count_of};
-ghost use Rattle.fourphase_port.specs.Fresh.{IsFresh, begun_state};
+ghost use Rattle.port_moves.specs.State.{begun_state};
+ghost use Rattle.fourphase_port.specs.Fresh.{IsFresh};
 ghost use Rattle.fourphase_port.specs.Pumps.{HasFinished, IsMoved, IsPumped, asks_for};
-ghost use Rattle.fourphase_port.specs.State.{IsAtRest, IsPort, with_note};
-ghost use Rattle.fourphase_port.specs.declared.hand.Pumped.TheVariants as Pumps;
+ghost use Rattle.port_moves.specs.State.{IsPort, with_note};
+ghost use Rattle.fourphase_port.specs.Rest.{IsAtRest};
+ghost use Rattle.port_moves.specs.declared.hand.Pumped.TheVariants as Pumps;
 
-use crate::away::Away;
-use crate::hand::{Hand, Moved, Pumped};
-use crate::state::PortState;
+use crate::moves::advance;
+use crate::onwards::may_move;
 use cargo_model::Cargo;
 use cargo_net::TlmLaw;
 use generic_payload::Payload;
 use plat_net::{Net, PlatNote};
+use port_moves::{Hand, Moved, PortState, Pumped, StateParts};
 use route_plan::Plan;
 use script_engine::{Engine, Part};
 use shared_object::Naming;
 use std::alloc::Global;
 use std::marker::{Model, PhantomData};
 use std::sync::Wait;
-use tlm_types::{EndOf, Memory, RefusedList};
+use tlm_types::{EndOf, Memory};
 use token_book::Wallet;
 
 /// A four-phase initiator under way, with its note and its wallet (IEEE 1666-2011, clause 11.1.2). Contracts
@@ -39,7 +40,7 @@ pub struct Port<N: Naming<Plan, TlmLaw>> {
 impl<N: Naming<Plan, TlmLaw>> Model for Port<N> {
     ghost use Rattle.std.specs.Coded.{codes};
     ghost use Rattle.token_book.specs.Purse.{purse_code};
-    ghost use Rattle.fourphase_port.specs.State.{IsAtRest, RestView};
+    ghost use Rattle.fourphase_port.specs.Rest.{IsAtRest, RestView};
 
     ghost Value = { RestView };
 
@@ -81,30 +82,6 @@ fn room_for<N: Naming<Plan, TlmLaw>>(net: &Net<N>, initiator: u32) -> u32
     2 * net.plan().script(initiator).len() as u32
 }
 
-// What a port has room in, with nothing in it.
-#[derive(Drop)]
-struct Rooms {
-    away: Away,
-    refused: RefusedList,
-    purse: Wallet,
-}
-
-// Room for so much that may be outstanding or refused, and for the ticket of a debug read. Its only error is want of memory.
-fn make_rooms(alloc: Global, room: u32) -> Result<Rooms, Memory>
-    ensures away { IfOk result (λ rooms. rooms.away ≡ record { numbers = []; room = room }) }
-    ensures refused { IfOk result (λ rooms. rooms.refused ≡ record { items = []; room = room }) }
-    ensures purse { IfOk result (λ rooms. rooms.purse ≡ empty_purse 1) }
-{
-    let away = Away::with_room(alloc, room)?;
-    let refused = RefusedList::with_room(alloc, room)?;
-    let purse = Wallet::new(alloc, 1)?;
-    Ok(Rooms {
-        away,
-        refused,
-        purse,
-    })
-}
-
 impl<N: Naming<Plan, TlmLaw>> Port<N> {
     /// A port with its whole script before it. It makes the room for all that may be outstanding or refused,
     /// and takes no memory afterwards. Its only error is want of memory, by which what was handed in is spent.
@@ -122,20 +99,7 @@ impl<N: Naming<Plan, TlmLaw>> Port<N> {
     {
         let _ = net.plan().platform();
         let room = room_for(net, engine.initiator());
-        let rooms = make_rooms(alloc, room)?;
-        let state = PortState {
-            engine,
-            waiting: false,
-            time: 0,
-            latest: 0,
-            away: rooms.away,
-            refused: rooms.refused,
-            hand: Hand::Free,
-            held: None,
-            payload: Some(payload),
-            wallet,
-            purse: rooms.purse,
-        };
+        let state = PortState::new(alloc, room, engine, payload, wallet)?;
         Ok(Port {
             state,
             note: Some(note),
@@ -148,7 +112,7 @@ impl<N: Naming<Plan, TlmLaw>> Port<N> {
     pub fn asks(&self) -> Option<u64>
         ensures { result ≡ asks_for (next_of self.now.port.engine) }
     {
-        match self.state.engine.next().part() {
+        match self.state.part() {
             Part::Asks(transfer) => Some(transfer.seq),
             _ => None,
         }
@@ -156,7 +120,7 @@ impl<N: Naming<Plan, TlmLaw>> Port<N> {
 
     /// Whether a pump may find something to do, by what the net tells. No clause speaks of it.
     pub fn may_move(&self, net: &Net<N>) -> bool {
-        self.state.may_move(net)
+        may_move(&self.state, net)
     }
 
     /// The next move, which makes one entry at most, or those of one invalidation. `fetched` says that this pump has already looked for a
@@ -166,7 +130,7 @@ impl<N: Naming<Plan, TlmLaw>> Port<N> {
         ensures rest { IsAtRest N.table N.tokens N.frame self.new }
     {
         let note = self.note.take().unwrap();
-        let (moved, note) = self.state.advance(rt, net, note, fetched);
+        let (moved, note) = advance(&mut self.state, rt, net, note, fetched);
         self.note = Some(note);
         moved
     }
@@ -217,37 +181,20 @@ impl<N: Naming<Plan, TlmLaw>> Port<N> {
         ensures held { result.held ≡ self.held }
     {
         let Port { state, note, of: _ } = self;
-        let PortState {
-            engine,
+        let StateParts {
+            seq,
+            wallet,
             away,
             hand,
             held,
-            wallet,
-            ..
-        } = state;
+        } = state.into_parts();
         PortParts {
-            seq: engine.transactions(),
+            seq,
             note: note.unwrap(),
             wallet,
-            away: away.into_numbers(),
+            away,
             hand,
             held,
         }
-    }
-}
-
-impl PortState {
-    // Its wallet, and how its initiator ended.
-    fn into_end(self) -> (Wallet, EndOf)
-        ensures wallet { result.0 ≡ self.wallet }
-        ensures end { IsEndOfPort self.port result.1 }
-    {
-        let end = EndOf {
-            transactions: self.engine.transactions(),
-            syncs: 0,
-            end: self.time.max(self.latest),
-            refused: self.refused,
-        };
-        (self.wallet, end)
     }
 }

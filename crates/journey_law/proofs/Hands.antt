@@ -29,9 +29,9 @@ use Rattle.script_engine.specs.Part.{part_of}
 use Rattle.script_engine.specs.declared.part.Part.{Part}
 use Rattle.script_engine.specs.declared.part.Part.TheVariants.{Asks, Ends, Invalidates, Pauses}
 use Rattle.generic_payload.specs.Payload.{PayloadView}
-use Rattle.fourphase_port.specs.State.{IsBegun, IsEnded, IsInHand, IsHeld, IsOwed, IsReady, IsReleased, IsTakenUp, left_at}
-use Rattle.fourphase_port.specs.declared.hand.Hand.{Hand}
-use Rattle.fourphase_port.specs.declared.hand.Hand.TheVariants as hand
+use Rattle.port_moves.specs.State.{IsBegun, IsEnded, IsInHand, IsHeld, IsOwed, IsReady, IsReleased, IsTakenUp, left_at}
+use Rattle.port_moves.specs.declared.hand.Hand.{Hand}
+use Rattle.port_moves.specs.declared.hand.Hand.TheVariants as hand
 use Rattle.journey_law.specs.Hands.{HandsAreFound, IsFoundHand, IsFoundHeld, IsOwnAt, IsToStow, PortsAreFound}
 use Rattle.journey_law.specs.Parts.{Stand}
 use Rattle.journey_law.specs.Places.{Ended as HasEnded, GoneDown, Back as CameBack, Place, Taken as WasTaken, ToGoDown}

@@ -17,9 +17,9 @@ use Rattle.flow_model.specs.Platform.{passage_of}
 use Rattle.cargo_model.specs.declared.cargo.Cargo.{Cargo}
 use Rattle.cargo_model.specs.Known.{object_number}
 use Rattle.joined_traffic.specs.Accesses.{txn_of}
-use Rattle.fourphase_port.specs.State.{IsPort, PortView, left_at}
-use Rattle.fourphase_port.specs.declared.hand.Hand.{Hand}
-use Rattle.fourphase_port.specs.declared.hand.Hand.TheVariants as hand
+use Rattle.port_moves.specs.State.{IsPort, PortView, left_at}
+use Rattle.port_moves.specs.declared.hand.Hand.{Hand}
+use Rattle.port_moves.specs.declared.hand.Hand.TheVariants as hand
 use Rattle.journey_law.specs.Homes.{IsHome}
 use Rattle.journey_law.specs.Parts.{IsBelow, Part, Stand}
 use Rattle.journey_law.specs.Places.{Ended as HasEnded, GoneDown, Back as CameBack, IsAt, Place, Taken as WasTaken, ToGoDown}

@@ -24,9 +24,9 @@ use Rattle.port_end.specs.Arrives.{events_of}
 use Rattle.port_end.proofs.Arrives.{knows_more}
 use Rattle.fourphase_port.specs.Fresh.{IsFresh}
 use Rattle.fourphase_port.specs.Pumps.{HasFinished}
-use Rattle.fourphase_port.specs.State.{IsPort, StateView, with_note}
-use Rattle.fourphase_port.specs.declared.hand.Pumped.{Pumped}
-use Rattle.fourphase_port.specs.declared.hand.Pumped.TheVariants.{Did, Nothing, Finished}
+use Rattle.port_moves.specs.State.{IsPort, StateView, with_note}
+use Rattle.port_moves.specs.declared.hand.Pumped.{Pumped}
+use Rattle.port_moves.specs.declared.hand.Pumped.TheVariants.{Did, Nothing, Finished}
 use Rattle.net_end.specs.Closed.{events_in}
 use Rattle.net_end.specs.Done.{IsDoneWithGrants}
 use Rattle.plat_build.specs.declared.kept.Start.{Start}

@@ -3,7 +3,7 @@ use Rattle.std.specs.Prelude.{ℕ, ◌≡◌, ◌<◌, Bool, true, length}
 use Rattle.one_history.specs.declared.view.Frame.{Frame}
 use Rattle.tlm_model.specs.Plan.{Plan}
 use Rattle.fourphase_port.specs.Pumps.{HasFinished}
-use Rattle.fourphase_port.specs.State.{RestView}
+use Rattle.fourphase_port.specs.Rest.{RestView}
 
 -- its port, and whether it has finished
 pub record PortRun : Type 0 where

@@ -4,8 +4,8 @@ use Rattle.one_history.specs.declared.view.Frame.{Frame}
 use Rattle.tlm_model.specs.Plan.{Plan}
 use Rattle.initiator_run.specs.Steps.{StepsOnce}
 use Rattle.fourphase_port.specs.Pumps.{IsPumped}
-use Rattle.fourphase_port.specs.declared.hand.Pumped.{Pumped}
-use Rattle.fourphase_port.specs.declared.hand.Pumped.TheVariants.{Did, Nothing, Finished}
+use Rattle.port_moves.specs.declared.hand.Pumped.{Pumped}
+use Rattle.port_moves.specs.declared.hand.Pumped.TheVariants.{Did, Nothing, Finished}
 use Rattle.plat_run.specs.Ports.{PortRun}
 use Rattle.plat_run.specs.declared.actor.Actor.{Actor}
 use Rattle.plat_run.specs.declared.actor.Actor.TheVariants.{Decoupled, FourPhase, Memory, Router}

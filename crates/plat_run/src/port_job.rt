@@ -5,9 +5,10 @@ ghost use Rattle.plat_run.specs.Turn.{IsPortTurn, finishes, turn_by};
 
 use crate::turn::JobTurn;
 use crate::waits::Waits;
-use fourphase_port::{Port, Pumped};
+use fourphase_port::Port;
 use outside::Pace;
 use plat_net::{Net, PlatNote, TlmLaw};
+use port_moves::Pumped;
 use route_plan::Plan;
 use shared_object::Naming;
 use std::marker::Model;

@@ -1,0 +1,11 @@
+pub mod Away
+pub mod Wallets
+pub mod Reach
+pub mod State
+pub mod Lending
+pub mod Moves
+pub mod Moved
+pub mod Returned
+pub mod Stocks
+pub mod Loaded
+pub mod Reads

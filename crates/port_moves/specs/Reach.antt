@@ -1,0 +1,2 @@
+-- Where a port finds its objects in the history.
+pub use Rattle.plat_net.specs.Places.{first_hop, memory_place, own_pool}
