@@ -6,11 +6,12 @@ use Rattle.std.proofs.lemmas.Bool.{eqb-true}
 use Rattle.tlm_model.specs.declared.platform.Platform.{Platform}
 use Rattle.tlm_model.specs.declared.platform.Target.{Target}
 use Rattle.tlm_model.specs.declared.platform.Target.TheVariants.{Memory, Router}
+use Rattle.tlm_model.specs.Plan.{Plan}
 use Rattle.route_plan.specs.declared.ends.HopEnds.{HopEnds}
 use Rattle.route_plan.specs.Routes.{ends_of}
 use Rattle.route_plan.specs.Valid.{hop_count}
 use Rattle.plat_net.specs.Places.{LeadsTo}
-use Rattle.node_hops.specs.Hops.{ends_lead, hops_below, hops_to, is_target, leads_to}
+use Rattle.node_hops.specs.Hops.{IsHopTo, ends_lead, hops_below, hops_to, is_target, leads_to}
 
 -- one more hop
 pub hops_next : (p : Platform) (to : Target) (n : ℕ) → hops_below p to (n + 1) ≡ hops_below p to n ++ cond (leads_to p n to) (n ∷ []) []
@@ -44,14 +45,20 @@ all_append : {A : Type 0} (P : A → Type 0) (xs ys : List A) → AllByRecursion
 all_append P [] ys a b = b
 all_append P (x ∷ xs) ys a b = (a.0, all_append P xs ys a.1 b)
 
--- what holds of each hop that leads there holds of all of these
-pub hops_lead : (p : Platform) (to : Target) (P : ℕ → Type 0) → ((h : ℕ) → h < hop_count p → LeadsTo p h to → P h) → (n : ℕ) → n ≤ hop_count p → AllByRecursion P (hops_below p to n)
-hops_lead p to P each zero below = tt
-hops_lead p to P each (suc n) below = all_append P (hops_below p to n) (cond (leads_to p n to) (n ∷ []) []) (hops_lead p to P each n (omega (arith, below))) (one (leads_to p n to) refl)
+-- each of these is a hop that leads there
+below_lead : (p : Plan) (to : Target) (n : ℕ) → n ≤ hop_count p.platform → AllByRecursion (λ (h : ℕ). IsHopTo p to h) (hops_below p.platform to n)
+below_lead p to zero below = tt
+below_lead p to (suc n) below = all_append (λ (h : ℕ). IsHopTo p to h) (hops_below p.platform to n) (cond (leads_to p.platform n to) (n ∷ []) []) (below_lead p to n (omega (arith, below))) (one (leads_to p.platform n to) refl)
   where
-    one : (b : Bool) → leads_to p n to ≡ b → AllByRecursion P (cond b (n ∷ []) [])
-    one true q = (each n (omega (arith, below)) (lead p n to q), tt)
+    one : (b : Bool) → leads_to p.platform n to ≡ b → AllByRecursion (λ (h : ℕ). IsHopTo p to h) (cond b (n ∷ []) [])
+    one true q = (record { there = omega (arith, below); leads = lead p.platform n to q }, tt)
     one false q = tt
+
+pub all_lead : (p : Plan) (to : Target) → AllByRecursion (λ (h : ℕ). IsHopTo p to h) (hops_to p.platform to)
+all_lead p to = below_lead p to (hop_count p.platform) (same (hop_count p.platform))
+  where
+    same : (n : ℕ) → n ≤ n
+    same n = omega arith
 
 -- there are no more than hops
 pub few_lead : (p : Platform) (to : Target) (n : ℕ) → length (hops_below p to n) ≤ n

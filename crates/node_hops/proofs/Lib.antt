@@ -1,1 +1,3 @@
 pub mod HopLists
+pub mod Latencies
+pub mod Looks

@@ -1,2 +1,3 @@
 pub mod Hops
-pub mod Modes
+pub mod Looks
+pub mod Traits

@@ -5,17 +5,19 @@ ghost use Rattle.net_end.specs.Leaves.{IsFinished};
 ghost use Rattle.plat_run.specs.Turn.{HasTurned};
 
 use crate::decoupled;
-use crate::nodes::{MemoryJob, RouterJob};
+use crate::nodes::NodeJob;
 use crate::port_job::PortJob;
 use crate::turn::JobTurn;
 use decoupled_run::DecoupledInitiator;
 use outside::Pace;
 use plat_net::{Net, PlatNote, Reach, TlmLaw};
 use route_plan::Plan;
+use router_node::RouterNode;
 use run_queue::Job;
 use shared_object::Naming;
 use std::alloc::Global;
 use std::sync::Wait;
+use target_node::TargetNode;
 use time_board::Board;
 use tlm_types::EndOf;
 use token_book::Wallet;
@@ -26,8 +28,8 @@ pub enum Actor<N: Naming<Plan, TlmLaw>> {
     /// A blocking or direct initiator.
     Decoupled(Box<DecoupledInitiator<N>, Global>),
     FourPhase(Box<PortJob<N>, Global>),
-    Memory(Box<MemoryJob<N>, Global>),
-    Router(Box<RouterJob<N>, Global>),
+    Memory(Box<NodeJob<N, TargetNode>, Global>),
+    Router(Box<NodeJob<N, RouterNode>, Global>),
 }
 
 // Written out, so that the crates above call it: how each part is let go of is proved here alone.

@@ -6,7 +6,7 @@ ghost use Rattle.tlm_model.specs.declared.platform.Style.TheVariants as Styles;
 ghost use Rattle.plat_run.specs.Actors.{number_of};
 
 use crate::actor::Actor;
-use crate::nodes::{MemoryJob, RouterJob};
+use crate::nodes::NodeJob;
 use crate::port_job::PortJob;
 use decoupled_run::DecoupledInitiator;
 use fourphase_port::Port;
@@ -123,7 +123,7 @@ fn begin_router<N: Naming<Plan, TlmLaw>>(
     let _ = net.plan();
     let note = kept.router_note(router);
     let node = RouterNode::new(alloc, net, router)?;
-    let job = RouterJob::new(number, node, note);
+    let job = NodeJob::new(number, node, note);
     Ok(Actor::Router(Box::new(alloc, job)?))
 }
 
@@ -143,7 +143,7 @@ fn begin_memory<N: Naming<Plan, TlmLaw>>(
     let _ = net.plan();
     let note = kept.memory_note(memory);
     let node = TargetNode::new(alloc, net, memory)?;
-    let job = MemoryJob::new(number, node, note);
+    let job = NodeJob::new(number, node, note);
     Ok(Actor::Memory(Box::new(alloc, job)?))
 }
 

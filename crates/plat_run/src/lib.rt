@@ -8,8 +8,8 @@
 //!   find nothing, by what the net tells, is passed over (`Waits`).
 //! - A turn of a blocking or direct initiator, `decoupled_run::DecoupledInitiator`, is at most one operation, or one access
 //!   of it with the grant that is asked for after it, and the sync that is due after it. `PortJob` is a four-phase initiator
-//!   as a job: a turn of it is one pump of its port. `MemoryJob` and `RouterJob` are the memories and routers, which are jobs
-//!   where some initiator is of four phases; a turn is one pump.
+//!   as a job: a turn of it is one pump of its port. `NodeJob` is a memory or a router as a job, which they are where
+//!   some initiator is of four phases; a turn is one pump.
 //!
 //! Promises: whatever the threads do in which order, the history is good for the plan, it is the sealed
 //! one, and the stores and ends are those of the definitions. The jobs stand in the order of their numbers, initiators
@@ -28,7 +28,7 @@ mod waits;
 mod workers;
 
 pub use actor::Actor;
-pub use nodes::{MemoryJob, RouterJob};
+pub use nodes::NodeJob;
 pub use plat_end::PlatSealed;
 pub use port_job::PortJob;
 pub use running::{run, run_plan};

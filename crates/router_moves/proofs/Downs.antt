@@ -42,8 +42,8 @@ use Rattle.plat_net.specs.Places.{LeadsTo, hop_place}
 use Rattle.plat_net.specs.PoolCalls.{CanDescend, place_above}
 use Rattle.plat_net.proofs.Given.{took}
 use Rattle.plat_net.proofs.NumberLemmas.{hop_there}
-use Rattle.node_hops.specs.Modes.{hop_latency}
-use Rattle.router_moves.specs.Items.{HasDebt, IsDown, IsHeld, IsRequest, is_accepting, way_of}
+use Rattle.node_hops.specs.Traits.{hop_latency, is_accepting}
+use Rattle.router_moves.specs.Items.{HasDebt, IsDown, IsHeld, IsRequest, way_of}
 use Rattle.router_moves.specs.Moves.{owed_above}
 use Rattle.router_moves.specs.declared.items.RouterRequest.{RouterRequest}
 use Rattle.router_moves.specs.declared.items.WayBehind.{WayBehind}
@@ -123,7 +123,7 @@ module _ (frame : Frame Plan) (tokens : TableId) (known : List (Entry Content)) 
     next = goes_on p tokens known shape x req.pass req.down.asked req.hop router below leads_here way there
 
     -- DESCEND
-    abbrev pub can_descend : (initiator : ℕ) (accepts : Bool) (above : Option ℕ) (latency due : ℕ) → initiator ≡ x.initiator → accepts ≡ is_accepting p router → router < length p.platform.routers → above ≡ owed_above accepts r.hop → latency ≡ hop_latency p r.hop → due ≡ later r.at latency
+    abbrev pub can_descend : (initiator : ℕ) (accepts : Bool) (above : Option ℕ) (latency due : ℕ) → initiator ≡ x.initiator → accepts ≡ is_accepting p.platform (Router router) → router < length p.platform.routers → above ≡ owed_above accepts r.hop → latency ≡ hop_latency p r.hop → due ≡ later r.at latency
         → CanDescend frame tokens initiator r.cargo above way.address due known
     can_descend initiator accepts above latency due of mode row above_as lat at = record {
       of = sym of;

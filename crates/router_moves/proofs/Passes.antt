@@ -42,7 +42,7 @@ use Rattle.cargo_net.specs.declared.requests.Tried.TheVariants.{Left, Now, Busy}
 use Rattle.plat_net.specs.HopCalls.{CanBegin, CanEndRequest}
 use Rattle.plat_net.specs.MemoryCalls.{CanServe, IsServedAt}
 use Rattle.plat_net.specs.Places.{LeadsTo, hop_place}
-use Rattle.node_hops.specs.Modes.{hop_latency}
+use Rattle.node_hops.specs.Traits.{hop_latency}
 use Rattle.router_moves.specs.Items.{HasDebt, HasGone, IsBegun, IsDown, OwesEnd}
 use Rattle.router_moves.specs.Moves.{EndsAbove, HasPassed, HasServedBelow}
 use Rattle.router_moves.specs.declared.down.Passed.TheVariants as Passes

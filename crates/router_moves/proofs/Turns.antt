@@ -44,7 +44,7 @@ use Rattle.cargo_net.specs.declared.fetches.FetchedResponse.{FetchedResponse}
 use Rattle.plat_net.specs.Places.{hop_place}
 use Rattle.plat_net.proofs.NoCycle.{shapes_law}
 use Rattle.plat_net.proofs.Targets.{back_at}
-use Rattle.node_hops.specs.Modes.{hop_latency}
+use Rattle.node_hops.specs.Traits.{hop_latency}
 use Rattle.router_moves.specs.Items.{IsBack, IsHeld, IsRequest, OwesEnd, way_of}
 use Rattle.router_moves.specs.Moves.{HasFetchedUp, IsRefused}
 use Rattle.router_moves.specs.declared.items.PassedOn.{PassedOn}

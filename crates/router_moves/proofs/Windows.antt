@@ -9,6 +9,7 @@ use Rattle.tlm_types.specs.declared.entry.Content.{Content}
 use Rattle.tlm_types.specs.declared.words.ReqMode.{ReqMode}
 use Rattle.tlm_types.specs.declared.words.ReqMode.TheVariants.{Accept, Short, EndReq, BeginResp, Complete}
 use Rattle.tlm_types.specs.declared.words.RespMode.{RespMode}
+use Rattle.tlm_types.specs.declared.words.RespMode.TheVariants as RespModes
 use Rattle.tlm_types.specs.declared.words.TxnId.{TxnId}
 use Rattle.addr_router.specs.declared.window.Window.{Window}
 use Rattle.addr_router.specs.Windows.{decoded}
@@ -35,8 +36,8 @@ use Rattle.cargo_net.specs.Descends.{owed_on}
 use Rattle.plat_net.specs.Places.{LeadsTo}
 use Rattle.plat_net.proofs.Given.{few_passed}
 use Rattle.plat_net.proofs.Targets.{ends_stop}
-use Rattle.node_hops.specs.Modes.{accepts}
-use Rattle.router_moves.specs.Items.{is_accepting, row_accepts, way_in, way_of, way_over}
+use Rattle.node_hops.specs.Traits.{accepts, is_accepting}
+use Rattle.router_moves.specs.Items.{way_in, way_of, way_over}
 use Rattle.router_moves.specs.Moves.{owed_above}
 use Rattle.router_moves.specs.declared.items.WayBehind.{WayBehind}
 
@@ -214,11 +215,11 @@ module _ (p : Plan) (tokens : TableId) (known : List (Entry Content)) (shape : I
     row_plain : row_of (world_of p) pass k ≡ ((world_of p).hop (hop_at pass k)).req
     row_plain = ap (λ (b : Bool). row_by (b && not ((world_of p).hop (hop_at pass k)).to_memory) ((world_of p).hop (hop_at pass k)).req) not_last
 
-    pub above_is : (mode : Bool) → mode ≡ is_accepting p r → r < length p.platform.routers → owed_above mode (hop_at pass k) ≡ owed_on (row_of (world_of p) pass k) (hop_at pass k)
+    pub above_is : (mode : Bool) → mode ≡ is_accepting p.platform (Router r) → r < length p.platform.routers → owed_above mode (hop_at pass k) ≡ owed_on (row_of (world_of p) pass k) (hop_at pass k)
     above_is mode same there =
         let row = row_in p.platform.routers r there in
         let req : row_of (world_of p) pass k ≡ (let w = row.0 in w.accept) = row_plain ∙ ap (λ (e : HopEnds). e.req) (ends_are ∙ ap (to_router (response_at asked.initiator k)) row.1) in
-        ap (λ (b : Bool). owed_above b (hop_at pass k)) (same ∙ ap row_accepts row.1)
+        ap (λ (b : Bool). owed_above b (hop_at pass k)) (same ∙ ap (λ (o : Option RouterRow). accepts (to_router RespModes.Accept o).rules.req) row.1)
         ∙ above_by (let w = row.0 in w.accept) (hop_at pass k)
         ∙ ap (λ (m : ReqMode). owed_on m (hop_at pass k)) (sym req)
 

@@ -1,5 +1,5 @@
 -- What a router knows of the requests that it fetched, of those that it passes on, and of the responses that it is to send.
-use Rattle.std.specs.Prelude.{ℕ, ◌≡◌, ◌+◌, ◌-◌, ◌<◌, ◌⊎◌, Bool, false, IsTrue, List, Option, Some, None, slice_get}
+use Rattle.std.specs.Prelude.{ℕ, ◌≡◌, ◌+◌, ◌-◌, ◌<◌, ◌⊎◌, false, IsTrue, List, Option, Some, None, slice_get}
 use Rattle.atomic_table.specs.Seated.{TableId}
 use Rattle.one_history.specs.declared.entry.Entry.{Entry}
 use Rattle.one_history.specs.declared.view.Frame.{Frame}
@@ -31,7 +31,6 @@ use Rattle.cargo_model.specs.Travel.{Back as IsBackAt, GoesDown, GoesUp, IsHoldO
 use Rattle.cargo_net.specs.Begins.{HasOwedLeg}
 use Rattle.cargo_net.specs.Hops.{IsLegOfLane}
 use Rattle.plat_net.specs.Places.{LeadsTo, hop_place, own_pool}
-use Rattle.node_hops.specs.Modes.{accepts}
 use Rattle.router_moves.specs.declared.items.Back.{Back}
 use Rattle.router_moves.specs.declared.items.BegunBelow.{BegunBelow}
 use Rattle.router_moves.specs.declared.items.Down.{Down}
@@ -41,13 +40,6 @@ use Rattle.router_moves.specs.declared.items.PassedOn.{PassedOn}
 use Rattle.router_moves.specs.declared.items.RouterRequest.{RouterRequest}
 use Rattle.router_moves.specs.declared.items.Rest.{Rest}
 use Rattle.router_moves.specs.declared.items.WayBehind.{WayBehind}
-
-abbrev pub row_accepts : Option RouterRow → Bool
-row_accepts None = false
-row_accepts (Some row) = accepts row.accept
-
-abbrev pub is_accepting : Plan → ℕ → Bool
-is_accepting p router = row_accepts (slice_get p.platform.routers router)
 
 -- what is behind the window of a router that was found
 abbrev pub way_over : Platform → ℕ → ℕ → Option Found → Option WayBehind

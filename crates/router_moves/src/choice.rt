@@ -3,9 +3,10 @@ ghost use Rattle.std.specs.Prelude.{◌≡◌, ◌<◌, length};
 ghost use Rattle.view_lists.specs.Lists.{Within};
 ghost use Rattle.one_history.specs.Lists.{StandBelow};
 ghost use Rattle.shared_object.specs.Steps.{IsNote};
+ghost use Rattle.tlm_model.specs.declared.platform.Target.TheVariants.{Router};
 ghost use Rattle.tlm_model.specs.Route.{window_hop};
-ghost use Rattle.node_hops.specs.Modes.{hop_latency};
-ghost use Rattle.router_moves.specs.Items.{IsRequest, is_accepting};
+ghost use Rattle.node_hops.specs.Traits.{hop_latency, is_accepting};
+ghost use Rattle.router_moves.specs.Items.{IsRequest};
 ghost use Rattle.router_moves.specs.Turns.{HasTurned};
 
 use crate::down::{descend, way_behind};
@@ -40,7 +41,7 @@ pub fn turn<N: Naming<Plan, TlmLaw>, R: Wait>(
 ) -> (Turned, PlatNote)
     requires router { router < length N.frame.world.platform.routers }
     requires first { first ≡ window_hop N.frame.world.platform router 0 }
-    requires mode { accepts ≡ is_accepting N.frame.world router }
+    requires mode { accepts ≡ is_accepting N.frame.world.platform (Router router) }
     requires latency { latency ≡ hop_latency N.frame.world request.hop }
     requires note { IsNote N.table note }
     requires request { IsRequest N.frame N.tokens note.knows.known router request }

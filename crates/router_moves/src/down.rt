@@ -7,8 +7,8 @@ ghost use Rattle.tlm_model.specs.declared.platform.Target.TheVariants.{Memory, R
 ghost use Rattle.tlm_model.specs.Route.{later, window_hop};
 ghost use Rattle.route_plan.specs.Valid.{hop_count};
 ghost use Rattle.plat_net.specs.Places.{LeadsTo, hop_place, memory_place, own_pool};
-ghost use Rattle.node_hops.specs.Modes.{hop_latency};
-ghost use Rattle.router_moves.specs.Items.{HasGone, IsBegun, IsDown, IsRequest, is_accepting, way_of};
+ghost use Rattle.node_hops.specs.Traits.{hop_latency, is_accepting};
+ghost use Rattle.router_moves.specs.Items.{HasGone, IsBegun, IsDown, IsRequest, way_of};
 ghost use Rattle.router_moves.specs.Moves.{EndsAbove, HasPassed, HasServedBelow, fetch_look, owed_above, passed_note};
 
 use crate::items::{Back, BegunBelow, Down, PassedOn, RouterRequest, WayBehind};
@@ -106,7 +106,7 @@ pub fn descend<N: Naming<Plan, TlmLaw>, R: Wait>(
     way: WayBehind,
 ) -> (Down, PlatNote)
     requires router { router < length N.frame.world.platform.routers }
-    requires mode { accepts ≡ is_accepting N.frame.world router }
+    requires mode { accepts ≡ is_accepting N.frame.world.platform (Router router) }
     requires latency { latency ≡ hop_latency N.frame.world request.hop }
     requires note { IsNote N.table note }
     requires request { IsRequest N.frame N.tokens note.knows.known router request }

@@ -10,7 +10,7 @@ ghost use Rattle.cargo_model.specs.Known.{Known};
 ghost use Rattle.route_plan.specs.Valid.{hop_count};
 ghost use Rattle.plat_net.specs.HopCalls.{CanRespond};
 ghost use Rattle.plat_net.specs.Places.{hop_place, own_pool};
-ghost use Rattle.node_hops.specs.Modes.{hop_latency};
+ghost use Rattle.node_hops.specs.Traits.{hop_latency};
 ghost use Rattle.router_moves.specs.Items.{IsRequest, way_of};
 ghost use Rattle.router_moves.specs.Moves.{EndsBelow, HasBegunOn, HasEndedAbove, HasFetchedUp, HasReleased, HasSent, IsBackFor, IsDone, IsOwing, IsEndOf, IsRefused, IsReleasing, PullsFor, TurnsUp, ended_look, sent_as, sent_note, up_look};
 

@@ -22,7 +22,7 @@ use Rattle.cargo_model.specs.Stops.{response_at}
 use Rattle.cargo_net.specs.Forwards.{IsRouterMode}
 use Rattle.plat_net.specs.Places.{LeadsTo}
 use Rattle.plat_net.proofs.Forwarding.{router_answers}
-use Rattle.node_hops.specs.Modes.{hop_latency}
+use Rattle.node_hops.specs.Traits.{hop_latency}
 use Rattle.router_moves.specs.Items.{HasGone, IsBegun}
 use Rattle.router_moves.specs.Moves.{HasServedBelow, TurnsUp}
 use Rattle.router_node.specs.Stages.{IsServed, IsServedAs, Moves, WentDown}

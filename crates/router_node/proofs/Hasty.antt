@@ -10,7 +10,8 @@ use Rattle.one_history.specs.declared.view.Frame.{Frame}
 use Rattle.one_history.specs.declared.view.View.{View}
 use Rattle.tlm_types.specs.declared.entry.Content.{Content}
 use Rattle.tlm_model.specs.Plan.{Plan}
-use Rattle.router_node.specs.Finds.{AreLookedAt, vain_looks}
+use Rattle.node_hops.specs.Looks.{vain_looks}
+use Rattle.router_node.specs.Finds.{AreLookedAt}
 use Rattle.router_node.specs.Node.{HasTakenBack, HasTakenIn, back_looks, in_looks}
 use Rattle.router_node.specs.declared.finds.Found.{Found}
 use Rattle.router_node.specs.declared.node.RouterNode.{RouterNode}

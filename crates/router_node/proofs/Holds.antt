@@ -1,7 +1,7 @@
 -- What a router holds stays known while it makes moves.
 use Rattle.std.proofs.Common.{◌≡◌, ℕ, ◌<◌, ◌≤◌, false, List, [], ◌∷◌, ◌++◌, length, Option, Some, None, refl, sym, ap, subst, ◌∙◌}
 use Rattle.std.specs.List.{AllByRecursion}
-use Rattle.std.specs.Prelude.{IfSome, IsSomeAnd, is_some, slice_get}
+use Rattle.std.specs.Prelude.{IfSome, is_some}
 use Rattle.std.specs.VecDeque.{deque_capacity}
 use Rattle.atomic_table.specs.Seated.{TableId}
 use Rattle.view_lists.specs.Lists.{Within}
@@ -9,19 +9,10 @@ use Rattle.one_history.specs.Held.{Held as HeldNote}
 use Rattle.one_history.specs.declared.entry.Entry.{Entry}
 use Rattle.one_history.specs.declared.view.Frame.{Frame}
 use Rattle.tlm_types.specs.declared.entry.Content.{Content}
-use Rattle.tlm_types.specs.declared.words.RespMode.TheVariants.{Accept}
-use Rattle.tlm_model.specs.declared.platform.RouterRow.{RouterRow}
-use Rattle.tlm_model.specs.declared.platform.Target.TheVariants.{Router}
 use Rattle.tlm_model.specs.Plan.{Plan}
-use Rattle.flow_model.specs.Platform.{to_router}
-use Rattle.route_plan.specs.declared.ends.HopEnds.{HopEnds}
-use Rattle.route_plan.specs.Routes.{ends_of}
 use Rattle.route_plan.specs.Valid.{hop_count}
-use Rattle.plat_net.specs.Places.{LeadsTo}
-use Rattle.plat_net.proofs.Forwarding.{latency_at, latency_by}
 use Rattle.router_node.specs.Finds.{IsFound}
-use Rattle.node_hops.specs.Modes.{hop_latency}
-use Rattle.router_node.specs.Node.{IsRouter, IsStray, left, router_latency, row_latency, stage_of}
+use Rattle.router_node.specs.Node.{IsRouter, IsStray, left, stage_of}
 use Rattle.router_node.specs.Stages.{IsSettled, IsStage, IsUp}
 use Rattle.router_moves.specs.Turns.{HasTurned}
 use Rattle.router_moves.specs.declared.choice.Turned.{Turned}
@@ -104,18 +95,6 @@ module _ (frame : Frame Plan) (tokens : TableId) (known more : List (Entry Conte
   -- so is one that holds the same
   pub router_more : (r : RouterNode) → IsRouter frame tokens r known → IsRouter frame tokens r more
   router_more r is = keeps r r refl is (all_more r.held.items is.held) is.few is.room (stray_more r.stray is.stray)
-
--- the latency of a router is that of the hops to it
-pub latency_to : (p : Plan) (hop router : ℕ) → LeadsTo p.platform hop (Router router) → router_latency p router ≡ hop_latency p hop
-latency_to p hop router leads = sym (go (slice_get (ends_of p.platform) hop) refl leads)
-  where
-    by : (o : Option RouterRow) → (to_router Accept o).latency ≡ row_latency o
-    by None = refl
-    by (Some row) = refl
-
-    go : (o : Option HopEnds) → slice_get (ends_of p.platform) hop ≡ o → IsSomeAnd o (λ (e : HopEnds). e.down ≡ Router router) → hop_latency p hop ≡ router_latency p router
-    go None at l = absurd l
-    go (Some e) at l = latency_at p.platform hop e at ∙ (ap (latency_by p.platform) l ∙ by (slice_get p.platform.routers router))
 
 -- a request that was fetched is held as what it has turned to
 module _ (frame : Frame Plan) (tokens : TableId) (router latency : ℕ) (r : RouterRequest) (old new : HeldNote Content Plan) (there : r.hop < hop_count frame.world.platform) where

@@ -11,13 +11,12 @@ use Rattle.tlm_model.specs.declared.platform.RouterRow.{RouterRow}
 use Rattle.tlm_model.specs.declared.platform.Target.TheVariants.{Router}
 use Rattle.tlm_model.specs.Plan.{Plan}
 use Rattle.tlm_model.specs.Route.{window_hop}
-use Rattle.route_plan.specs.Valid.{hop_count}
-use Rattle.router_node.specs.Finds.{IsHopAbove, IsHopBelow}
-use Rattle.node_hops.specs.Hops.{hops_to}
-use Rattle.node_hops.proofs.HopLists.{hops_lead}
-use Rattle.router_node.specs.Hops.{IsNew, row_lanes, row_windows, windows_of}
-use Rattle.router_moves.specs.Items.{is_accepting}
-use Rattle.router_node.specs.Node.{IsStray, router_latency}
+use Rattle.node_hops.specs.Hops.{IsHopTo, hops_to}
+use Rattle.node_hops.specs.Traits.{is_accepting, lanes_of, latency_of}
+use Rattle.node_hops.proofs.HopLists.{all_lead}
+use Rattle.router_node.specs.Finds.{IsHopBelow}
+use Rattle.router_node.specs.Hops.{IsNew, row_windows, windows_of}
+use Rattle.router_node.specs.Node.{IsStray}
 use Rattle.router_node.specs.Stages.{IsStage}
 use Rattle.router_node.specs.declared.finds.Found.{Found}
 use Rattle.router_node.specs.declared.node.RouterNode.{RouterNode}
@@ -57,8 +56,8 @@ windows_are p r = go (slice_get p.platform.routers r) refl
     go (Some row) at = all_range (λ (h : ℕ). IsHopBelow p h) (window_hop p.platform r 0) (length row.windows) (λ k below. window_is_hop p r k row at below)
 
 -- a router with all of its hops, that holds nothing, is a new one
-pub new_is : (frame : Frame Plan) (tokens : TableId) (p : Plan) (r : RouterNode) → p ≡ frame.world → r.router < length frame.world.platform.routers → r.first ≡ window_hop p.platform r.router 0 → r.accepts ≡ is_accepting p r.router → r.latency ≡ router_latency p r.router
-    → r.above.items ≡ hops_to p.platform (Router r.router) → r.below.items ≡ windows_of p.platform r.router → r.held.items ≡ [] → r.room ≡ row_lanes (slice_get p.platform.routers r.router) * length r.above.items → r.room ≤ deque_capacity r.held → r.stray ≡ None
+pub new_is : (frame : Frame Plan) (tokens : TableId) (p : Plan) (r : RouterNode) → p ≡ frame.world → r.router < length frame.world.platform.routers → r.first ≡ window_hop p.platform r.router 0 → r.accepts ≡ is_accepting p.platform (Router r.router) → r.latency ≡ latency_of p.platform (Router r.router)
+    → r.above.items ≡ hops_to p.platform (Router r.router) → r.below.items ≡ windows_of p.platform r.router → r.held.items ≡ [] → r.room ≡ lanes_of p.platform (Router r.router) * length r.above.items → r.room ≤ deque_capacity r.held → r.stray ≡ None
     → IsNew frame tokens r.router r
 new_is frame tokens p r world there first accepts latency above below empty lanes room stray =
     let q = frame.world in
@@ -70,14 +69,14 @@ new_is frame tokens p r world there first accepts latency above below empty lane
       above_are = above_are;
       below_are = below_are;
       empty = empty;
-      room = subst (λ (s : Plan). r.room ≡ row_lanes (slice_get s.platform.routers r.router) * length r.above.items) world lanes;
+      room = subst (λ (s : Plan). r.room ≡ lanes_of s.platform (Router r.router) * length r.above.items) world lanes;
       stray = stray;
       is = λ known. record {
         router = there;
         first = subst (λ (s : Plan). r.first ≡ window_hop s.platform r.router 0) world first;
-        accepts = subst (λ (s : Plan). r.accepts ≡ is_accepting s r.router) world accepts;
-        latency = subst (λ (s : Plan). r.latency ≡ router_latency s r.router) world latency;
-        above = subst (λ (l : List ℕ). AllByRecursion (λ (h : ℕ). IsHopAbove q r.router h) l) (sym above_are) (hops_lead q.platform (Router r.router) (λ (h : ℕ). IsHopAbove q r.router h) (λ h there leads. record { there = there; leads = leads }) (hop_count q.platform) (same (hop_count q.platform)));
+        accepts = subst (λ (s : Plan). r.accepts ≡ is_accepting s.platform (Router r.router)) world accepts;
+        latency = subst (λ (s : Plan). r.latency ≡ latency_of s.platform (Router r.router)) world latency;
+        above = subst (λ (l : List ℕ). AllByRecursion (λ (h : ℕ). IsHopTo q (Router r.router) h) l) (sym above_are) (all_lead q (Router r.router));
         below = subst (λ (l : List ℕ). AllByRecursion (λ (h : ℕ). IsHopBelow q h) l) (sym below_are) (windows_are q r.router);
         held = subst (λ (l : List Stage). AllByRecursion (IsStage frame tokens known) l) (sym empty) tt;
         few = omega (arith, none);
@@ -85,6 +84,3 @@ new_is frame tokens p r world there first accepts latency above below empty lane
         stray = subst (λ (o : Option Found). IfSome o (IsStray frame tokens known)) (sym stray) tt;
       };
     }
-  where
-    same : (n : ℕ) → n ≤ n
-    same n = omega arith

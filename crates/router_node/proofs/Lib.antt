@@ -1,6 +1,5 @@
 pub mod Stays
 pub mod Staged
-pub mod Looks
 pub mod Joined
 pub mod Holds
 pub mod Places

@@ -1,24 +1,19 @@
 -- The first of several hops at which something waits.
-use Rattle.std.specs.Prelude.{ℕ, ◌≡◌, ◌<◌, ◌≤◌, Bool, false, List, [], ◌∷◌, ◌++◌, length, Option, Some, None}
+use Rattle.std.specs.Prelude.{ℕ, ◌≡◌, ◌<◌, ◌≤◌, Bool, false, List, ◌++◌, length, Option, Some, None}
 use Rattle.atomic_table.specs.Seated.{TableId}
 use Rattle.one_history.specs.declared.entry.Entry.{Entry}
 use Rattle.one_history.specs.declared.view.Frame.{Frame}
 use Rattle.one_history.specs.declared.view.View.{View}
 use Rattle.tlm_types.specs.declared.entry.Content.{Content}
-use Rattle.tlm_model.specs.declared.platform.Target.TheVariants.{Router}
 use Rattle.tlm_model.specs.Plan.{Plan}
 use Rattle.route_plan.specs.Valid.{hop_count}
-use Rattle.plat_net.specs.Places.{LeadsTo, hop_place}
+use Rattle.node_hops.specs.Looks.{IsFirst, vain_looks}
 use Rattle.router_moves.specs.Items.{IsRequest}
 use Rattle.router_moves.specs.Moves.{HasFetchedUp}
 use Rattle.router_node.specs.declared.finds.Found.{Found}
 use Rattle.router_moves.specs.declared.items.RouterRequest.{RouterRequest}
 
--- a hop to this router, and the hop of a window
-pub record IsHopAbove (p : Plan) (router hop : ℕ) : Type 0 where
-  pub there : hop < hop_count p.platform
-  pub leads : LeadsTo p.platform hop (Router router)
-
+-- the hop of a window
 pub record IsHopBelow (p : Plan) (hop : ℕ) : Type 0 where
   pub there : hop < hop_count p.platform
   pub window : length p.platform.initiators ≤ hop
@@ -27,18 +22,6 @@ pub record IsHopBelow (p : Plan) (hop : ℕ) : Type 0 where
 pub record IsFound (frame : Frame Plan) (tokens : TableId) (known : List (Entry Content)) (f : Found) : Type 0 where
   pub below : IsHopBelow frame.world f.hop
   pub fetched : HasFetchedUp frame tokens known f.hop f.fetched
-
--- looks in vain, one at each hop in order
-abbrev pub vain_looks : Plan → ℕ → List ℕ → List (ℕ × ℕ)
-vain_looks p look [] = []
-vain_looks p look (h ∷ hs) = (hop_place p h, look) ∷ vain_looks p look hs
-
--- Something was fetched from the first of these hops, in order, at which something waits: there was nothing at those before it.
-pub record IsFirst (p : Plan) (look : ℕ) (hops : List ℕ) (hop : ℕ) (was is : List (ℕ × ℕ)) : Type 0 where
-  pub before : List ℕ
-  pub after : List ℕ
-  pub hops_are : hops ≡ before ++ hop ∷ after
-  pub looks : is ≡ was ++ vain_looks p look before ++ (hop_place p hop, 0) ∷ []
 
 -- The hops at which a pump looks: all of these; in haste some that stand together.
 pub record AreLookedAt (hasty : Bool) (hops some : List ℕ) : Type 0 where

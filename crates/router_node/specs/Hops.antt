@@ -11,12 +11,9 @@ use Rattle.tlm_model.specs.declared.platform.Target.TheVariants.{Router}
 use Rattle.tlm_model.specs.Plan.{Plan}
 use Rattle.tlm_model.specs.Route.{window_hop}
 use Rattle.node_hops.specs.Hops.{hops_to}
+use Rattle.node_hops.specs.Traits.{lanes_of}
 use Rattle.router_node.specs.Node.{IsRouter}
 use Rattle.router_node.specs.declared.node.RouterNode.{RouterNode}
-
-abbrev pub row_lanes : Option RouterRow → ℕ
-row_lanes None = 0
-row_lanes (Some row) = row.lanes
 
 abbrev pub row_windows : Option RouterRow → ℕ
 row_windows None = 0
@@ -33,6 +30,6 @@ pub record IsNew (frame : Frame Plan) (tokens : TableId) (router : ℕ) (r : Rou
   pub above_are : r.above.items ≡ hops_to frame.world.platform (Router router)
   pub below_are : r.below.items ≡ windows_of frame.world.platform router
   pub empty : r.held.items ≡ []
-  pub room : r.room ≡ row_lanes (slice_get frame.world.platform.routers router) * length r.above.items
+  pub room : r.room ≡ lanes_of frame.world.platform (Router router) * length r.above.items
   pub stray : r.stray ≡ None
   pub is : (known : List (Entry Content)) → IsRouter frame tokens r known

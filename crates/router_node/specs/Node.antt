@@ -1,5 +1,5 @@
 -- A router with the transactions that it holds, and what it does in a pump.
-use Rattle.std.specs.Prelude.{ℕ, ◌≡◌, ◌+◌, ◌<◌, ◌≤◌, ◌||◌, Bool, true, false, List, [], ◌∷◌, ◌++◌, length, map, Option, Some, None, IfSome, if◌then◌else◌, nat_lt, slice_get}
+use Rattle.std.specs.Prelude.{ℕ, ◌≡◌, ◌+◌, ◌<◌, ◌≤◌, ◌||◌, Bool, true, false, List, [], ◌∷◌, ◌++◌, length, map, Option, Some, None, IfSome, if◌then◌else◌, nat_lt}
 use Rattle.std.specs.List.{AllByRecursion}
 use Rattle.std.specs.VecDeque.{deque_capacity}
 use Rattle.atomic_table.specs.Seated.{TableId}
@@ -9,11 +9,14 @@ use Rattle.one_history.specs.declared.entry.Entry.{Entry}
 use Rattle.one_history.specs.declared.view.Frame.{Frame}
 use Rattle.one_history.specs.declared.view.View.{View}
 use Rattle.tlm_types.specs.declared.entry.Content.{Content}
-use Rattle.tlm_model.specs.declared.platform.RouterRow.{RouterRow}
+use Rattle.tlm_model.specs.declared.platform.Target.TheVariants.{Router}
 use Rattle.tlm_model.specs.Plan.{Plan}
 use Rattle.tlm_model.specs.Route.{window_hop}
-use Rattle.router_moves.specs.Items.{IsRequest, is_accepting}
-use Rattle.router_node.specs.Finds.{AreLookedAt, IsFirst, IsFound, IsHopAbove, IsHopBelow, vain_looks}
+use Rattle.node_hops.specs.Hops.{IsHopTo}
+use Rattle.node_hops.specs.Looks.{IsFirst, vain_looks}
+use Rattle.node_hops.specs.Traits.{is_accepting, latency_of}
+use Rattle.router_moves.specs.Items.{IsRequest}
+use Rattle.router_node.specs.Finds.{AreLookedAt, IsFound, IsHopBelow}
 use Rattle.router_node.specs.Joins.{HasJoinedOne}
 use Rattle.router_node.specs.Places.{StandsAt}
 use Rattle.router_node.specs.Stages.{ComesBy, IsStage, Standing, standing, vain}
@@ -22,22 +25,14 @@ use Rattle.router_moves.specs.declared.choice.Turned.{Turned}
 use Rattle.router_moves.specs.declared.choice.Turned.TheVariants as Turns
 use Rattle.router_node.specs.declared.finds.Found.{Found}
 use Rattle.router_moves.specs.declared.items.RouterRequest.{RouterRequest}
-use Rattle.router_node.specs.declared.node.Pumped.{Pumped}
-use Rattle.router_node.specs.declared.node.Pumped.TheVariants.{Did, Nothing}
+use Rattle.node_hops.specs.declared.node.Pumped.{Pumped}
+use Rattle.node_hops.specs.declared.node.Pumped.TheVariants.{Did, Nothing}
 use Rattle.router_node.specs.declared.node.RouterNode.{RouterNode}
 use Rattle.router_node.specs.declared.stage.SentUp.{SentUp}
 use Rattle.router_node.specs.declared.stage.Stage.{Stage}
 use Rattle.router_node.specs.declared.stage.Stage.TheVariants.{Down, Sent, Up}
 use Rattle.router_node.specs.declared.stage.Step.{Step}
 use Rattle.router_node.specs.declared.stage.Step.TheVariants.{End, Send, Pass}
-
--- the latency of a router
-abbrev pub row_latency : Option RouterRow → ℕ
-row_latency None = 0
-row_latency (Some row) = row.latency
-
-abbrev pub router_latency : Plan → ℕ → ℕ
-router_latency p router = row_latency (slice_get p.platform.routers router)
 
 module _ (frame : Frame Plan) (tokens : TableId) where
   -- A response that is of none of the transactions that are held: what was known of it when it was fetched is known.
@@ -51,9 +46,9 @@ module _ (frame : Frame Plan) (tokens : TableId) where
   pub record IsRouter (r : RouterNode) (known : List (Entry Content)) : Type 0 where
     pub router : r.router < length frame.world.platform.routers
     pub first : r.first ≡ window_hop frame.world.platform r.router 0
-    pub accepts : r.accepts ≡ is_accepting frame.world r.router
-    pub latency : r.latency ≡ router_latency frame.world r.router
-    pub above : AllByRecursion (λ (h : ℕ). IsHopAbove frame.world r.router h) r.above.items
+    pub accepts : r.accepts ≡ is_accepting frame.world.platform (Router r.router)
+    pub latency : r.latency ≡ latency_of frame.world.platform (Router r.router)
+    pub above : AllByRecursion (λ (h : ℕ). IsHopTo frame.world (Router r.router) h) r.above.items
     pub below : AllByRecursion (λ (h : ℕ). IsHopBelow frame.world h) r.below.items
     pub held : AllByRecursion (IsStage frame tokens known) r.held.items
     pub few : length r.held.items ≤ r.room

@@ -16,7 +16,7 @@ use Rattle.cargo_model.specs.Known.{Known}
 use Rattle.route_plan.specs.Valid.{hop_count}
 use Rattle.plat_net.specs.HopCalls.{CanRespond}
 use Rattle.plat_net.specs.Places.{hop_place}
-use Rattle.node_hops.specs.Modes.{hop_latency}
+use Rattle.node_hops.specs.Traits.{hop_latency}
 use Rattle.router_moves.specs.Items.{IsBegun, IsDown, IsHolding, IsRest}
 use Rattle.router_moves.specs.Moves.{HasBegunOn}
 use Rattle.router_moves.specs.declared.items.BegunBelow.{BegunBelow}

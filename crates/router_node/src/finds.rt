@@ -3,7 +3,9 @@ ghost use Rattle.std.specs.List.{AllByRecursion};
 ghost use Rattle.view_lists.specs.Lists.{Within};
 ghost use Rattle.one_history.specs.Lists.{StandBelow};
 ghost use Rattle.shared_object.specs.Steps.{IsNote};
-ghost use Rattle.router_node.specs.Finds.{HasFoundBack, HasFoundRequest, IsHopAbove, IsHopBelow};
+ghost use Rattle.tlm_model.specs.declared.platform.Target.TheVariants.{Router};
+ghost use Rattle.node_hops.specs.Hops.{IsHopTo};
+ghost use Rattle.router_node.specs.Finds.{HasFoundBack, HasFoundRequest, IsHopBelow};
 
 use plat_net::{Net, PlatNote, TlmLaw};
 use route_plan::Plan;
@@ -52,7 +54,7 @@ pub fn find_request<N: Naming<Plan, TlmLaw>, R: Wait>(
     hops: &[u32],
     note: PlatNote,
 ) -> (Option<RouterRequest>, PlatNote)
-    requires hops { AllByRecursion (λ h. IsHopAbove N.frame.world router h) hops.now }
+    requires hops { AllByRecursion (λ h. IsHopTo N.frame.world (Router router) h) hops.now }
     requires note { IsNote N.table note }
     requires below { StandBelow note.knows.known note.knows.seen }
     ensures note { IsNote N.table result.1 }

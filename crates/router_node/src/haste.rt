@@ -77,22 +77,20 @@ pub(crate) fn leaves_out<N: Naming<Plan, TlmLaw>>(net: &Net<N>, what: Step, stag
     !is_about(what, stage) || !may_go(net, stage)
 }
 
-impl RouterNode {
-    /// Whether a pump may move a transaction, by what the net tells of hops. No clause speaks of it.
-    pub fn may_move<N: Naming<Plan, TlmLaw>>(&self, net: &Net<N>) -> bool {
-        let back = hops_at(net, true, Wanted::Response, self.below.as_slice());
-        if self.stray.is_none() && !back.is_empty() {
-            return true;
-        }
-        let requests = hops_at(net, true, Wanted::Request, self.above.as_slice());
-        if self.held.len() < self.room as usize && !requests.is_empty() {
-            return true;
-        }
-        for at in 0..self.held.len() {
-            if may_go(net, &self.held[at]) {
-                return true;
-            }
-        }
-        false
+/// Whether a pump may move a transaction, by what the net tells of hops.
+pub(crate) fn may_move<N: Naming<Plan, TlmLaw>>(router: &RouterNode, net: &Net<N>) -> bool {
+    let back = hops_at(net, true, Wanted::Response, router.below.as_slice());
+    if router.stray.is_none() && !back.is_empty() {
+        return true;
     }
+    let requests = hops_at(net, true, Wanted::Request, router.above.as_slice());
+    if router.held.len() < router.room as usize && !requests.is_empty() {
+        return true;
+    }
+    for at in 0..router.held.len() {
+        if may_go(net, &router.held[at]) {
+            return true;
+        }
+    }
+    false
 }

@@ -1,8 +1,8 @@
 //! A router between four-phase hops (IEEE 1666-2011, clauses 10.4, 11.1.2, 14.7 and 15.2).
 //!
 //! - `RouterNode` is such a router: its hops above and those of its windows, and the transactions that it
-//!   holds, in order of arrival. `new` makes it by the plan of a net. `pump` is a loop's turn of it; `specs/Node`
-//!   says what a router keeps and what a pump does. `finish` ends it.
+//!   holds, in order of arrival. `new` makes it by the plan of a net. `pump`, of `node_hops::Node`, is a loop's turn
+//!   of it; `specs/Node` says what a router keeps and what a pump does. `finish` ends it.
 //! - `Stage` is what a router holds of a transaction between pumps, and `SentUp` a response that was sent up.
 //!   `move_on` makes one step of a pump for one: what has ended above is ended below (`end_away`), a response
 //!   is tried (`send`), or a request, with END_REQ above where it is owed (`settle`). `specs/Stages` says what
@@ -30,7 +30,7 @@ mod stage;
 
 pub use finds::{Found, find_back, find_request};
 pub use joins::join;
-pub use node::{Pumped, RouterNode};
+pub use node::RouterNode;
 pub use router_moves::{
     Back, BegunBelow, Down, End, FromBelow, Passed, PassedOn, Rest, RouterRequest, RouterResponse,
     Sent, Turned, WayBehind, descend, end_above, end_below, fetch_down, fetch_up, has_ended_above,

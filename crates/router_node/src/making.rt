@@ -2,19 +2,17 @@
 ghost use Rattle.std.specs.Prelude.{◌≡◌, ◌+◌, ◌^◌, ◌<◌, ◌≤◌, length, IfOk, slice_get};
 ghost use Rattle.std.specs.List.{range_with_len};
 ghost use Rattle.tlm_model.specs.Route.{window_hop};
-ghost use Rattle.router_node.specs.Hops.{IsNew, row_lanes, row_windows};
-ghost use Rattle.router_moves.specs.Items.{is_accepting};
-ghost use Rattle.router_node.specs.Node.{router_latency};
+ghost use Rattle.router_node.specs.Hops.{IsNew, row_windows};
 
 use crate::node::RouterNode;
-use node_hops::{accepts, hops_to};
+use node_hops::{hops_to, traits_of};
 use plat_net::{Net, TlmLaw};
 use route_plan::Plan;
 use shared_object::Naming;
 use std::alloc::{AllocError, Global};
 use std::collections::VecDeque;
 use tlm_model::Target;
-use tlm_types::{Memory, Ps};
+use tlm_types::Memory;
 
 // The hop of a router's first window.
 fn first_window(plan: &Plan, router: u32) -> u32
@@ -53,19 +51,6 @@ fn hops_from(alloc: Global, first: u32, count: u32) -> Result<Vec<u32>, AllocErr
     Ok(hops)
 }
 
-// Whether END_REQ is a call of its own for this router, its latency in picoseconds, and the lanes of each hop
-// to it.
-fn traits_of(plan: &Plan, router: u32) -> (bool, Ps, u32)
-    requires { router < length plan.now.platform.routers }
-    ensures accepts { result.0 ≡ is_accepting plan.now router }
-    ensures latency { result.1 ≡ router_latency plan.now router }
-    ensures lanes { result.2 ≡ row_lanes (slice_get plan.now.platform.routers router) }
-    ensures few { result.2 ≤ 16 }
-{
-    let row = &plan.platform().routers.as_slice()[router as usize];
-    (accepts(row.accept), row.latency, row.lanes)
-}
-
 impl RouterNode {
     /// The router of a net with this number, between the hops that lead to it and those of its windows. It has
     /// room for as many transactions as those that lead to it have lanes. Its only error is want of memory.
@@ -78,18 +63,18 @@ impl RouterNode {
         ensures { IfOk result (IsNew N.frame N.tokens router) }
     {
         let plan = net.plan();
-        let (accepts, latency, lanes) = traits_of(plan, router);
+        let traits = traits_of(plan, Target::Router(router));
         let above = hops_to(alloc, plan, Target::Router(router))?;
         let first = first_window(plan, router);
         let count = count_of(plan, router);
         let below = hops_from(alloc, first, count)?;
-        let room = lanes * above.len() as u32;
+        let room = traits.lanes * above.len() as u32;
         let held = VecDeque::with_capacity(alloc, room as usize)?;
         Ok(RouterNode {
             router,
             first,
-            accepts,
-            latency,
+            accepts: traits.accepts,
+            latency: traits.latency,
             above,
             below,
             held,

@@ -14,9 +14,10 @@ ghost use Rattle.router_node.specs.declared.stage.Stage.TheVariants as Stages;
 ghost use Rattle.router_node.specs.declared.stage.Step.TheVariants as Steps;
 
 use crate::finds::{Found, find_back, find_request};
-use crate::haste::{Wanted, hops_at, leaves_out};
+use crate::haste::{Wanted, hops_at, leaves_out, may_move};
 use crate::joins::{is_joined, join};
 use crate::stage::{SentUp, Stage, Step, finish_away, is_about, look_for_end, move_on};
+use node_hops::{Node, Pumped};
 use plat_net::{Net, PlatNote, TlmLaw};
 use route_plan::Plan;
 use router_moves::{Turned, turn};
@@ -57,15 +58,6 @@ impl Drop for RouterNode {
             stray: _stray,
         } = self;
     }
-}
-
-/// What a pump has done.
-#[derive(Clone, Copy, Debug, PartialEq, Eq)]
-pub enum Pumped {
-    /// It has moved a transaction.
-    Did,
-    /// There was nothing that it could do.
-    Nothing,
 }
 
 // Whether one of two is so.
@@ -445,32 +437,6 @@ impl RouterNode {
         self.go_through(net, rt, false, note)
     }
 
-    /// A pump goes through these, in this order. What has ended above is ended below and forgotten. Each response that is
-    /// to go up is tried, and each request that is to go down, in order of arrival. One response that waits below is
-    /// fetched, in order of hops. Where there is room, one request that waits above is fetched, in order of hops.
-    ///
-    /// First it does so in haste: it leaves out tries and looks of which the net tells that they would be in vain. Only
-    /// where nothing was moved so, it goes through once more, with every try and every look. The answer is Did where a
-    /// transaction was moved. It takes no memory and can't fail.
-    pub fn pump<N: Naming<Plan, TlmLaw>, R: Wait>(
-        &mut self,
-        net: &Net<N>,
-        rt: &R,
-        note: PlatNote,
-    ) -> (Pumped, PlatNote)
-        requires router { IsRouter N.frame N.tokens self.old note.knows.known }
-        requires note { IsNote N.table note }
-        requires below { StandBelow note.knows.known note.knows.seen }
-        ensures router { IsRouter N.frame N.tokens self.new result.1.knows.known }
-        ensures note { IsNote N.table result.1 }
-        ensures knew { Within note.knows.known result.1.knows.known }
-        ensures below { StandBelow result.1.knows.known result.1.knows.seen }
-        ensures pumped { HasPumped N.frame N.tokens self.old self.new note result.1 result.0 }
-    {
-        let (moved, note) = self.go_on(net, rt, note);
-        (pumped_by(moved), note)
-    }
-
     /// The end of a router. It holds no transaction, and no response of none that it holds.
     pub fn finish(self)
         requires held { self.held.items ≡ [] }
@@ -494,5 +460,37 @@ impl RouterNode {
             stray,
         } = self;
         (held, stray)
+    }
+}
+
+impl<N: Naming<Plan, TlmLaw>> Node<N> for RouterNode {
+    ghost use Rattle.router_node.specs.Node.{IsRouter};
+
+    ghost keeps = { IsRouter N.frame N.tokens };
+
+    /// A pump goes through these, in this order. What has ended above is ended below and forgotten. Each response that is
+    /// to go up is tried, and each request that is to go down, in order of arrival. One response that waits below is
+    /// fetched, in order of hops. Where there is room, one request that waits above is fetched, in order of hops.
+    ///
+    /// First it does so in haste: it leaves out tries and looks of which the net tells that they would be in vain. Only
+    /// where nothing was moved so, it goes through once more, with every try and every look. The answer is Did where a
+    /// transaction was moved. It takes no memory and can't fail.
+    fn pump<R: Wait>(&mut self, net: &Net<N>, rt: &R, note: PlatNote) -> (Pumped, PlatNote)
+        requires node { IsRouter N.frame N.tokens self.old note.knows.known }
+        requires note { IsNote N.table note }
+        requires below { StandBelow note.knows.known note.knows.seen }
+        ensures node { IsRouter N.frame N.tokens self.new result.1.knows.known }
+        ensures note { IsNote N.table result.1 }
+        ensures knew { Within note.knows.known result.1.knows.known }
+        ensures below { StandBelow result.1.knows.known result.1.knows.seen }
+        ensures pumped { HasPumped N.frame N.tokens self.old self.new note result.1 result.0 }
+    {
+        let (moved, note) = self.go_on(net, rt, note);
+        (pumped_by(moved), note)
+    }
+
+    /// Whether a pump may move a transaction, by what the net tells of hops. No clause speaks of it.
+    fn may_move(&self, net: &Net<N>) -> bool {
+        may_move(self, net)
     }
 }

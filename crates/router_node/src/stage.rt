@@ -1,24 +1,21 @@
 // A transaction that a router holds, and the steps that move it.
-ghost use Rattle.std.specs.Prelude.{◌≡◌, ℕ, ◌<◌, length, IfNone, IfSome, Some};
+ghost use Rattle.std.specs.Prelude.{◌≡◌, ◌<◌, IfSome, Some};
 ghost use Rattle.view_lists.specs.Lists.{Within};
 ghost use Rattle.one_history.specs.Lists.{StandBelow};
 ghost use Rattle.shared_object.specs.Steps.{IsNote};
-ghost use Rattle.tlm_model.specs.declared.platform.Target.TheVariants as targets;
 ghost use Rattle.flow_model.specs.Events.{Finds};
 ghost use Rattle.flow_model.specs.Numbers.{IsEnder};
 ghost use Rattle.cargo_model.specs.Known.{Known};
-ghost use Rattle.platform_shape.specs.Shape.{IsShape};
 ghost use Rattle.route_plan.specs.Valid.{hop_count};
-ghost use Rattle.plat_net.specs.Places.{LeadsTo};
-ghost use Rattle.node_hops.specs.Modes.{hop_latency};
 ghost use Rattle.router_moves.specs.Items.{HasGone, IsBegun, IsDown};
 ghost use Rattle.router_moves.specs.Moves.{HasEndedAbove};
 ghost use Rattle.router_node.specs.Stages.{HasEnded, HasLookedForEnd, HasSettled, HasStepped, IsAway, IsServed, IsSettled, IsStage, IsUp, WasReleased, is_about};
 ghost use Rattle.router_node.specs.declared.stage.Stage.TheVariants as Stages;
 ghost use Rattle.router_node.specs.declared.stage.Step.TheVariants as Steps;
 
+use node_hops::memory_behind;
 use plat_net::{Net, PlatNote, TlmLaw};
-use route_plan::{Down as Behind, HopEnds, Plan};
+use route_plan::Plan;
 use router_moves::{
     BegunBelow, Down, End, Passed, PassedOn, Rest, RouterResponse, Sent, end_above, end_below,
     has_ended_above, pass_on, release, send_up, serve_below, turn_up,
@@ -220,29 +217,6 @@ pub fn settle<N: Naming<Plan, TlmLaw>, R: Wait>(
         return (held, note);
     }
     end_above(net, rt, note, held, at)
-}
-
-// The memory that a hop leads to, and its latency in picoseconds. There is none where the hop leads to a
-// router.
-fn memory_behind<N: Naming<Plan, TlmLaw>>(net: &Net<N>, hop: u32) -> Option<(u32, Ps)>
-    requires { hop < hop_count N.frame.world.platform }
-    ensures shape { IsShape N.frame.world.platform }
-    ensures there { IfSome result (λ m. m.0 < length N.frame.world.platform.memories) }
-    ensures memory { IfSome result (λ m. LeadsTo N.frame.world.platform hop (targets.Memory m.0)) }
-    ensures latency { IfSome result (λ m. m.1 ≡ hop_latency N.frame.world hop) }
-    ensures router { IfNone result ((r : ℕ) × LeadsTo N.frame.world.platform hop (targets.Router r)) }
-{
-    let platform = net.plan().platform();
-    let Some(HopEnds { up: _, down }) = net.plan().hop_ends(hop) else {
-        unreachable!()
-    };
-    match down {
-        Behind::Memory(memory) => {
-            let row = &platform.memories.as_slice()[memory as usize];
-            Some((memory, row.traits.latency))
-        }
-        Behind::Router(_) => None,
-    }
 }
 
 // Calls the memory of a request whose response comes by return. The response is to go up.

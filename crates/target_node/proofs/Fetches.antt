@@ -1,6 +1,6 @@
 -- What a memory knows of what it fetches.
 use Rattle.std.proofs.Common.{◌≡◌, ◌≢◌, ℕ, zero, suc, ◌+◌, ◌<◌, ◌&&◌, ◌==◌, Bool, true, false, not, List, [], ◌∷◌, length, get_or, Option, Some, None, refl, sym, ◌∙◌, ap, subst, arith}
-use Rattle.std.specs.Prelude.{IfSome, slice_get}
+use Rattle.std.specs.Prelude.{slice_get}
 use Rattle.atomic_table.specs.Seated.{TableId}
 use Rattle.one_history.specs.declared.entry.Entry.{Entry}
 use Rattle.one_history.specs.declared.view.Frame.{Frame}
@@ -10,6 +10,7 @@ use Rattle.tlm_types.specs.declared.words.ObjectNo.TheVariants.{Hop}
 use Rattle.tlm_types.specs.declared.words.Phase.TheVariants.{BeginReq}
 use Rattle.tlm_types.specs.declared.words.ReqMode.{ReqMode}
 use Rattle.tlm_types.specs.declared.words.ReqMode.TheVariants.{Accept, Short, EndReq as end_req, BeginResp as begin_resp, Complete}
+use Rattle.tlm_types.specs.declared.words.RespMode.TheVariants.{Accept as accept_response}
 use Rattle.tlm_types.specs.declared.words.TlmSync.TheVariants.{Accepted}
 use Rattle.tlm_types.specs.declared.words.TxnId.{TxnId}
 use Rattle.tlm_model.specs.declared.platform.MemoryRow.{MemoryRow}
@@ -41,13 +42,9 @@ use Rattle.plat_net.specs.Places.{LeadsTo, hop_place}
 use Rattle.plat_net.proofs.Given.{among_at}
 use Rattle.plat_net.proofs.NumberLemmas.{hop_there}
 use Rattle.plat_net.proofs.Targets.{ends_stop}
-use Rattle.node_hops.specs.Modes.{accepts}
-use Rattle.target_node.specs.Items.{IsFetchedWith, IsOwedEnd, IsRequest, IsWaiting, is_accepting, row_accepts}
+use Rattle.node_hops.specs.Traits.{accepts, is_accepting}
+use Rattle.target_node.specs.Items.{IsFetchedWith, IsOwedEnd, IsRequest, IsWaiting}
 use Rattle.target_node.specs.declared.items.MemoryRequest.{MemoryRequest}
-
--- what holds of what came
-pub of_some : {A : Type 0} (P : A → Type 0) (o : Option A) (x : A) → o ≡ Some x → IfSome o P → P x
-of_some {A = A} P o x is holds = subst (λ (q : Option A). IfSome q P) is holds
 
 -- what was fetched with a ticket, and without
 pub with_ticket : (frame : Frame Plan) (tokens : TableId) (memory : ℕ) (known : List (Entry Content)) (at : ℕ) (accepting : Bool) (r : MemoryRequest) (t : Ticket) → IsFetchedWith frame tokens memory known at accepting r (Some t) → (accepting ≡ true) × IsOwedEnd frame tokens memory known r × IsTicket tokens (hop_place frame.world at) t
@@ -98,10 +95,6 @@ pub row_is : (p : Plan) (tokens : TableId) (known : List (Entry Content)) (x : T
 row_is p tokens known x pass asked k memory row below leads is =
     let e = ends_are p tokens known x pass asked k memory below leads ∙ ap (to_memory (response_at asked.initiator k)) is in
     row_plain (k + 1 == hop_count pass) row.reply (hop_in p.platform (hop_at pass k)) (ap (λ (h : HopEnds). h.to_memory) e) (ap (λ (h : HopEnds). h.req) e)
-
-pub latency_is : (p : Plan) (tokens : TableId) (known : List (Entry Content)) (x : TxnId) (pass : Passage) (asked : IsAsked p tokens (Known p.platform known) x pass) (k memory : ℕ) (row : MemoryRow) → k < hop_count pass → LeadsTo p.platform (hop_at pass k) (Memory memory)
-    → slice_get p.platform.memories memory ≡ Some row → (hop_in p.platform (hop_at pass k)).latency ≡ row.traits.latency
-latency_is p tokens known x pass asked k memory row below leads is = ap (λ (h : HopEnds). h.latency) (ends_are p tokens known x pass asked k memory below leads ∙ ap (to_memory (response_at asked.initiator k)) is)
 
 module _ (frame : Frame Plan) (tokens : TableId) (known : List (Entry Content)) (hop : ℕ) (below : hop < valid.hop_count frame.world.platform) (memory : ℕ) (leads : LeadsTo frame.world.platform hop (Memory memory)) (row : MemoryRow) (is : slice_get frame.world.platform.memories memory ≡ Some row)
     (r : FetchedRequest) (h : HasFetchedRequest frame tokens (hop_place frame.world hop) r known) where
@@ -170,16 +163,16 @@ module _ (frame : Frame Plan) (tokens : TableId) (known : List (Entry Content)) 
   accepted : (m : ReqMode) → m ≡ Accept → IsAnswerIn m h.answer → h.answer ≡ Accepted
   accepted m q f = subst (λ (n : ReqMode). IsAnswerIn n h.answer) q f
 
-  pub owed_is : (after : Purse) (ticket : Ticket) → true ≡ is_accepting p memory → Pulls tokens (hop_place p hop) 0 r.cargo.baton.wallet after → IsTicket tokens (hop_place p hop) ticket → IsFetchedWith frame tokens memory known hop true (taken after) (Some ticket)
+  pub owed_is : (after : Purse) (ticket : Ticket) → true ≡ is_accepting p.platform (Memory memory) → Pulls tokens (hop_place p hop) 0 r.cargo.baton.wallet after → IsTicket tokens (hop_place p hop) ticket → IsFetchedWith frame tokens memory known hop true (taken after) (Some ticket)
   owed_is after ticket on pulls of =
-      let m : row.reply ≡ Accept = accept_is row.reply (on ∙ ap row_accepts is) in
+      let m : row.reply ≡ Accept = accept_is row.reply (on ∙ ap (λ (o : Option MemoryRow). accepts (to_memory accept_response o).rules.req) is) in
       let owes : row_of (world_of p) h.pass h.hop ≡ Accept = mode ∙ m in
       let state = requested (accepted (row_of (world_of p) h.pass h.hop) owes h.fits) in
       (refl, record { pass = h.pass; hop = h.hop; request = request_is after Requested state (record { none = λ q. absurd (let e = ap request_ends owes in omega (arith, e, q)); one = λ q. pulls }); row = owes }, of)
 
-  pub waiting_is : false ≡ is_accepting p memory → IsFetchedWith frame tokens memory known hop false (taken r.cargo.baton.wallet) None
+  pub waiting_is : false ≡ is_accepting p.platform (Memory memory) → IsFetchedWith frame tokens memory known hop false (taken r.cargo.baton.wallet) None
   waiting_is off =
-      let m : false ≡ accepts row.reply = off ∙ ap row_accepts is in
+      let m : false ≡ accepts row.reply = off ∙ ap (λ (o : Option MemoryRow). accepts (to_memory accept_response o).rules.req) is in
       let ends : request_ends (row_of (world_of p) h.pass h.hop) ≡ 0 = ap request_ends mode ∙ no_end row.reply m in (
         refl,
         record {

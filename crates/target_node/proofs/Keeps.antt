@@ -1,5 +1,5 @@
 -- A memory keeps what it may do, whatever else comes to be known.
-use Rattle.std.proofs.Common.{◌≡◌, ℕ, zero, suc, ◌+◌, ◌<◌, List, [], ◌∷◌, drop, insert, Option, Some, None, sym, ap, subst, ◌∙◌}
+use Rattle.std.proofs.Common.{◌≡◌, ℕ, zero, suc, ◌+◌, ◌<◌, List, [], ◌∷◌, drop, insert, Option, Some, None, sym, subst, ◌∙◌}
 use Rattle.std.specs.List.{AllByRecursion}
 use Rattle.std.specs.Prelude.{IfSome}
 use Rattle.atomic_table.specs.Seated.{TableId}
@@ -11,20 +11,20 @@ use Rattle.tlm_model.specs.declared.platform.Target.TheVariants.{Memory}
 use Rattle.tlm_model.specs.Plan.{Plan}
 use Rattle.flow_model.specs.World.{hop_at}
 use Rattle.flow_model.specs.Events.{Event}
-use Rattle.flow_model.specs.Platform.{hop_in, world_of}
+use Rattle.flow_model.specs.Platform.{world_of}
 use Rattle.flow_model.proofs.More.{up_more}
 use Rattle.cargo_model.specs.Known.{Known}
 use Rattle.cargo_model.specs.Travel.{Ready}
 use Rattle.cargo_model.proofs.More.{goes_up_more, is_fetched_more}
 use Rattle.route_plan.specs.Valid.{hop_count}
-use Rattle.plat_net.specs.Places.{LeadsTo, hop_place}
-use Rattle.node_hops.specs.Modes.{hop_latency}
+use Rattle.plat_net.specs.Places.{hop_place}
+use Rattle.node_hops.specs.Traits.{hop_latency}
 use Rattle.target_node.specs.Items.{HasServedAt, IsWaiting}
-use Rattle.target_node.specs.Node.{IsQueued, IsTarget, IsToSend, row_latency}
+use Rattle.target_node.specs.Node.{IsQueued, IsTarget, IsToSend}
 use Rattle.target_node.specs.declared.items.MemoryRequest.{MemoryRequest}
 use Rattle.target_node.specs.declared.items.MemoryResponse.{MemoryResponse}
 use Rattle.target_node.specs.declared.node.TargetNode.{TargetNode}
-use Rattle.target_node.proofs.Fetches.{latency_is, row_in}
+use Rattle.node_hops.proofs.Latencies.{latency_to}
 use Rattle.target_node.proofs.Served.{finds_more, known_more, leg_more}
 
 pub all_by : {A : Type 0} (P Q : A → Type 0) → ((x : A) → P x → Q x) → (xs : List A) → AllByRecursion P xs → AllByRecursion Q xs
@@ -108,13 +108,7 @@ module _ (frame : Frame Plan) (tokens : TableId) (known back : List (Entry Conte
 
 -- the latency of a memory is that of its hops
 pub latency_there : (frame : Frame Plan) (tokens : TableId) (t : TargetNode) (known : List (Entry Content)) → IsTarget frame tokens t known → (r : MemoryRequest) → IsWaiting frame tokens t.memory known r → t.latency ≡ hop_latency frame.world r.hop
-latency_there frame tokens t known is r waits =
-    let p = frame.world in
-    let q = waits.request in
-    let row = row_in p.platform.memories t.memory is.memory in
-    let leads = subst (λ (h : ℕ). LeadsTo p.platform h (Memory t.memory)) (sym q.here) q.leads in
-    let at : (hop_in p.platform (hop_at waits.pass waits.hop)).latency ≡ row.0.traits.latency = latency_is p tokens known r.cargo.baton.txn waits.pass q.fetched.down.asked waits.hop t.memory row.0 q.fetched.down.held.below leads row.1 in
-    is.latency ∙ (ap row_latency row.1 ∙ (sym at ∙ ap (λ (h : ℕ). (hop_in p.platform h).latency) q.here))
+latency_there frame tokens t known is r waits = is.latency ∙ latency_to frame.world r.hop (Memory t.memory) (let q = waits.request in q.leads)
 
 -- a response that was served may be sent
 pub served_to_send : (frame : Frame Plan) (tokens : TableId) (latency : ℕ) (r : MemoryRequest) (known : List (Entry Content)) (a : MemoryResponse) → r.hop < hop_count frame.world.platform → HasServedAt frame tokens latency r known a → IsToSend frame tokens known a

@@ -39,7 +39,7 @@ use Rattle.plat_net.specs.Objects.{frame_of}
 use Rattle.plat_net.specs.Places.{LeadsTo, hop_place}
 use Rattle.plat_net.proofs.Given.{ends_there, took}
 use Rattle.plat_net.proofs.Targets.{ends_stop}
-use Rattle.node_hops.specs.Modes.{hop_latency}
+use Rattle.node_hops.specs.Traits.{hop_latency}
 use Rattle.target_node.specs.Items.{HasServedAt, IsOwedEnd, IsWaiting}
 use Rattle.target_node.specs.declared.items.MemoryRequest.{MemoryRequest}
 use Rattle.target_node.specs.declared.items.MemoryResponse.{MemoryResponse}

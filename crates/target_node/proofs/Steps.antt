@@ -19,7 +19,7 @@ use Rattle.target_node.specs.declared.items.FromHop.{FromHop}
 use Rattle.target_node.specs.declared.items.MemoryRequest.{MemoryRequest}
 use Rattle.target_node.specs.declared.items.MemoryResponse.{MemoryResponse}
 use Rattle.target_node.specs.declared.node.TargetNode.{TargetNode}
-use Rattle.target_node.proofs.Fetches.{of_some}
+use Rattle.node_hops.proofs.Looks.{of_some}
 use Rattle.target_node.proofs.Keeps.{all_insert, held_more, keeps, queued_more, served_to_send}
 
 same_response : (r h : MemoryResponse) → Some r ≡ Some h → r ≡ h
@@ -88,15 +88,15 @@ module _ (frame : Frame Plan) (tokens : TableId) (t : TargetNode) where
   pub takes_in : (f : FromHop) (r : MemoryRequest) (q : Events MemoryRequest) (at : ℕ) (was mid is : View Content Plan) → FindsFirst frame tokens t.memory t.accepts t.hops.items was mid f → q ≡ (let old = t.queue in record old { entries = notified old.entries r at }) → at ≡ later r.at t.latency
       → r.hop ≡ f.request.hop → IsWaiting frame tokens t.memory is.known r → is.looks ≡ mid.looks ++ end_looks frame.world f.request.hop t.accepts → TakesIn frame tokens t (record t { queue = q }) was is
   takes_in f r q at was mid is found put due here waits looks = record {
-    before = found.before;
+    before = found.first.before;
     hop = f.request.hop;
-    after = found.after;
-    hops_are = found.hops_are;
+    after = found.first.after;
+    hops_are = found.first.hops_are;
     request = r;
     here = here;
     waits = waits;
     queued = ap (λ (p : Events MemoryRequest). record t { queue = p }) (put ∙ ap (λ (n : ℕ). (let old = t.queue in record old { entries = notified old.entries r n })) due);
-    looks = looks ∙ ap (λ (l : List (ℕ × ℕ)). l ++ end_looks frame.world f.request.hop t.accepts) found.looks;
+    looks = looks ∙ ap (λ (l : List (ℕ × ℕ)). l ++ end_looks frame.world f.request.hop t.accepts) found.first.looks;
   }
 
 -- a queue in which something waits gives something at its first time

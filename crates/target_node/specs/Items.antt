@@ -1,5 +1,5 @@
 -- What a memory knows of the requests that it fetched and of the responses that it is to send.
-use Rattle.std.specs.Prelude.{ℕ, ◌≡◌, ◌⊎◌, ◌≤◌, Bool, true, false, List, [], ◌∷◌, ◌++◌, Option, Some, None, slice_get}
+use Rattle.std.specs.Prelude.{ℕ, ◌≡◌, ◌⊎◌, ◌≤◌, Bool, true, false, List, [], ◌∷◌, ◌++◌, Option, Some, None}
 use Rattle.atomic_table.specs.Seated.{TableId}
 use Rattle.one_history.specs.declared.entry.Entry.{Entry}
 use Rattle.one_history.specs.declared.view.Frame.{Frame}
@@ -9,7 +9,6 @@ use Rattle.tlm_types.specs.declared.words.Phase.TheVariants.{BeginReq, BeginResp
 use Rattle.tlm_types.specs.declared.words.ReqMode.TheVariants.{Accept}
 use Rattle.tlm_types.specs.declared.words.TlmSync.{TlmSync}
 use Rattle.tlm_types.specs.declared.words.TlmSync.TheVariants.{Accepted}
-use Rattle.tlm_model.specs.declared.platform.MemoryRow.{MemoryRow}
 use Rattle.tlm_model.specs.declared.platform.Target.TheVariants.{Memory}
 use Rattle.tlm_model.specs.Plan.{Plan}
 use Rattle.tlm_model.specs.Route.{later}
@@ -27,17 +26,9 @@ use Rattle.cargo_model.specs.Travel.{IsFetched}
 use Rattle.cargo_net.specs.Hops.{IsLegOfLane}
 use Rattle.plat_net.specs.HopCalls.{CanRespond}
 use Rattle.plat_net.specs.Places.{LeadsTo, hop_place}
-use Rattle.node_hops.specs.Modes.{accepts}
 use Rattle.target_node.specs.declared.items.FromHop.{FromHop}
 use Rattle.target_node.specs.declared.items.MemoryRequest.{MemoryRequest}
 use Rattle.target_node.specs.declared.items.MemoryResponse.{MemoryResponse}
-
-abbrev pub row_accepts : Option MemoryRow → Bool
-row_accepts None = false
-row_accepts (Some row) = accepts row.reply
-
-abbrev pub is_accepting : Plan → ℕ → Bool
-is_accepting p memory = row_accepts (slice_get p.platform.memories memory)
 
 module _ (frame : Frame Plan) (tokens : TableId) (memory : ℕ) (known : List (Entry Content)) where
   -- A request was fetched from a hop to this memory: an access on its way, whose BEGIN_REQ is known with its time, and the leg of its lane.

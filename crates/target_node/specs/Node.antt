@@ -1,12 +1,11 @@
 -- A memory behind hops, and what it does in a pump.
-use Rattle.std.specs.Prelude.{ℕ, ◌≡◌, ◌⊎◌, ◌<◌, ◌++◌, Bool, true, false, List, [], ◌∷◌, length, Option, Some, None, IfSome, IsSome, slice_get}
+use Rattle.std.specs.Prelude.{ℕ, ◌≡◌, ◌⊎◌, ◌<◌, ◌++◌, Bool, true, false, List, [], ◌∷◌, length, Option, Some, None, IfSome, IsSome}
 use Rattle.std.specs.List.{AllByRecursion}
 use Rattle.atomic_table.specs.Seated.{TableId}
 use Rattle.one_history.specs.declared.entry.Entry.{Entry}
 use Rattle.one_history.specs.declared.view.Frame.{Frame}
 use Rattle.one_history.specs.declared.view.View.{View}
 use Rattle.tlm_types.specs.declared.entry.Content.{Content}
-use Rattle.tlm_model.specs.declared.platform.MemoryRow.{MemoryRow}
 use Rattle.tlm_model.specs.declared.platform.Target.TheVariants.{Memory}
 use Rattle.tlm_model.specs.Plan.{Plan}
 use Rattle.tlm_model.specs.Route.{later}
@@ -14,27 +13,17 @@ use Rattle.token_book.specs.declared.ticket.Ticket.{Ticket}
 use Rattle.event_queue.specs.EventQueue.{notified}
 use Rattle.route_plan.specs.Valid.{hop_count}
 use Rattle.plat_net.specs.HopCalls.{CanRespond}
-use Rattle.plat_net.specs.Places.{LeadsTo, hop_place, memory_place}
-use Rattle.target_node.specs.Items.{HasResponded, HasServedAt, IsFetchedAs, IsWaiting, is_accepting}
+use Rattle.plat_net.specs.Places.{hop_place, memory_place}
+use Rattle.node_hops.specs.Hops.{IsHopTo}
+use Rattle.node_hops.specs.Looks.{IsFirst, vain_looks}
+use Rattle.node_hops.specs.Traits.{is_accepting, latency_of}
+use Rattle.target_node.specs.Items.{HasResponded, HasServedAt, IsFetchedAs, IsWaiting}
 use Rattle.target_node.specs.declared.items.FromHop.{FromHop}
 use Rattle.target_node.specs.declared.items.MemoryRequest.{MemoryRequest}
 use Rattle.target_node.specs.declared.items.MemoryResponse.{MemoryResponse}
 use Rattle.target_node.specs.declared.node.TargetNode.{TargetNode}
-use Rattle.target_node.specs.declared.node.Pumped.{Pumped}
-use Rattle.target_node.specs.declared.node.Pumped.TheVariants.{Did, Nothing}
-
--- the latency of a memory
-abbrev pub row_latency : Option MemoryRow → ℕ
-row_latency None = 0
-row_latency (Some row) = row.traits.latency
-
-abbrev pub memory_latency : Plan → ℕ → ℕ
-memory_latency p memory = row_latency (slice_get p.platform.memories memory)
-
--- a hop to this memory
-pub record IsHopTo (p : Plan) (memory hop : ℕ) : Type 0 where
-  pub below : hop < hop_count p.platform
-  pub leads : LeadsTo p.platform hop (Memory memory)
+use Rattle.node_hops.specs.declared.node.Pumped.{Pumped}
+use Rattle.node_hops.specs.declared.node.Pumped.TheVariants.{Did, Nothing}
 
 module _ (frame : Frame Plan) (tokens : TableId) where
   -- a request in the queue of a memory waits to be served, and is due after the memory's latency
@@ -51,16 +40,11 @@ module _ (frame : Frame Plan) (tokens : TableId) where
   -- The state of a memory behind these hops, by what it knows: all that waits may be served, and the response that it holds may be sent.
   pub record IsTarget (t : TargetNode) (known : List (Entry Content)) : Type 0 where
     pub memory : t.memory < length frame.world.platform.memories
-    pub hops : AllByRecursion (λ (h : ℕ). IsHopTo frame.world t.memory h) t.hops.items
-    pub accepts : t.accepts ≡ is_accepting frame.world t.memory
-    pub latency : t.latency ≡ memory_latency frame.world t.memory
+    pub hops : AllByRecursion (λ (h : ℕ). IsHopTo frame.world (Memory t.memory) h) t.hops.items
+    pub accepts : t.accepts ≡ is_accepting frame.world.platform (Memory t.memory)
+    pub latency : t.latency ≡ latency_of frame.world.platform (Memory t.memory)
     pub queue : AllByRecursion (IsQueued t.memory t.latency known) t.queue.entries
     pub held : IfSome t.held (IsToSend known)
-
--- looks in vain for a request, one at each hop in order
-abbrev pub vain_looks : Plan → List ℕ → List (ℕ × ℕ)
-vain_looks p [] = []
-vain_looks p (h ∷ hs) = (hop_place p h, 1) ∷ vain_looks p hs
 
 -- the look of an END_REQ that is owed
 abbrev pub end_looks : Plan → ℕ → Bool → List (ℕ × ℕ)
@@ -74,15 +58,12 @@ is_owed (Some ticket) = true
 
 -- A request was fetched from the first hop, in order, at which one waits; from the hops before it none was.
 pub record FindsFirst (frame : Frame Plan) (tokens : TableId) (memory : ℕ) (accepts : Bool) (hops : List ℕ) (old new : View Content Plan) (f : FromHop) : Type 0 where
-  pub before : List ℕ
-  pub after : List ℕ
-  pub hops_are : hops ≡ before ++ f.request.hop ∷ after
+  pub first : IsFirst frame.world 1 hops f.request.hop old.looks new.looks
   pub below : f.request.hop < hop_count frame.world.platform
-  pub looks : new.looks ≡ old.looks ++ vain_looks frame.world before ++ (hop_place frame.world f.request.hop, 0) ∷ []
   pub is : IsFetchedAs frame tokens memory f.request.hop accepts new.known f
 
 abbrev pub HasLooked : Frame Plan → TableId → ℕ → Bool → List ℕ → View Content Plan → View Content Plan → Option FromHop → Type 0
-HasLooked frame tokens memory accepts hops old new None = new.looks ≡ old.looks ++ vain_looks frame.world hops
+HasLooked frame tokens memory accepts hops old new None = new.looks ≡ old.looks ++ vain_looks frame.world 1 hops
 HasLooked frame tokens memory accepts hops old new (Some f) = FindsFirst frame tokens memory accepts hops old new f
 
 module _ (frame : Frame Plan) (tokens : TableId) where
@@ -97,12 +78,12 @@ module _ (frame : Frame Plan) (tokens : TableId) where
     pub here : request.hop ≡ hop
     pub waits : IsWaiting frame tokens old.memory is.known request
     pub queued : new ≡ record old { queue = (let q = old.queue in record q { entries = notified q.entries request (later request.at old.latency) }) }
-    pub looks : is.looks ≡ was.looks ++ vain_looks frame.world before ++ (hop_place frame.world hop, 0) ∷ [] ++ end_looks frame.world hop old.accepts
+    pub looks : is.looks ≡ was.looks ++ vain_looks frame.world 1 before ++ (hop_place frame.world hop, 0) ∷ [] ++ end_looks frame.world hop old.accepts
 
   -- no request waits at a hop, or the queue has no room
   pub record FindsNone (old new : TargetNode) (was is : View Content Plan) : Type 0 where
     pub same : new ≡ old
-    pub why : ((length old.queue.entries ≡ old.queue.room) × (is ≡ was)) ⊎ (is.looks ≡ was.looks ++ vain_looks frame.world old.hops.items)
+    pub why : ((length old.queue.entries ≡ old.queue.room) × (is ≡ was)) ⊎ (is.looks ≡ was.looks ++ vain_looks frame.world 1 old.hops.items)
 
   abbrev pub HasTakenIn : TargetNode → TargetNode → View Content Plan → View Content Plan → Bool → Type 0
   HasTakenIn old new was is true = TakesIn old new was is

@@ -1,8 +1,8 @@
 //! A memory behind four-phase hops (IEEE 1666-2011, clauses 11.1.2, 15.2 and 16.3).
 //!
 //! - `TargetNode` is such a memory: its hops in order, its event queue, and the response that it holds. `new` makes
-//!   it by the plan of a net. `pump` is a loop's turn of it, over the moves `send`, `take_in` and `serve_first`, each
-//!   of which makes one entry at most.
+//!   it by the plan of a net. `pump`, of `node_hops::Node`, is a loop's turn of it, over the moves `send`, `take_in`
+//!   and `serve_first`, each of which makes one entry at most.
 //! - `MemoryRequest` is what was fetched from a hop and waits to be served, `MemoryResponse` what was served and waits to be
 //!   sent. `specs/Items` says what is known of each, `specs/Node` what a memory keeps and what a pump does.
 //! - `fetch`, `end`, `serve` and `respond` are the calls of which the moves consist.
@@ -22,4 +22,4 @@ mod node;
 
 pub use items::{FromHop, MemoryRequest, MemoryResponse};
 pub use moves::{end, fetch, respond, serve};
-pub use node::{Pumped, TargetNode};
+pub use node::TargetNode;

@@ -1,31 +1,16 @@
 // A new memory behind hops.
-ghost use Rattle.std.specs.Prelude.{◌≡◌, ◌<◌, ◌≤◌, length, IfOk, slice_get};
-ghost use Rattle.target_node.specs.Hops.{IsNew, row_lanes};
-ghost use Rattle.target_node.specs.Items.{is_accepting};
-ghost use Rattle.target_node.specs.Node.{memory_latency};
+ghost use Rattle.std.specs.Prelude.{◌<◌, length, IfOk};
+ghost use Rattle.target_node.specs.Hops.{IsNew};
 
 use crate::node::TargetNode;
 use event_queue::EventQueue;
-use node_hops::{accepts, hops_to};
+use node_hops::{hops_to, traits_of};
 use plat_net::{Net, TlmLaw};
 use route_plan::Plan;
 use shared_object::Naming;
 use std::alloc::Global;
 use tlm_model::Target;
-use tlm_types::{Memory, Ps};
-
-// Whether END_REQ is a call of its own for this memory, its latency in picoseconds, and the lanes of each hop
-// to it.
-fn traits_of(plan: &Plan, memory: u32) -> (bool, Ps, u32)
-    requires { memory < length plan.now.platform.memories }
-    ensures accepts { result.0 ≡ is_accepting plan.now memory }
-    ensures latency { result.1 ≡ memory_latency plan.now memory }
-    ensures lanes { result.2 ≡ row_lanes (slice_get plan.now.platform.memories memory) }
-    ensures few { result.2 ≤ 16 }
-{
-    let row = &plan.platform().memories.as_slice()[memory as usize];
-    (accepts(row.reply), row.traits.latency, row.lanes)
-}
+use tlm_types::Memory;
 
 impl TargetNode {
     /// The memory of a net with this number, behind the hops that lead to it. Its queue has room for all of
@@ -39,15 +24,15 @@ impl TargetNode {
         ensures { IfOk result (IsNew N.frame N.tokens memory) }
     {
         let plan = net.plan();
-        let (accepts, latency, lanes) = traits_of(plan, memory);
+        let traits = traits_of(plan, Target::Memory(memory));
         let hops = hops_to(alloc, plan, Target::Memory(memory))?;
-        let room = lanes * hops.len() as u32;
+        let room = traits.lanes * hops.len() as u32;
         let queue = EventQueue::new(alloc, room)?;
         Ok(TargetNode {
             memory,
             hops,
-            accepts,
-            latency,
+            accepts: traits.accepts,
+            latency: traits.latency,
             queue,
             held: None,
         })

@@ -8,8 +8,8 @@ ghost use Rattle.tlm_model.specs.declared.platform.Target.TheVariants.{Memory};
 ghost use Rattle.route_plan.specs.Valid.{hop_count};
 ghost use Rattle.plat_net.specs.HopCalls.{CanRespond};
 ghost use Rattle.plat_net.specs.Places.{LeadsTo, hop_place, memory_place};
-ghost use Rattle.node_hops.specs.Modes.{hop_latency};
-ghost use Rattle.target_node.specs.Items.{HasResponded, HasServedAt, IsFetchedAs, IsOwedEnd, IsWaiting, fetch_look, is_accepting};
+ghost use Rattle.node_hops.specs.Traits.{hop_latency, is_accepting};
+ghost use Rattle.target_node.specs.Items.{HasResponded, HasServedAt, IsFetchedAs, IsOwedEnd, IsWaiting, fetch_look};
 
 use crate::items::{FromHop, MemoryRequest, MemoryResponse};
 use cargo_net::{Answered, FetchedRequest};
@@ -34,7 +34,7 @@ pub fn fetch<N: Naming<Plan, TlmLaw>, R: Wait>(
     requires memory { memory < length N.frame.world.platform.memories }
     requires hop { hop < hop_count N.frame.world.platform }
     requires leads { LeadsTo N.frame.world.platform hop (Memory memory) }
-    requires mode { accepts ≡ is_accepting N.frame.world memory }
+    requires mode { accepts ≡ is_accepting N.frame.world.platform (Memory memory) }
     requires note { IsNote N.table note }
     ensures note { IsNote N.table result.1 }
     ensures knew { Within note.knows.known result.1.knows.known }

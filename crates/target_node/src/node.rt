@@ -4,13 +4,17 @@ ghost use Rattle.std.specs.List.{AllByRecursion};
 ghost use Rattle.view_lists.specs.Lists.{Within};
 ghost use Rattle.one_history.specs.Lists.{StandBelow};
 ghost use Rattle.shared_object.specs.Steps.{IsNote};
+ghost use Rattle.tlm_model.specs.declared.platform.Target.TheVariants.{Memory};
 ghost use Rattle.route_plan.specs.Valid.{hop_count};
-ghost use Rattle.target_node.specs.Items.{IsFetchedWith, IsWaiting, is_accepting};
-ghost use Rattle.target_node.specs.Node.{HasLooked, HasPumped, HasSent, HasServedFirst, HasTakenIn, IsHopTo, IsTarget, end_looks};
+ghost use Rattle.node_hops.specs.Hops.{IsHopTo};
+ghost use Rattle.node_hops.specs.Traits.{is_accepting};
+ghost use Rattle.target_node.specs.Items.{IsFetchedWith, IsWaiting};
+ghost use Rattle.target_node.specs.Node.{HasLooked, HasPumped, HasSent, HasServedFirst, HasTakenIn, IsTarget, end_looks};
 
 use crate::items::{FromHop, MemoryRequest, MemoryResponse};
 use crate::moves::{end, fetch, respond, serve};
 use event_queue::EventQueue;
+use node_hops::{Node, Pumped};
 use plat_net::{Net, PlatNote, TlmLaw};
 use route_plan::Plan;
 use shared_object::Naming;
@@ -43,15 +47,6 @@ impl Drop for TargetNode {
     }
 }
 
-/// What a pump has done.
-#[derive(Clone, Copy, Debug, PartialEq, Eq)]
-pub enum Pumped {
-    /// It has moved on.
-    Did,
-    /// There was nothing that it could do.
-    Nothing,
-}
-
 // Fetches a request from the first of these hops at which one waits.
 fn fetch_first<N: Naming<Plan, TlmLaw>, R: Wait>(
     net: &Net<N>,
@@ -62,8 +57,8 @@ fn fetch_first<N: Naming<Plan, TlmLaw>, R: Wait>(
     note: PlatNote,
 ) -> (Option<FromHop>, PlatNote)
     requires memory { memory < length N.frame.world.platform.memories }
-    requires hops { AllByRecursion (λ h. IsHopTo N.frame.world memory h) hops.now }
-    requires mode { accepts ≡ is_accepting N.frame.world memory }
+    requires hops { AllByRecursion (λ h. IsHopTo N.frame.world (Memory memory) h) hops.now }
+    requires mode { accepts ≡ is_accepting N.frame.world.platform (Memory memory) }
     requires note { IsNote N.table note }
     requires below { StandBelow note.knows.known note.knows.seen }
     ensures note { IsNote N.table result.1 }
@@ -120,15 +115,6 @@ impl TargetNode {
             }
         }
         false
-    }
-
-    /// Whether a pump may find something to do, by what the net tells of hops. No clause speaks of it.
-    pub fn may_move<N: Naming<Plan, TlmLaw>>(&self, net: &Net<N>) -> bool {
-        let tries = match &self.held {
-            Some(response) => net.may_respond(response.hop),
-            None => self.queue.len() > 0,
-        };
-        tries || self.queue.len() < self.queue.room() && self.may_have_request(net)
     }
 
     /// Tries the response that is held, if one is, with BEGIN_RESP (IEEE 1666-2011, clause 15.2). Whether it was
@@ -225,21 +211,39 @@ impl TargetNode {
         (true, note)
     }
 
+    /// All that it holds, wherever it has come: the requests that wait to be served, by the times in picoseconds at
+    /// which their responses are due, and the response that was refused.
+    pub fn into_parts(self) -> (EventQueue<MemoryRequest>, Option<MemoryResponse>)
+        ensures queue { result.0 ≡ self.queue }
+        ensures held { result.1 ≡ self.held }
+    {
+        let TargetNode {
+            memory: _,
+            hops: _hops,
+            accepts: _,
+            latency: _,
+            queue,
+            held,
+        } = self;
+        (queue, held)
+    }
+}
+
+impl<N: Naming<Plan, TlmLaw>> Node<N> for TargetNode {
+    ghost use Rattle.target_node.specs.Node.{IsTarget};
+
+    ghost keeps = { IsTarget N.frame N.tokens };
+
     /// A pump does the first of these that applies. A response that is held is tried again; if it is sent, that
     /// is all. Where the queue has room and a request waits at a hop, in order of hops, the request is fetched,
     /// ended where the memory's mode is so, and put into the queue at its time plus the latency. Where no response
     /// is held and the queue isn't empty, its first request is served, and its response is tried. Else there is
     /// nothing to do. It takes no memory and can't fail.
-    pub fn pump<N: Naming<Plan, TlmLaw>, R: Wait>(
-        &mut self,
-        net: &Net<N>,
-        rt: &R,
-        note: PlatNote,
-    ) -> (Pumped, PlatNote)
-        requires target { IsTarget N.frame N.tokens self.old note.knows.known }
+    fn pump<R: Wait>(&mut self, net: &Net<N>, rt: &R, note: PlatNote) -> (Pumped, PlatNote)
+        requires node { IsTarget N.frame N.tokens self.old note.knows.known }
         requires note { IsNote N.table note }
         requires below { StandBelow note.knows.known note.knows.seen }
-        ensures target { IsTarget N.frame N.tokens self.new result.1.knows.known }
+        ensures node { IsTarget N.frame N.tokens self.new result.1.knows.known }
         ensures note { IsNote N.table result.1 }
         ensures knew { Within note.knows.known result.1.knows.known }
         ensures below { StandBelow result.1.knows.known result.1.knows.seen }
@@ -264,20 +268,12 @@ impl TargetNode {
         (Pumped::Did, note)
     }
 
-    /// All that it holds, wherever it has come: the requests that wait to be served, by the times in picoseconds at
-    /// which their responses are due, and the response that was refused.
-    pub fn into_parts(self) -> (EventQueue<MemoryRequest>, Option<MemoryResponse>)
-        ensures queue { result.0 ≡ self.queue }
-        ensures held { result.1 ≡ self.held }
-    {
-        let TargetNode {
-            memory: _,
-            hops: _hops,
-            accepts: _,
-            latency: _,
-            queue,
-            held,
-        } = self;
-        (queue, held)
+    /// Whether a pump may find something to do, by what the net tells of hops. No clause speaks of it.
+    fn may_move(&self, net: &Net<N>) -> bool {
+        let tries = match &self.held {
+            Some(response) => net.may_respond(response.hop),
+            None => self.queue.len() > 0,
+        };
+        tries || self.queue.len() < self.queue.room() && self.may_have_request(net)
     }
 }

@@ -3,7 +3,7 @@ use Rattle.plat_net.specs.Places.{hop_place}
 use Rattle.router_node.specs.Finds.{IsHopBelow}
 use Rattle.router_moves.specs.Moves.{HasFetchedUp, up_look}
 use Rattle.router_moves.specs.declared.up.FromBelow.{FromBelow}
-use Rattle.router_node.proofs.Looks.{each_at, is_first, looks_more, of_some, within_on, none_found, none_yet}
+use Rattle.node_hops.proofs.Looks.{each_at, is_first, looks_more, of_some, within_on, none_found, none_yet}
 use Rattle.router_node.proofs.finds.find_back.Goals as goal
 
 pub returns-in-Some-clause-found : goal.returns-in-Some-clause-found

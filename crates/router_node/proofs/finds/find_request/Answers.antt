@@ -1,11 +1,13 @@
 use Rattle.std.proofs.Common.{◌≡◌, ◌++◌, ℕ, ◌<◌, [], ◌∷◌, get_or, Option, sym, subst}
 use Rattle.plat_net.specs.Places.{hop_place}
 use Rattle.route_plan.specs.Valid.{hop_count}
-use Rattle.router_node.specs.Finds.{IsFirst, IsHopAbove}
+use Rattle.tlm_model.specs.declared.platform.Target.TheVariants.{Router}
+use Rattle.node_hops.specs.Hops.{IsHopTo}
+use Rattle.node_hops.specs.Looks.{IsFirst}
 use Rattle.router_moves.specs.Items.{IsRequest}
 use Rattle.router_moves.specs.Moves.{fetch_look}
 use Rattle.router_moves.specs.declared.items.RouterRequest.{RouterRequest}
-use Rattle.router_node.proofs.Looks.{each_at, is_first, looks_more, of_some, within_on, none_found, none_yet}
+use Rattle.node_hops.proofs.Looks.{each_at, is_first, looks_more, of_some, within_on, none_found, none_yet}
 use Rattle.router_node.proofs.finds.find_request.Goals as goal
 
 pub returns-in-Some-clause-found : goal.returns-in-Some-clause-found
@@ -14,7 +16,7 @@ returns-in-Some-clause-found g c =
     let xs = c.args.hops.now in
     let i = c.loop-hop.hop-index in
     let new = c.fetch_down-request.result.1.knows in
-    let hop = each_at (λ (h : ℕ). IsHopAbove frame.world c.args.router h) xs i 0 c.loop-hop-test.true c.requires.hops in
+    let hop = each_at (λ (h : ℕ). IsHopTo frame.world (Router c.args.router) h) xs i 0 c.loop-hop-test.true c.requires.hops in
     let f = of_some (λ (r : RouterRequest). (r.hop ≡ get_or xs i 0) × IsRequest frame g.N.Naming.tokens new.known c.args.router r) c.fetch_down-request.result.0 c.in-Some.request c.in-Some.is c.fetch_down-request.ensures.fetched in
     let old = c.loop-hop.note.knows in (
       subst (λ (n : ℕ). IsFirst frame.world 1 xs n c.args.note.knows.looks new.looks) (sym f.0)
@@ -48,10 +50,10 @@ loop-hop-init g c =
     }
 
 pub fetch_down-request-requires-clause-hop : goal.fetch_down-request-requires-clause-hop
-fetch_down-request-requires-clause-hop g c = (each_at (λ (h : ℕ). IsHopAbove g.N.Naming.frame.world c.args.router h) c.args.hops.now c.loop-hop.hop-index 0 c.loop-hop-test.true c.requires.hops).there
+fetch_down-request-requires-clause-hop g c = (each_at (λ (h : ℕ). IsHopTo g.N.Naming.frame.world (Router c.args.router) h) c.args.hops.now c.loop-hop.hop-index 0 c.loop-hop-test.true c.requires.hops).there
 
 pub fetch_down-request-requires-clause-leads : goal.fetch_down-request-requires-clause-leads
-fetch_down-request-requires-clause-leads g c = (each_at (λ (h : ℕ). IsHopAbove g.N.Naming.frame.world c.args.router h) c.args.hops.now c.loop-hop.hop-index 0 c.loop-hop-test.true c.requires.hops).leads
+fetch_down-request-requires-clause-leads g c = (each_at (λ (h : ℕ). IsHopTo g.N.Naming.frame.world (Router c.args.router) h) c.args.hops.now c.loop-hop.hop-index 0 c.loop-hop-test.true c.requires.hops).leads
 
 pub fetch_down-request-requires-clause-note : goal.fetch_down-request-requires-clause-note
 fetch_down-request-requires-clause-note g c = c.loop-hop.invariant.note

@@ -2,7 +2,7 @@ use Rattle.std.proofs.Common.{◌≡◌, ◌++◌, take}
 use Rattle.view_lists.specs.Lists.{Within}
 use Rattle.one_history.specs.Lists.{StandBelow}
 use Rattle.shared_object.specs.Steps.{IsNote}
-use Rattle.router_node.specs.Finds.{vain_looks}
+use Rattle.node_hops.specs.Looks.{vain_looks}
 use Rattle.router_node.proofs.finds.find_request.Given as goal
 
 abbrev pub invariant-loop-hop : goal.invariant-loop-hop

@@ -12,7 +12,7 @@ use Rattle.router_node.proofs.Holds.{all_more}
 use Rattle.router_node.proofs.Moving.{goes, passed_by, same_sent, waits}
 use Rattle.router_node.proofs.Places.{stands, that_one, without}
 use Rattle.router_node.proofs.Staged.{away_more}
-use Rattle.router_node.proofs.Looks.{within_on}
+use Rattle.node_hops.proofs.Looks.{within_on}
 use Rattle.router_node.proofs.node.end_at.Goals as goal
 
 -- who stands at a place, by name

@@ -1,7 +1,7 @@
 use Rattle.router_node.proofs.Staged.{away_more}
 use Rattle.std.proofs.Common.{Bool, refl, subst}
 use Rattle.router_node.specs.Stages.{HasLookedForEnd}
-use Rattle.router_node.proofs.Looks.{within_on}
+use Rattle.node_hops.proofs.Looks.{within_on}
 use Rattle.router_node.proofs.stage.end_away.Goals as goal
 
 pub returns-then-not-ended-clause-stage : goal.returns-then-not-ended-clause-stage

@@ -1,4 +1,4 @@
-use Rattle.router_node.proofs.Looks.{within_on}
+use Rattle.node_hops.proofs.Looks.{within_on}
 use Rattle.std.proofs.Common.{◌≡◌, ℕ, List, sym, ap, subst}
 use Rattle.one_history.specs.declared.entry.Entry.{Entry}
 use Rattle.one_history.specs.declared.view.Frame.{Frame}

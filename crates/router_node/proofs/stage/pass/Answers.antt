@@ -1,7 +1,7 @@
 use Rattle.std.proofs.Common.{ap, ◌∙◌}
 use Rattle.router_moves.specs.declared.items.PassedOn.{PassedOn}
 use Rattle.router_node.proofs.ByReturn.{came_back, gone_of, went_down}
-use Rattle.router_node.proofs.Looks.{within_on}
+use Rattle.node_hops.proofs.Looks.{within_on}
 use Rattle.router_node.proofs.stage.pass.Goals as goal
 
 pub serve-stage-requires-clause-begun : goal.serve-stage-requires-clause-begun

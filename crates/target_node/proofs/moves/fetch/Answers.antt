@@ -10,7 +10,8 @@ use Rattle.cargo_net.proofs.PayloadWallets.{from_pull}
 use Rattle.plat_net.specs.Places.{hop_place}
 use Rattle.plat_net.proofs.Given.{hop_numbered}
 use Rattle.target_node.specs.Items.{IsFetchedWith}
-use Rattle.target_node.proofs.Fetches.{of_some, owed_is, paid, row_in, waiting_is}
+use Rattle.node_hops.proofs.Looks.{of_some}
+use Rattle.target_node.proofs.Fetches.{owed_is, paid, row_in, waiting_is}
 use Rattle.target_node.proofs.moves.fetch.Goals as goal
 
 pub returns-then-not-accepts-clause-fetched : goal.returns-then-not-accepts-clause-fetched

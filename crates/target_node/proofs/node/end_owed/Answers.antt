@@ -2,7 +2,7 @@ use Rattle.std.proofs.Common.{◌≡◌, ◌++◌, Bool, Option, refl, sym, subs
 use Rattle.token_book.specs.declared.ticket.Ticket.{Ticket}
 use Rattle.target_node.specs.Items.{IsFetchedWith}
 use Rattle.target_node.specs.Node.{end_looks}
-use Rattle.target_node.proofs.Looks.{none_yet}
+use Rattle.node_hops.proofs.Looks.{none_yet}
 use Rattle.target_node.proofs.Fetches.{with_none, with_ticket}
 use Rattle.target_node.proofs.node.end_owed.Goals as goal
 

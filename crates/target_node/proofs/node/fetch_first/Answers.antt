@@ -1,10 +1,11 @@
 use Rattle.std.proofs.Common.{◌≡◌, ◌++◌, [], ◌∷◌, get_or, Option, subst, ℕ}
+use Rattle.tlm_model.specs.declared.platform.Target.TheVariants.{Memory}
 use Rattle.target_node.specs.Items.{IsFetchedAs, fetch_look}
 use Rattle.target_node.specs.declared.items.FromHop.{FromHop}
 use Rattle.plat_net.specs.Places.{hop_place}
-use Rattle.target_node.proofs.Fetches.{of_some}
-use Rattle.target_node.proofs.Looks.{found_first, looks_more, within_on, each_at, none_found, none_yet}
-use Rattle.target_node.specs.Node.{IsHopTo}
+use Rattle.node_hops.specs.Hops.{IsHopTo}
+use Rattle.node_hops.proofs.Looks.{each_at, looks_more, none_found, none_yet, of_some, within_on}
+use Rattle.target_node.proofs.Looks.{found_first}
 use Rattle.target_node.proofs.node.fetch_first.Goals as goal
 
 pub returns-in-Some-clause-looked : goal.returns-in-Some-clause-looked
@@ -32,7 +33,7 @@ loop-hop-preserved g c =
       note = e.note;
       knew = within_on c.args.note.knows.known old.known new.known c.loop-hop.invariant.knew e.knew;
       below = e.below;
-      looks = looks_more frame.world xs i c.args.note.knows.looks old.looks new.looks c.loop-hop-test.true c.loop-hop.invariant.looks (subst (λ (o : Option FromHop). new.looks ≡ old.looks ++ (hop_place frame.world (get_or xs i 0), fetch_look o) ∷ []) c.in_default.is e.look);
+      looks = looks_more frame.world 1 xs i c.args.note.knows.looks old.looks new.looks c.loop-hop-test.true c.loop-hop.invariant.looks (subst (λ (o : Option FromHop). new.looks ≡ old.looks ++ (hop_place frame.world (get_or xs i 0), fetch_look o) ∷ []) c.in_default.is e.look);
     }
 
 pub loop-hop-init : goal.loop-hop-init
@@ -48,10 +49,10 @@ pub fetch-fetched-requires-clause-memory : goal.fetch-fetched-requires-clause-me
 fetch-fetched-requires-clause-memory g c = c.requires.memory
 
 pub fetch-fetched-requires-clause-hop : goal.fetch-fetched-requires-clause-hop
-fetch-fetched-requires-clause-hop g c = (each_at (λ (h : ℕ). IsHopTo g.N.Naming.frame.world c.args.memory h) c.args.hops.now c.loop-hop.hop-index 0 c.loop-hop-test.true c.requires.hops).below
+fetch-fetched-requires-clause-hop g c = (each_at (λ (h : ℕ). IsHopTo g.N.Naming.frame.world (Memory c.args.memory) h) c.args.hops.now c.loop-hop.hop-index 0 c.loop-hop-test.true c.requires.hops).there
 
 pub fetch-fetched-requires-clause-leads : goal.fetch-fetched-requires-clause-leads
-fetch-fetched-requires-clause-leads g c = (each_at (λ (h : ℕ). IsHopTo g.N.Naming.frame.world c.args.memory h) c.args.hops.now c.loop-hop.hop-index 0 c.loop-hop-test.true c.requires.hops).leads
+fetch-fetched-requires-clause-leads g c = (each_at (λ (h : ℕ). IsHopTo g.N.Naming.frame.world (Memory c.args.memory) h) c.args.hops.now c.loop-hop.hop-index 0 c.loop-hop-test.true c.requires.hops).leads
 
 pub fetch-fetched-requires-clause-mode : goal.fetch-fetched-requires-clause-mode
 fetch-fetched-requires-clause-mode g c = c.requires.mode
@@ -78,4 +79,4 @@ pub returns-clause-below : goal.returns-clause-below
 returns-clause-below g c = c.loop-hop.invariant.below
 
 pub returns-clause-looked : goal.returns-clause-looked
-returns-clause-looked g c = none_found g.N.Naming.frame.world c.args.hops.now c.loop-hop.hop-index c.args.note.knows.looks c.loop-hop.note.knows.looks c.loop-hop-test.false c.loop-hop.invariant.looks
+returns-clause-looked g c = none_found g.N.Naming.frame.world 1 c.args.hops.now c.loop-hop.hop-index c.args.note.knows.looks c.loop-hop.note.knows.looks c.loop-hop-test.false c.loop-hop.invariant.looks

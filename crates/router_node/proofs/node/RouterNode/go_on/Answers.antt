@@ -1,5 +1,5 @@
 use Rattle.router_node.proofs.Pumps.{at_once, once_more}
-use Rattle.router_node.proofs.Looks.{within_on}
+use Rattle.node_hops.proofs.Looks.{within_on}
 use Rattle.router_node.proofs.node.RouterNode.go_on.Goals as goal
 
 pub returns-then-moved-clause-gone : goal.returns-then-moved-clause-gone

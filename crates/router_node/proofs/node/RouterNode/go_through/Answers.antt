@@ -1,5 +1,5 @@
 use Rattle.std.proofs.Common.{◌≡◌, ◌||◌, Bool, ap, ◌∙◌}
-use Rattle.router_node.proofs.Looks.{within_on}
+use Rattle.node_hops.proofs.Looks.{within_on}
 use Rattle.router_node.proofs.node.RouterNode.go_through.Goals as goal
 
 pub returns-clause-gone : goal.returns-clause-gone

@@ -1,13 +1,16 @@
 use Rattle.std.proofs.Common.{◌≡◌, ℕ, ◌+◌, ◌≤◌, List, [], ◌∷◌, length, Option, Some, refl, ap, subst, ◌∙◌, length-append, arith}
 use Rattle.std.specs.VecDeque.{deque_capacity}
-use Rattle.router_node.specs.Finds.{AreLookedAt, HasFoundRequest, IsHopAbove}
+use Rattle.tlm_model.specs.declared.platform.Target.TheVariants.{Router}
+use Rattle.node_hops.specs.Hops.{IsHopTo}
+use Rattle.node_hops.proofs.Latencies.{latency_to}
+use Rattle.router_node.specs.Finds.{AreLookedAt, HasFoundRequest}
 use Rattle.router_node.specs.Node.{stage_of}
 use Rattle.router_node.specs.Stages.{IsStage}
 use Rattle.router_moves.specs.declared.items.RouterRequest.{RouterRequest}
 use Rattle.router_node.specs.declared.stage.Stage.{Stage}
 use Rattle.router_node.proofs.Hasty.{each_looked, full_in, not_in}
-use Rattle.router_node.proofs.Holds.{all_more, all_next, keeps, last_is, latency_to, router_more, stray_more, turned_stage}
-use Rattle.router_node.proofs.Looks.{within_on}
+use Rattle.router_node.proofs.Holds.{all_more, all_next, keeps, last_is, router_more, stray_more, turned_stage}
+use Rattle.node_hops.proofs.Looks.{within_on}
 use Rattle.router_node.proofs.node.RouterNode.take_in.Goals as goal
 
 pub returns-in_default-clause-router : goal.returns-in_default-clause-router
@@ -22,7 +25,7 @@ pub find_request-request-requires-clause-hops : goal.find_request-request-requir
 find_request-request-requires-clause-hops g c =
     let r = c.args.self.now in
     let a = subst (λ (l : List ℕ). AreLookedAt c.args.hasty l c.hops_at-hops.result.now) c.as_slice.ensures.value c.hops_at-hops.ensures in
-    each_looked c.args.hasty (λ (h : ℕ). IsHopAbove g.N.Naming.frame.world r.router h) r.above.items c.hops_at-hops.result.now a c.requires.router.above
+    each_looked c.args.hasty (λ (h : ℕ). IsHopTo g.N.Naming.frame.world (Router r.router) h) r.above.items c.hops_at-hops.result.now a c.requires.router.above
 
 pub returns-in_default-clause-taken : goal.returns-in_default-clause-taken
 returns-in_default-clause-taken g c =
@@ -44,7 +47,7 @@ turn-turned-requires-clause-latency g c =
     let frame = g.N.Naming.frame in
     let r = c.args.self.now in
     let f = subst (λ (o : Option RouterRequest). HasFoundRequest frame g.N.Naming.tokens r.router c.hops_at-hops.result.now c.args.note.knows c.find_request-request.result.1.knows o) c.in-Some.is c.find_request-request.ensures.found in
-    c.requires.router.latency ∙ latency_to frame.world c.in-Some.request.hop r.router f.2.leads
+    c.requires.router.latency ∙ latency_to frame.world c.in-Some.request.hop (Router r.router) f.2.leads
 
 pub returns-clause-router : goal.returns-clause-router
 returns-clause-router g c =

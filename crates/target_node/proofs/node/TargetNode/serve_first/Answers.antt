@@ -1,7 +1,7 @@
 use Rattle.std.proofs.Common.{◌≡◌, ℕ, ◌∷◌, Option, sym, ap, ◌∙◌}
 use Rattle.std.specs.Prelude.{is_some}
 use Rattle.target_node.specs.declared.items.MemoryRequest.{MemoryRequest}
-use Rattle.target_node.proofs.Fetches.{of_some}
+use Rattle.node_hops.proofs.Looks.{of_some}
 use Rattle.target_node.proofs.Keeps.{latency_there}
 use Rattle.target_node.proofs.Steps.{first_of, gives_first, served_keeps, serves_first}
 use Rattle.target_node.proofs.node.TargetNode.serve_first.Goals as goal

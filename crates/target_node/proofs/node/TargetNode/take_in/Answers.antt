@@ -1,9 +1,12 @@
 use Rattle.std.proofs.Common.{◌≡◌, ℕ, List, Option, ◌<◌, sym, subst, ◌++◌, refl, ◌∙◌, arith, inl, inr}
 use Rattle.route_plan.specs.Valid.{hop_count}
-use Rattle.target_node.specs.Node.{FindsFirst, HasLooked, IsHopTo, vain_looks}
+use Rattle.tlm_model.specs.declared.platform.Target.TheVariants.{Memory}
+use Rattle.node_hops.specs.Hops.{IsHopTo}
+use Rattle.node_hops.specs.Looks.{vain_looks}
+use Rattle.target_node.specs.Node.{FindsFirst, HasLooked}
 use Rattle.target_node.specs.declared.items.FromHop.{FromHop}
 use Rattle.target_node.proofs.Keeps.{target_more}
-use Rattle.target_node.proofs.Looks.{within_on}
+use Rattle.node_hops.proofs.Looks.{within_on}
 use Rattle.target_node.proofs.Steps.{taken_keeps, takes_in}
 use Rattle.std.specs.List.{AllByRecursion}
 use Rattle.target_node.proofs.node.TargetNode.take_in.Goals as goal
@@ -56,7 +59,7 @@ pub fetch_first-fetched-requires-clause-memory : goal.fetch_first-fetched-requir
 fetch_first-fetched-requires-clause-memory g c = c.requires.target.memory
 
 pub fetch_first-fetched-requires-clause-hops : goal.fetch_first-fetched-requires-clause-hops
-fetch_first-fetched-requires-clause-hops g c = subst (λ (l : List ℕ). AllByRecursion (λ (h : ℕ). IsHopTo g.N.Naming.frame.world c.args.self.now.memory h) l) (sym c.as_slice.ensures.value) c.requires.target.hops
+fetch_first-fetched-requires-clause-hops g c = subst (λ (l : List ℕ). AllByRecursion (λ (h : ℕ). IsHopTo g.N.Naming.frame.world (Memory c.args.self.now.memory) h) l) (sym c.as_slice.ensures.value) c.requires.target.hops
 
 pub fetch_first-fetched-requires-clause-mode : goal.fetch_first-fetched-requires-clause-mode
 fetch_first-fetched-requires-clause-mode g c = c.requires.target.accepts
@@ -79,7 +82,7 @@ returns-in_default-clause-below g c = c.fetch_first-fetched.ensures.below
 pub returns-in_default-clause-taken : goal.returns-in_default-clause-taken
 returns-in_default-clause-taken g c =
     let f = subst (λ (o : Option FromHop). HasLooked g.N.Naming.frame g.N.Naming.tokens c.args.self.now.memory c.args.self.now.accepts c.as_slice.result.now c.args.note.knows c.fetch_first-fetched.result.1.knows o) c.in_default.is c.fetch_first-fetched.ensures.looked in
-    record { same = refl; why = inr (subst (λ (l : List ℕ). c.fetch_first-fetched.result.1.knows.looks ≡ c.args.note.knows.looks ++ vain_looks g.N.Naming.frame.world l) c.as_slice.ensures.value f) }
+    record { same = refl; why = inr (subst (λ (l : List ℕ). c.fetch_first-fetched.result.1.knows.looks ≡ c.args.note.knows.looks ++ vain_looks g.N.Naming.frame.world 1 l) c.as_slice.ensures.value f) }
 
 pub end_owed-request-requires-clause-memory : goal.end_owed-request-requires-clause-memory
 end_owed-request-requires-clause-memory g c = c.requires.target.memory

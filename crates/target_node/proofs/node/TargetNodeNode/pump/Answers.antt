@@ -1,8 +1,8 @@
 use Rattle.std.proofs.Common.{Bool, inl, inr, sym, subst, ◌∙◌}
 use Rattle.target_node.specs.Node.{HasSent, HasServedFirst, HasTakenIn}
 use Rattle.target_node.proofs.Steps.{does_nothing_empty, does_nothing_held, is_free, is_held, serves_one}
-use Rattle.target_node.proofs.Looks.{within_on}
-use Rattle.target_node.proofs.node.TargetNode.pump.Goals as goal
+use Rattle.node_hops.proofs.Looks.{within_on}
+use Rattle.target_node.proofs.node.TargetNodeNode.pump.Goals as goal
 
 pub returns-then-taken-clause-pumped : goal.returns-then-taken-clause-pumped
 returns-then-taken-clause-pumped g c =
@@ -42,7 +42,7 @@ returns-clause-pumped g c =
     c.send-note.ensures.sent))
 
 pub send-sent-requires-clause-target : goal.send-sent-requires-clause-target
-send-sent-requires-clause-target g c = c.requires.target
+send-sent-requires-clause-target g c = c.requires.node
 
 pub send-sent-requires-clause-note : goal.send-sent-requires-clause-note
 send-sent-requires-clause-note g c = c.requires.note
@@ -50,8 +50,8 @@ send-sent-requires-clause-note g c = c.requires.note
 pub send-sent-requires-clause-below : goal.send-sent-requires-clause-below
 send-sent-requires-clause-below g c = c.requires.below
 
-pub returns-then-sent-clause-target : goal.returns-then-sent-clause-target
-returns-then-sent-clause-target g c = c.send-sent.ensures.target
+pub returns-then-sent-clause-node : goal.returns-then-sent-clause-node
+returns-then-sent-clause-node g c = c.send-sent.ensures.target
 
 pub returns-then-sent-clause-note : goal.returns-then-sent-clause-note
 returns-then-sent-clause-note g c = c.send-sent.ensures.note
@@ -74,8 +74,8 @@ take_in-taken-requires-clause-note g c = c.send-sent.ensures.note
 pub take_in-taken-requires-clause-below : goal.take_in-taken-requires-clause-below
 take_in-taken-requires-clause-below g c = c.send-sent.ensures.below
 
-pub returns-then-taken-clause-target : goal.returns-then-taken-clause-target
-returns-then-taken-clause-target g c = c.take_in-taken.ensures.target
+pub returns-then-taken-clause-node : goal.returns-then-taken-clause-node
+returns-then-taken-clause-node g c = c.take_in-taken.ensures.target
 
 pub returns-then-taken-clause-note : goal.returns-then-taken-clause-note
 returns-then-taken-clause-note g c = c.take_in-taken.ensures.note
@@ -86,8 +86,8 @@ returns-then-taken-clause-knew g c = within_on c.args.note.knows.known c.send-se
 pub returns-then-taken-clause-below : goal.returns-then-taken-clause-below
 returns-then-taken-clause-below g c = c.take_in-taken.ensures.below
 
-pub returns-then-is_some-clause-target : goal.returns-then-is_some-clause-target
-returns-then-is_some-clause-target g c = c.take_in-taken.ensures.target
+pub returns-then-is_some-clause-node : goal.returns-then-is_some-clause-node
+returns-then-is_some-clause-node g c = c.take_in-taken.ensures.target
 
 pub returns-then-is_some-clause-note : goal.returns-then-is_some-clause-note
 returns-then-is_some-clause-note g c = c.take_in-taken.ensures.note
@@ -110,8 +110,8 @@ serve_first-served-requires-clause-below g c = c.take_in-taken.ensures.below
 pub serve_first-served-requires-clause-free : goal.serve_first-served-requires-clause-free
 serve_first-served-requires-clause-free g c = is_free c.take_in-taken.new.self.held (sym c.if-is_some.false ∙ c.is_some.ensures)
 
-pub returns-then-not-served-clause-target : goal.returns-then-not-served-clause-target
-returns-then-not-served-clause-target g c = c.serve_first-served.ensures.target
+pub returns-then-not-served-clause-node : goal.returns-then-not-served-clause-node
+returns-then-not-served-clause-node g c = c.serve_first-served.ensures.target
 
 pub returns-then-not-served-clause-note : goal.returns-then-not-served-clause-note
 returns-then-not-served-clause-note g c = c.serve_first-served.ensures.note
@@ -131,8 +131,8 @@ send-note-requires-clause-note g c = c.serve_first-served.ensures.note
 pub send-note-requires-clause-below : goal.send-note-requires-clause-below
 send-note-requires-clause-below g c = c.serve_first-served.ensures.below
 
-pub returns-clause-target : goal.returns-clause-target
-returns-clause-target g c = c.send-note.ensures.target
+pub returns-clause-node : goal.returns-clause-node
+returns-clause-node g c = c.send-note.ensures.target
 
 pub returns-clause-note : goal.returns-clause-note
 returns-clause-note g c = c.send-note.ensures.note

@@ -1,4 +1,4 @@
--- The looks of a router at its hops.
+-- The looks of a node at its hops.
 use Rattle.std.proofs.Common.{◌≡◌, ℕ, zero, suc, ◌+◌, ◌<◌, ◌≤◌, List, [], ◌∷◌, ◌++◌, length, take, drop, get_or, Option, Some, refl, sym, ap, subst, ◌∙◌, append_assoc, arith}
 use Rattle.std.proofs.lemmas.List.{append-nil}
 use Rattle.std.specs.List.{AllByRecursion}
@@ -8,7 +8,7 @@ use Rattle.one_history.specs.declared.entry.Entry.{Entry}
 use Rattle.tlm_types.specs.declared.entry.Content.{Content}
 use Rattle.tlm_model.specs.Plan.{Plan}
 use Rattle.plat_net.specs.Places.{hop_place}
-use Rattle.router_node.specs.Finds.{IsFirst, vain_looks}
+use Rattle.node_hops.specs.Looks.{IsFirst, vain_looks}
 
 pub within_on : (xs ys zs : List (Entry Content)) → Within xs ys → Within ys zs → Within xs zs
 within_on xs ys zs a b = λ x has. b x (a x has)
@@ -27,10 +27,10 @@ vain_next p look [] i below = absurd (omega (arith, below))
 vain_next p look (x ∷ xs) zero below = refl
 vain_next p look (x ∷ xs) (suc i) below = ap (λ (l : List (ℕ × ℕ)). (hop_place p x, look) ∷ l) (vain_next p look xs i (omega (arith, below)))
 
-pub vain_more : (p : Plan) (look : ℕ) (xs : List ℕ) (i : ℕ) → i < length xs → vain_looks p look (take (i + 1) xs) ≡ vain_looks p look (take i xs) ++ (hop_place p (get_or xs i 0), look) ∷ []
+vain_more : (p : Plan) (look : ℕ) (xs : List ℕ) (i : ℕ) → i < length xs → vain_looks p look (take (i + 1) xs) ≡ vain_looks p look (take i xs) ++ (hop_place p (get_or xs i 0), look) ∷ []
 vain_more p look xs i below = subst (λ (n : ℕ). vain_looks p look (take n xs) ≡ vain_looks p look (take i xs) ++ (hop_place p (get_or xs i 0), look) ∷ []) (one_on i) (vain_next p look xs i below)
 
-pub take_all : (p : Plan) (look : ℕ) (xs : List ℕ) (i : ℕ) → (i < length xs → ⊥) → vain_looks p look (take i xs) ≡ vain_looks p look xs
+take_all : (p : Plan) (look : ℕ) (xs : List ℕ) (i : ℕ) → (i < length xs → ⊥) → vain_looks p look (take i xs) ≡ vain_looks p look xs
 take_all p look [] zero past = refl
 take_all p look [] (suc i) past = refl
 take_all p look (x ∷ xs) zero past = absurd (past (omega arith))

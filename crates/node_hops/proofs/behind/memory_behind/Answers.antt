@@ -10,7 +10,7 @@ use Rattle.route_plan.specs.Routes.{ends_of}
 use Rattle.plat_net.proofs.Forwarding.{end_there, latency_at, latency_by, memory_below}
 use Rattle.plat_net.proofs.Given.{shape_of}
 use Rattle.plat_net.proofs.Lookups.{row_at}
-use Rattle.router_node.proofs.stage.memory_behind.Goals as goal
+use Rattle.node_hops.proofs.behind.memory_behind.Goals as goal
 
 at : (g : _) (c : goal.After-index-as_slice-memory g) → slice_get (ends_of g.N.Naming.frame.world.platform) c.args.hop ≡ Some c.in-Some.field-0
 at g c = ap (λ (q : Plan). slice_get (ends_of q.platform) c.args.hop) (sym (c.plan-2.ensures.plan ∙ c.plan-2.ensures.world)) ∙ (sym c.hop_ends.ensures.ends ∙ c.in-Some.is)
