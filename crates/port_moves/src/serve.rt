@@ -6,11 +6,11 @@ ghost use Rattle.port_moves.specs.Moved.{made};
 ghost use Rattle.port_moves.specs.State.{IsHandOf, IsPort, with_note};
 
 use crate::hand::{Hand, Moved};
-use crate::places::memory_behind;
 use crate::state::PortState;
 use cargo_model::Cargo;
 use cargo_net::TlmLaw;
 use hop_object::Leg;
+use node_hops::memory_behind;
 use plat_net::{Net, PlatNote};
 use route_plan::Plan;
 use shared_object::Naming;
