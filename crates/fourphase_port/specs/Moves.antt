@@ -1,6 +1,8 @@
 -- What each move of a port does that goes on in its script. A move that isn't told here of a field leaves it.
 use Rattle.std.specs.Prelude.{ℕ, ◌≡◌, ◌≤◌, ◌+◌, ◌-◌, ◌^◌, min, Bool, true, false, List, Some, None, slice_get}
+use Rattle.one_history.specs.declared.entry.Entry.{Entry}
 use Rattle.one_history.specs.declared.view.Frame.{Frame}
+use Rattle.tlm_types.specs.declared.entry.Content.{Content}
 use Rattle.tlm_types.specs.declared.words.ObjectNo.TheVariants.{Memory}
 use Rattle.tlm_types.specs.declared.words.TxnId.{TxnId}
 use Rattle.tlm_model.specs.Plan.{Plan, Initiator, initiators_of}
@@ -24,8 +26,6 @@ use Rattle.port_moves.specs.Reach.{own_pool}
 use Rattle.port_moves.specs.State.{PortView}
 use Rattle.port_moves.specs.declared.hand.Hand.TheVariants.{Taken}
 use Rattle.port_moves.specs.Moves.{Entered, KeepsPort, LooksAt, port_read, port_taken}
-use Rattle.one_history.specs.declared.entry.Entry.{Entry}
-use Rattle.tlm_types.specs.declared.entry.Content.{Content}
 
 -- an entry of this memory for a debug read of x
 pub record IsReadOf (x : TxnId) (memory : ℕ) (e : Event) : Type 0 where

@@ -5,10 +5,9 @@ ghost use Rattle.tlm_model.specs.Plan.{Initiator, initiators_of};
 ghost use Rattle.script_engine.specs.State.{next_of};
 ghost use Rattle.port_model.specs.Ends.{IsEndOfPort};
 ghost use Rattle.port_model.specs.Stages.{count_of};
-ghost use Rattle.port_moves.specs.State.{begun_state};
 ghost use Rattle.fourphase_port.specs.Fresh.{IsFresh};
 ghost use Rattle.fourphase_port.specs.Pumps.{HasFinished, IsMoved, IsPumped, asks_for};
-ghost use Rattle.port_moves.specs.State.{IsPort, with_note};
+ghost use Rattle.port_moves.specs.State.{IsPort, begun_state, with_note};
 ghost use Rattle.fourphase_port.specs.Rest.{IsAtRest};
 ghost use Rattle.port_moves.specs.declared.hand.Pumped.TheVariants as Pumps;
 

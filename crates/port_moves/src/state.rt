@@ -153,6 +153,7 @@ impl PortState {
     }
 
     /// What is next in its script.
+    #[inline(always)]
     pub fn part(&self) -> Part
         ensures { result ≡ next_of self.now.port.engine }
     {
