@@ -4,7 +4,7 @@
 all: tlmrun
 
 tlmrun: crates.txt $(shell find crates -name '*.rt' -o -name '*.antt')
-	@echo "The first build proves each of the program's libraries: about two hours of processor time, some 37 minutes on four processors. If it is stopped, the next one goes on."
+	@echo "The first build proves each of the program's libraries: on four quiet processors 16 minutes (51 minutes of processor time), and on slow ones more than twice as long. If it is stopped, the next one goes on."
 	@tools/prove --bare tlmrun
 	@cp crates/tlmrun/out/tlmrun tlmrun
 
