@@ -182,6 +182,7 @@ impl PortState {
     }
 
     // It works on this from now on.
+    #[inline(always)]
     pub(crate) fn turn_to(&mut self, hand: Hand)
         ensures { self.new ≡ record self.old { hand = hand } }
     {
