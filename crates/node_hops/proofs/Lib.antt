@@ -1,3 +1,4 @@
 pub mod HopLists
 pub mod Latencies
 pub mod Looks
+pub mod Lists

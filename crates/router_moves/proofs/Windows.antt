@@ -37,6 +37,7 @@ use Rattle.plat_net.specs.Places.{LeadsTo}
 use Rattle.plat_net.proofs.Given.{few_passed}
 use Rattle.plat_net.proofs.Targets.{ends_stop}
 use Rattle.node_hops.specs.Traits.{accepts, is_accepting}
+use Rattle.node_hops.proofs.Lists.{row_in}
 use Rattle.router_moves.specs.Items.{way_in, way_of, way_over}
 use Rattle.router_moves.specs.Moves.{owed_above}
 use Rattle.router_moves.specs.declared.items.WayBehind.{WayBehind}
@@ -48,11 +49,6 @@ mapped_at f (y ∷ ys) zero x at = let same : y ≡ x = one y x at in ap (λ z. 
     one : {X : Type 0} (y x : X) → Some y ≡ Some x → y ≡ x
     one y x q = cc
 mapped_at f (y ∷ ys) (suc k) x at = mapped_at f ys k x at
-
-row_in : {A : Type 0} (xs : List A) (k : ℕ) → k < length xs → (x : A) × (slice_get xs k ≡ Some x)
-row_in [] k below = absurd (omega (arith, below))
-row_in (x ∷ xs) zero below = (x, refl)
-row_in (x ∷ xs) (suc k) below = row_in xs k (omega (arith, below))
 
 one_of : {X : Type 0} (y x : X) → Some y ≡ Some x → y ≡ x
 one_of y x q = cc

@@ -11,6 +11,7 @@ use Rattle.one_history.specs.declared.view.Frame.{Frame}
 use Rattle.tlm_types.specs.declared.entry.Content.{Content}
 use Rattle.tlm_model.specs.Plan.{Plan}
 use Rattle.route_plan.specs.Valid.{hop_count}
+use Rattle.node_hops.proofs.Lists.{all_by}
 use Rattle.router_node.specs.Finds.{IsFound}
 use Rattle.router_node.specs.Node.{IsRouter, IsStray, left, stage_of}
 use Rattle.router_node.specs.Stages.{IsSettled, IsStage, IsUp}
@@ -27,10 +28,6 @@ use Rattle.router_node.specs.declared.stage.Stage.{Stage}
 use Rattle.router_node.specs.declared.stage.Stage.TheVariants.{Below, Down, Sent, Up}
 use Rattle.router_node.proofs.Staged.{away_more, rest_more}
 use Rattle.router_node.proofs.Stays.{stays}
-
-pub all_by : {A : Type 0} (P Q : A → Type 0) → ((x : A) → P x → Q x) → (xs : List A) → AllByRecursion P xs → AllByRecursion Q xs
-all_by P Q f [] all = all
-all_by P Q f (x ∷ xs) all = (f x all.0, all_by P Q f xs all.1)
 
 -- one more at the end
 pub all_push : {A : Type 0} (P : A → Type 0) (xs : List A) (x : A) → AllByRecursion P xs → P x → AllByRecursion P (xs ++ x ∷ [])

@@ -55,12 +55,6 @@ pub with_none : (frame : Frame Plan) (tokens : TableId) (memory : ℕ) (known : 
 with_none frame tokens memory known at true r f = absurd f
 with_none frame tokens memory known at false r f = (refl, f.1)
 
--- the row of a memory
-pub row_in : (rows : List MemoryRow) (m : ℕ) → m < length rows → (row : MemoryRow) × (slice_get rows m ≡ Some row)
-row_in [] m below = absurd (omega (arith, below))
-row_in (row ∷ rows) zero below = (row, refl)
-row_in (row ∷ rows) (suc m) below = row_in rows m (omega (arith, below))
-
 same_hop : (a b : ℕ) → ◌≡◌ {A = ObjectNo} (Hop a) (Hop b) → a ≡ b
 same_hop a b e = cc
 

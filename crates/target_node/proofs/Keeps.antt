@@ -25,11 +25,8 @@ use Rattle.target_node.specs.declared.items.MemoryRequest.{MemoryRequest}
 use Rattle.target_node.specs.declared.items.MemoryResponse.{MemoryResponse}
 use Rattle.target_node.specs.declared.node.TargetNode.{TargetNode}
 use Rattle.node_hops.proofs.Latencies.{latency_to}
+use Rattle.node_hops.proofs.Lists.{all_by}
 use Rattle.target_node.proofs.Served.{finds_more, known_more, leg_more}
-
-pub all_by : {A : Type 0} (P Q : A → Type 0) → ((x : A) → P x → Q x) → (xs : List A) → AllByRecursion P xs → AllByRecursion Q xs
-all_by P Q f [] all = all
-all_by P Q f (x ∷ xs) all = (f x all.0, all_by P Q f xs all.1)
 
 -- one more is put in
 pub all_insert : {A : Type 0} (P : A → Type 0) (xs : List A) (k : ℕ) (x : A) → P x → AllByRecursion P xs → AllByRecursion P (insert xs k x)
