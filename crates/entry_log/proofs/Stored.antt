@@ -15,7 +15,7 @@ use Rattle.tlm_types.specs.declared.words.Command.{Command}
 use Rattle.tlm_types.specs.declared.words.Way.{Way}
 use Rattle.tlm_types.specs.declared.words.Command.TheVariants.{Read, Write, Ignore, FetchAdd}
 use Rattle.tlm_types.specs.Entries.{access_by, entry_at, kept_of, kept_sent, plain_of, read_at, sent_by}
-use Rattle.entry_log.specs.LogItem.{what_in, item_entry, entries_of, item_for, plain_in, stored_at, IsKept, IsLast}
+use Rattle.entry_log.specs.LogItem.{what_in, item_entry, entries_of, item_for, plain_in, stored_at, HasParts, IsKept, IsLast}
 
 -- a part of the bytes is the same after more were appended
 pub slice_range-append : (xs ys : List ℕ) (i j : ℕ) → i ≤ j → j ≤ length xs → slice_range (xs ++ ys) i j ≡ slice_range xs i j
@@ -82,6 +82,20 @@ kept-access m n sent enables got items head f s kept last all =
     let end = last.end in
     let before : All (λ i. IsKept n i.start i.event) items = λ k d below. IsKept-more m n (get_or items k d).start (get_or items k d).event (omega arith) (kept k d below) in
     All-push (λ i. IsKept n i.start i.event) items (item_for head s.start (Access (stored_at f s))) before (omega arith, omega arith, omega arith, omega arith)
+
+-- the entries after an access whose bytes stood there already
+pub entries_of-again : (bytes sent enables got : List ℕ) (items : List LongItem) (head : Head) (f : Facts) (s : Span) → HasParts bytes sent enables got s → entries_of bytes (items ++ item_for head s.start (Access (stored_at f s)) ∷ []) ≡ entries_of bytes items ++ entry_at head (access_by f sent enables got) ∷ []
+entries_of-again bytes sent enables got items head f s parts =
+    let split = map-append (item_entry bytes) items (item_for head s.start (Access (stored_at f s)) ∷ []) in
+    rw (split, parts.sent_is, parts.enables_is, parts.got_is) refl
+
+-- the items after it
+pub kept-again : (bytes sent enables got : List ℕ) (items : List LongItem) (head : Head) (f : Facts) (s : Span) → All (λ i. IsKept (length bytes) i.start i.event) items → HasParts bytes sent enables got s → All (λ i. IsKept (length bytes) i.start i.event) (items ++ item_for head s.start (Access (stored_at f s)) ∷ [])
+kept-again bytes sent enables got items head f s kept parts =
+    let enables_start = parts.placed.enables_start in
+    let got_start = parts.placed.got_start in
+    let end = parts.placed.end in
+    All-push (λ i. IsKept (length bytes) i.start i.event) items (item_for head s.start (Access (stored_at f s))) kept (omega arith, omega arith, omega arith, parts.within)
 
 kept_sent-sent_by : (command : Command) (way : Way) (n : ℕ) (sent : List ℕ) → (command ≡ Read → sent ≡ []) → kept_sent command (sent_by command way n sent) ≡ sent
 kept_sent-sent_by Read way n sent none = sym (none refl)

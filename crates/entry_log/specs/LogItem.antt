@@ -113,6 +113,14 @@ pub record IsLast (n sent enables got : ℕ) (s : Span) : Type 0 where
   pub got_start : s.got_start ≡ s.enables_start + enables
   pub end : s.end ≡ s.got_start + got
 
+-- these parts of an access stand there among the bytes, one after another
+pub record HasParts (bytes sent enables got : List ℕ) (s : Span) : Type 0 where
+  pub placed : IsLast s.start (length sent) (length enables) (length got) s
+  pub within : s.end ≤ length bytes
+  pub sent_is : slice_range bytes s.start s.enables_start ≡ sent
+  pub enables_is : slice_range bytes s.enables_start s.got_start ≡ enables
+  pub got_is : slice_range bytes s.got_start s.end ≡ got
+
 -- where the n bytes of an access stand that are its data alone: a read got them, and any other command sent them
 abbrev pub short_span : Command → ℕ → ℕ → Span
 short_span Read start n = record { start = start; enables_start = start; got_start = start; end = start + n }

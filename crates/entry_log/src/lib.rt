@@ -2,7 +2,8 @@
 //!
 //! - `Log` is a list of entries, with the room that was made for them. The bytes of all its accesses stand in one list,
 //!   and most entries take 32 bytes more; those with large numbers, byte enables or a status other than OK stand in a
-//!   second list, in a long form.
+//!   second list, in a long form. A log with room for 64 KiB of bytes keeps equal bytes of large accesses once, where it
+//!   finds them.
 //! - `LoggedAccess` is an access that was read from it: its head, its plain parts, and the bytes that it sent, enabled
 //!   and got.
 //!

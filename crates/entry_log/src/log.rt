@@ -1,6 +1,6 @@
 // The log of an object: its entries in order, kept without a list of bytes for each.
-ghost use Rattle.std.specs.Prelude.{◌≡◌, ◌≢◌, ◌+◌, ◌^◌, ◌<◌, ◌≤◌, [], ◌++◌, length, false, All, Some, IsOk, IsSome, IsSomeAnd, IfSome, IfOk, IfErr, OnOk, OnErr, IsTrue, ◌↔◌, slice_get, option_map, vec_len, vec_capacity};
-ghost use Rattle.entry_log.specs.LogItem.{IsLast};
+ghost use Rattle.std.specs.Prelude.{◌≡◌, ◌≢◌, ◌+◌, ◌^◌, ◌<◌, ◌≤◌, [], ◌++◌, length, false, true, All, Ok, Some, IsOk, IsSome, IsSomeAnd, IfSome, IfOk, IfErr, OnOk, OnErr, IsTrue, ◌↔◌, slice_get, slice_range, option_map, vec_len, vec_capacity};
+ghost use Rattle.entry_log.specs.LogItem.{HasParts, IsLast};
 ghost use Rattle.tlm_types.specs.Entries.{access_by, enables_of, entry_at, facts_of, got_of, head_of, is_access, plain_of, read_at, read_sends, sent_of};
 ghost use Rattle.entry_log.specs.Log.{with_entry};
 ghost use Rattle.tlm_types.specs.declared.words.Command.TheVariants.{Read};
@@ -13,7 +13,7 @@ use items::Items;
 use long::{Span, plain_event};
 use std::alloc::Global;
 use std::marker::Model;
-use tlm_types::{Facts, Head, Memory, What};
+use tlm_types::{Facts, Head, Memory, TxnId, What};
 
 /// An access of a log, with its bytes. What a read sent isn't kept, so of a read `sent` says nothing.
 #[derive(Clone, Copy)]
@@ -27,10 +27,12 @@ pub struct LoggedAccess<'a> {
 
 /// The log of an object: its entries in order. Contracts see the list of them, with the room that was
 /// made for entries and for the bytes of accesses. A log holds less than 4 GiB of bytes: more is
-/// refused as want of memory is.
+/// refused as want of memory is. A large access whose bytes stand there already refers to those.
 pub struct Log {
     items: Items,
     bytes: Vec<u8>,
+    // Where the bytes of large accesses begin, each at a place that follows from a few of them.
+    starts: Vec<u32>,
     room_bytes: u64,
 }
 
@@ -40,6 +42,7 @@ impl Drop for Log {
         let Log {
             items: _items,
             bytes: _bytes,
+            starts: _starts,
             room_bytes: _,
         } = self;
     }
@@ -72,9 +75,11 @@ impl Log {
         }
         let items = Items::with_room(alloc, entries)?;
         let stored = Vec::with_capacity(alloc, bytes as usize)?;
+        let starts = no_starts(alloc, bytes)?;
         Ok(Log {
             items,
             bytes: stored,
+            starts,
             room_bytes: bytes,
         })
     }
@@ -140,6 +145,86 @@ impl Log {
         ensures roomy { length self.old.entries < self.old.room →
             length sent.now + length enables.now + length got.now ≤ self.old.room_bytes → IsOk result }
     {
+        if facts.length >= LARGE {
+            return self.push_large(copied_head(&head), copied_facts(&facts), sent, enables, got);
+        }
+        self.push_new(head, facts, sent, enables, got)
+    }
+
+    // Appends a large access. Where its bytes stand already it refers to those: to write to memory for the
+    // first time takes as long as all the rest.
+    #[inline(never)]
+    fn push_large(
+        &mut self,
+        head: Head,
+        facts: Facts,
+        sent: &[u8],
+        enables: &[u8],
+        got: &[u8],
+    ) -> Result<(), Memory>
+        requires { facts.command ≡ Read → sent.now ≡ [] }
+        ensures ok { OnOk result (self.new ≡ with_entry self.old
+            (entry_at head (access_by facts sent.now enables.now got.now))) }
+        ensures err { OnErr result (self.new ≡ self.old) }
+        ensures roomy { length self.old.entries < self.old.room →
+            length sent.now + length enables.now + length got.now ≤ self.old.room_bytes → IsOk result }
+    {
+        let place = place_of(facts.offset, sent, enables, got);
+        if self.push_again(place, head, facts, sent, enables, got)? {
+            return Ok(());
+        }
+        let start = self.bytes.len() as u32;
+        self.push_new(head, facts, sent, enables, got)?;
+        self.note(place, start);
+        Ok(())
+    }
+
+    // Appends an access whose bytes stand where this place says, and answers whether they do.
+    fn push_again(
+        &mut self,
+        place: usize,
+        head: Head,
+        facts: Facts,
+        sent: &[u8],
+        enables: &[u8],
+        got: &[u8],
+    ) -> Result<bool, Memory>
+        requires { facts.command ≡ Read → sent.now ≡ [] }
+        ensures again { result ≡ Ok true → self.new ≡ with_entry self.old
+            (entry_at head (access_by facts sent.now enables.now got.now)) }
+        ensures not { result ≡ Ok false → self.new ≡ self.old }
+        ensures err { OnErr result (self.new ≡ self.old) }
+        ensures roomy { length self.old.entries < self.old.room → IsOk result }
+    {
+        let Some(start) = self.starts.get(place) else {
+            return Ok(false);
+        };
+        let Some(span) = span_from(&self.bytes, *start, sent, enables, got) else {
+            return Ok(false);
+        };
+        self.items.push_access(head, facts, span)?;
+        let count = (span.end - span.start) as u64;
+        self.room_bytes = self.room_bytes.saturating_sub(count);
+        Ok(true)
+    }
+
+    // Appends an access with its bytes.
+    #[inline(always)]
+    fn push_new(
+        &mut self,
+        head: Head,
+        facts: Facts,
+        sent: &[u8],
+        enables: &[u8],
+        got: &[u8],
+    ) -> Result<(), Memory>
+        requires { facts.command ≡ Read → sent.now ≡ [] }
+        ensures ok { OnOk result (self.new ≡ with_entry self.old
+            (entry_at head (access_by facts sent.now enables.now got.now))) }
+        ensures err { OnErr result (self.new ≡ self.old) }
+        ensures roomy { length self.old.entries < self.old.room →
+            length sent.now + length enables.now + length got.now ≤ self.old.room_bytes → IsOk result }
+    {
         let span = span_after(self.bytes.len(), sent.len(), enables.len(), got.len())?;
         let count = (span.end - span.start) as usize;
         reserve_beyond(&mut self.bytes, self.room_bytes, count)?;
@@ -147,6 +232,15 @@ impl Log {
         append(&mut self.bytes, sent, enables, got);
         self.room_bytes = self.room_bytes.saturating_sub(count as u64);
         Ok(())
+    }
+
+    // Notes that bytes of this place begin there.
+    fn note(&mut self, place: usize, start: u32)
+        ensures { self.new ≡ self.old }
+    {
+        if place < self.starts.len() {
+            self.starts[place] = start;
+        }
     }
 
     /// An entry without what happened.
@@ -235,6 +329,103 @@ impl Log {
 
 // How many bytes of accesses a log holds at most.
 const BYTES_MAX: u64 = 0xffff_ffff;
+
+// An access of so many bytes is a large one.
+const LARGE: u64 = 512;
+
+// Large accesses are handed on as copies, field by field: so what small ones come with stays in registers.
+#[inline(always)]
+fn copied_head(head: &Head) -> Head
+    ensures { result ≡ head.now }
+{
+    Head {
+        position: head.position,
+        object: head.object,
+        txn: TxnId {
+            initiator: head.txn.initiator,
+            seq: head.txn.seq,
+        },
+        time: head.time,
+    }
+}
+
+#[inline(always)]
+fn copied_facts(facts: &Facts) -> Facts
+    ensures { result ≡ facts.now }
+{
+    Facts {
+        way: facts.way,
+        command: facts.command,
+        offset: facts.offset,
+        length: facts.length,
+        width: facts.width,
+        status: facts.status,
+    }
+}
+
+// A log with room for so many bytes notes where those of large accesses begin.
+const NOTED_MIN: u64 = 0x1_0000;
+
+// At how many places.
+const SLOTS: usize = 1024;
+
+// An odd number by which the upper bits of a product depend on all bits of the other factor.
+const MIX: u64 = 0x9e37_79b9_7f4a_7c15;
+
+// What a new log with room for so many bytes has noted: nothing, for which any place will do, since an
+// access looks whether its bytes stand there.
+fn no_starts(alloc: Global, room: u64) -> Result<Vec<u32>, Memory> {
+    let places = if room < NOTED_MIN { 0 } else { SLOTS };
+    Ok(vec![in alloc; 0u32; places]?)
+}
+
+// The place at which it is noted where these bytes begin. It depends on a few of them alone, and not on
+// which part they are: what was written at an offset and is read then has the same place.
+fn place_of(offset: u64, sent: &[u8], enables: &[u8], got: &[u8]) -> usize {
+    let few = few_of(sent)
+        .wrapping_add(few_of(enables))
+        .wrapping_add(few_of(got));
+    let mixed = offset.wrapping_add(few).wrapping_mul(MIX);
+    (mixed >> 48) as usize % SLOTS
+}
+
+// The first, the middle and the last byte, with how many there are: most parts that differ have another
+// number.
+fn few_of(part: &[u8]) -> u64 {
+    let Some(last) = part.len().checked_sub(1) else {
+        return 0;
+    };
+    let first = part[0] as u64;
+    let middle = (part[last / 2] as u64) << 8;
+    let end = (part[last] as u64) << 16;
+    first | middle | end | (last as u64) << 24
+}
+
+// Where these bytes of an access stand, if they do from `start` on.
+fn span_from(bytes: &[u8], start: u32, sent: &[u8], enables: &[u8], got: &[u8]) -> Option<Span>
+    ensures { IfSome result (HasParts bytes.now sent.now enables.now got.now) }
+{
+    let span = span_after(start as usize, sent.len(), enables.len(), got.len()).ok()?;
+    if span.end as usize > bytes.len() {
+        return None;
+    }
+    if !is_part(bytes, span.start, span.enables_start, sent)
+        || !is_part(bytes, span.enables_start, span.got_start, enables)
+        || !is_part(bytes, span.got_start, span.end, got)
+    {
+        return None;
+    }
+    Some(span)
+}
+
+// Between these places stand just these bytes.
+fn is_part(bytes: &[u8], from: u32, to: u32, part: &[u8]) -> bool
+    requires ordered { from ≤ to }
+    requires within { to ≤ length bytes.now }
+    ensures { IsTrue result → slice_range bytes.now from to ≡ part.now }
+{
+    &bytes[from as usize..to as usize] == part
+}
 
 // Where the bytes of an access stand that come after so many. Its only error is that they are too many.
 #[inline(always)]

@@ -160,3 +160,66 @@ fn a_log_reads_back_what_was_pushed(rt: HostRuntime) {
     assert!(rt; is_the_write(&log));
     assert!(rt; is_the_call(&log));
 }
+
+const BLOCK: &[u8] = &[7; 512];
+
+const NINES: &[u8] = &[9; 512];
+
+const BLOCK_WRITE: Facts = Facts {
+    way: Way::Blocking,
+    command: Command::Write,
+    offset: 0x10,
+    length: 512,
+    width: 512,
+    status: Response::Ok,
+};
+
+const BLOCK_READ: Facts = Facts {
+    way: Way::Blocking,
+    command: Command::Read,
+    offset: 0x10,
+    length: 512,
+    width: 512,
+    status: Response::Ok,
+};
+
+// The entry's data: what a read got, and what any other access sent.
+fn has_data(log: &Log, index: u64, data: &[u8]) -> bool {
+    if index >= log.len() {
+        return false;
+    }
+    match log.access(index) {
+        Some(
+            LoggedAccess {
+                facts,
+                sent,
+                enables,
+                got,
+                ..
+            },
+        ) => {
+            let found = if facts.command == Command::Read {
+                got
+            } else {
+                sent
+            };
+            found == data && enables.is_empty()
+        }
+        None => false,
+    }
+}
+
+#[test]
+fn a_log_reads_back_blocks_that_it_keeps_once(rt: HostRuntime) {
+    let mut log = Log::with_room(rt.alloc(), 4, 65_536).expect(&rt, "memory");
+    // It differs from the block in its second byte alone.
+    let mut like = [7u8; 512];
+    like[1] = 0;
+    let first = log.push_access(WRITE_HEAD, BLOCK_WRITE, BLOCK, &[], &[]);
+    let second = log.push_access(WRITE_HEAD, BLOCK_WRITE, &like, &[], &[]);
+    let between = log.push_access(WRITE_HEAD, BLOCK_WRITE, NINES, &[], &[]);
+    let again = log.push_access(WRITE_HEAD, BLOCK_READ, &[], &[], &like);
+    assert!(rt; first.is_ok() && second.is_ok() && between.is_ok() && again.is_ok());
+    assert!(rt; has_data(&log, 0, BLOCK) && has_data(&log, 1, &like));
+    assert!(rt; has_data(&log, 2, NINES) && has_data(&log, 3, &like));
+}

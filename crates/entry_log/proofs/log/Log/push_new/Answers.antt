@@ -2,7 +2,7 @@ use Rattle.std.proofs.Common.{arith, ℕ, ◌≡◌, ◌+◌, ◌-◌, ◌++◌,
 use Rattle.entry_log.specs.LogItem.{IsLast, stored_at}
 use Rattle.entry_log.specs.declared.log.long.Event.TheVariants.{Access}
 use Rattle.entry_log.proofs.Stored.{entries_of-access, kept-access, kept_of-access_by, timed-more}
-use Rattle.entry_log.proofs.log.Log.push_access.Goals as goal
+use Rattle.entry_log.proofs.log.Log.push_new.Goals as goal
 
 pub returns-clause-ok : goal.returns-clause-ok
 returns-clause-ok c =
