@@ -134,6 +134,10 @@ pub record IsNext (p : Platform) (n : ℕ) (kind : ℕ → ObjectNo) (s : Number
   pub number : s.number ≡ n
   pub at : HasObject p s.number (kind s.own)
 
+-- so there is room for what it leaves
+pub next_fits : (p : Platform) (n : ℕ) (kind : ℕ → ObjectNo) (s : Numbers) → IsNext p n kind s → n < length (objects_of p)
+next_fits p n kind s next = subst (λ (k : ℕ). k < length (objects_of p)) next.number (short_at (objects_of p) s.number (kind s.own) next.at)
+
 pub next_memory : (p : Plan) (memories : List Numbers) (m : ℕ) (s : Numbers) → AreMemories p memories → get_elem? memories m ≡ some s → IsNext p.platform m Memory s × (s ≡ memory_numbers s.own)
 next_memory p memories m s are at =
     let is : s ≡ memory_numbers m = are.each m s at in

@@ -1,4 +1,5 @@
 pub mod Apart
+pub mod Room
 pub mod Taking
 pub mod Entries
 pub mod Run

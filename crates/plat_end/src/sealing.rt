@@ -1,5 +1,5 @@
 // The outcome of what is left.
-ghost use Rattle.std.specs.Prelude.{◌≡◌, IfOk};
+ghost use Rattle.std.specs.Prelude.{◌≡◌};
 ghost use Rattle.plat_net.specs.Objects.{frame_of};
 ghost use Rattle.route_plan.specs.Valid.{IsValid};
 ghost use Rattle.run_outcome.specs.Outcome.{IsWhole};
@@ -14,27 +14,26 @@ use route_plan::Plan;
 use run_outcome::{MergedLog, Outcome};
 use shared_object::Naming;
 use tlm_model::Rows;
-use tlm_types::{Content, EndOf, Memory};
+use tlm_types::{Content, EndOf};
 
 /// The history of a run that has ended.
 pub type PlatSealed = Sealed<Content, Plan, TlmLaw>;
 
-/// Seals the history, and makes the outcome of what the initiators and the objects have left. Its only error is
-/// want of memory.
+/// Seals the history, and makes the outcome of what the initiators and the objects have left. It takes no memory.
 pub fn seal<N: Naming<Plan, TlmLaw>>(
     history: PlatHistory,
     ends: Vec<EndOf>,
     notes: Vec<PlatNote>,
     apart: Apart,
-) -> Result<(Outcome, PlatSealed), Memory>
+) -> (Outcome, PlatSealed)
     requires history { (history.table ≡ N.table) × (history.frame ≡ N.frame) }
     requires frame { N.frame ≡ frame_of N.frame.world }
     requires valid { IsValid N.frame.world }
     requires left { HaveAllLeft N.table N.tokens N.frame ends.items notes.items apart.logs.items apart.stores.items apart.seats.items }
-    ensures whole { IfOk result (λ r. IsWhole N.frame.world r.0) }
-    ensures core { IfOk result (λ r. IsCoreRun N.frame.world r.0.history.entries) }
-    ensures sealed { IfOk result (λ r. entries_read N.frame.world.platform r.1.entries ≡ r.0.history.entries) }
-    ensures world { IfOk result (λ r. (r.1.table ≡ N.table) × (r.1.world ≡ N.frame.world)) }
+    ensures whole { IsWhole N.frame.world result.0 }
+    ensures core { IsCoreRun N.frame.world result.0.history.entries }
+    ensures sealed { entries_read N.frame.world.platform result.1.entries ≡ result.0.history.entries }
+    ensures world { (result.1.table ≡ N.table) × (result.1.world ≡ N.frame.world) }
 {
     let Apart {
         logs,
@@ -50,5 +49,5 @@ pub fn seal<N: Naming<Plan, TlmLaw>>(
         ends: Rows::from_vec(ends),
         complete: true,
     };
-    Ok((outcome, sealed))
+    (outcome, sealed)
 }

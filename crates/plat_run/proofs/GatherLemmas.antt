@@ -58,6 +58,16 @@ finished_more table tokens p n ends wallets notes end wallet note are is = recor
       (at_push ends end k l at_end_k);
 }
 
+pub finished_next : (table tokens : TableId) (p : Plan) (n m : ℕ) (ends more_ends : List EndOf) (wallets more_wallets : List Purse) (notes more_notes : List (Held Content Plan)) (end : EndOf) (wallet : Purse) (note : Held Content Plan)
+    → m ≡ n + 1 → more_ends ≡ ends ++ end ∷ [] → more_wallets ≡ wallets ++ wallet ∷ [] → more_notes ≡ notes ++ note ∷ []
+    → AreFinished table tokens p n ends wallets notes → IsFinished table tokens p n end note wallet → AreFinished table tokens p m more_ends more_wallets more_notes
+finished_next table tokens p n m ends more_ends wallets more_wallets notes more_notes end wallet note one ends_are wallets_are notes_are are is =
+    subst (λ (k : ℕ). AreFinished table tokens p k more_ends more_wallets more_notes) (sym one)
+    (subst (λ (l : List EndOf). AreFinished table tokens p (n + 1) l more_wallets more_notes) (sym ends_are)
+    (subst (λ (l : List Purse). AreFinished table tokens p (n + 1) (ends ++ end ∷ []) l more_notes) (sym wallets_are)
+    (subst (λ (l : List (Held Content Plan)). AreFinished table tokens p (n + 1) (ends ++ end ∷ []) (wallets ++ wallet ∷ []) l) (sym notes_are)
+    (finished_more table tokens p n ends wallets notes end wallet note are is))))
+
 -- where as many pass as there are, all pass
 pub all_pass : {A : Type 0} (test : A → Bool) (xs : List A) → length xs ≤ count_by test xs → All (λ x. test x ≡ true) xs
 all_pass test [] many = λ i d below. absurd (omega arith)

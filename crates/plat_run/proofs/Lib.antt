@@ -3,3 +3,4 @@ pub mod SealLemmas
 pub mod BeginLemmas
 pub mod PortLemmas
 pub mod NodeLemmas
+pub mod RoomLemmas

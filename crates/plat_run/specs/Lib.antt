@@ -3,3 +3,4 @@ pub mod Ports
 pub mod Nodes
 pub mod Actors
 pub mod Turn
+pub mod HandedIn

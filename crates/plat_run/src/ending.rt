@@ -1,11 +1,15 @@
-// What is gathered once all jobs have finished.
+// What is gathered once all jobs have finished, and the room for it, which is made before the first turn.
 ghost use Rattle.std.specs.Prelude.{◌≡◌, true, All, length, IfOk};
 ghost use Rattle.run_queue.specs.Queue.{AreNumbered};
+ghost use Rattle.cargo_model.specs.Known.{objects_of};
 ghost use Rattle.plat_run.specs.Actors.{is_done, number_of};
+ghost use Rattle.plat_run.specs.HandedIn.{AwaitsAll};
 ghost use Rattle.plat_end.specs.End.{AreFinished};
+ghost use Rattle.plat_end.specs.Room.{HasRoom};
 
 use crate::actor::Actor;
-use plat_net::{PlatNote, TlmLaw};
+use plat_end::Apart;
+use plat_net::{Net, PlatNote, TlmLaw};
 use route_plan::Plan;
 use shared_object::Naming;
 use std::alloc::Global;
@@ -20,27 +24,58 @@ pub(crate) struct HandedIn {
     pub notes: Vec<PlatNote>,
 }
 
-/// What all jobs leave, which have finished and stand in order. Its only error is want of memory.
-pub(crate) fn hand_in<N: Naming<Plan, TlmLaw>>(
-    alloc: Global,
-    jobs: Vec<Actor<N>>,
-) -> Result<HandedIn, Memory>
+impl HandedIn {
+    /// Nothing yet, with room for what so many initiators leave. Its only error is want of memory.
+    pub(crate) fn with_room(alloc: Global, count: u32) -> Result<HandedIn, Memory>
+        ensures { IfOk result (AwaitsAll count) }
+    {
+        let count = count as usize;
+        let ends = Vec::with_capacity(alloc, count)?;
+        let wallets = Vec::with_capacity(alloc, count)?;
+        let notes = Vec::with_capacity(alloc, count)?;
+        Ok(HandedIn {
+            ends,
+            wallets,
+            notes,
+        })
+    }
+}
+
+/// What all jobs leave, which have finished and stand in order. It is put where room was made for it.
+pub(crate) fn hand_in<N: Naming<Plan, TlmLaw>>(jobs: Vec<Actor<N>>, handed: HandedIn) -> HandedIn
     requires numbered { AreNumbered number_of jobs.items }
     requires done { All (λ job. is_done job ≡ true) jobs.items }
-    ensures { IfOk result (λ h. AreFinished N.table N.tokens N.frame.world (length jobs.items) h.ends.items h.wallets.items h.notes.items) }
+    requires room { AwaitsAll (length jobs.items) handed }
+    ensures { AreFinished N.table N.tokens N.frame.world (length jobs.items) result.ends.items result.wallets.items result.notes.items }
 {
-    let mut ends = Vec::new(alloc);
-    let mut wallets = Vec::new(alloc);
-    let mut notes = Vec::new(alloc);
+    let HandedIn {
+        mut ends,
+        mut wallets,
+        mut notes,
+    } = handed;
     for job in jobs {
         let (end, wallet, note) = job.finish();
-        ends.push(end)?;
-        wallets.push(wallet)?;
-        notes.push(note)?;
+        ends.push_reserved(end);
+        wallets.push_reserved(wallet);
+        notes.push_reserved(note);
     }
-    Ok(HandedIn {
+    HandedIn {
         ends,
         wallets,
         notes,
-    })
+    }
+}
+
+// A platform has at most so many memories, hops and pools.
+const MOST_OBJECTS: usize = 336;
+
+/// Room for what all objects of a net leave. Its only error is want of memory.
+pub(crate) fn room_for<N: Naming<Plan, TlmLaw>>(
+    alloc: Global,
+    net: &Net<N>,
+) -> Result<Apart, Memory>
+    ensures { IfOk result (HasRoom (length (objects_of N.frame.world.platform)) (length N.frame.world.platform.memories)) }
+{
+    let memories = net.plan().platform().memories.as_slice().len();
+    Apart::with_room(alloc, MOST_OBJECTS, memories)
 }

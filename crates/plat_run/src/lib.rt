@@ -13,7 +13,8 @@
 //!
 //! Promises: whatever the threads do in which order, the history is good for the plan, it is the sealed
 //! one, and the stores and ends are those of the definitions. The jobs stand in the order of their numbers, initiators
-//! first; what an initiator leaves that has finished says that its script is done. Workers take no memory.
+//! first; what an initiator leaves that has finished says that its script is done. A run takes no memory after its first
+//! worker has started, but what the system takes for a thread: the room for what is left at its end is made before.
 #![tactic(auto)]
 
 mod actor;

@@ -1,21 +1,23 @@
 // The run of a net.
 ghost use Rattle.std.specs.Prelude.{◌≡◌, ◌≤◌, true, length, All, IfOk, count_by};
 ghost use Rattle.run_queue.specs.Queue.{AreNumbered};
+ghost use Rattle.cargo_model.specs.Known.{objects_of};
 ghost use Rattle.plat_build.specs.Kept.{all_waiting};
 ghost use Rattle.plat_net.specs.Objects.{frame_of};
 ghost use Rattle.run_outcome.specs.Outcome.{IsWhole};
 ghost use Rattle.plat_run.specs.Actors.{is_done, number_of};
 ghost use Rattle.plat_end.specs.End.{AreFinished};
 ghost use Rattle.plat_end.specs.Entries.{entries_read};
+ghost use Rattle.plat_end.specs.Room.{HasRoom};
 ghost use Rattle.plat_end.specs.Run.{IsCoreRun};
 
 use crate::actor::Actor;
 use crate::begin::begin_jobs;
-use crate::ending::{HandedIn, hand_in};
+use crate::ending::{HandedIn, hand_in, room_for};
 use crate::workers::{work_all, work_alone};
 use outside::Pace;
 use plat_build::{Built, Kept, Opened, build};
-use plat_end::{PlatSealed, seal, take_apart};
+use plat_end::{Apart, PlatSealed, seal, take_apart};
 use plat_net::{Net, NetParts, TlmLaw};
 use route_plan::Plan;
 use run_outcome::Outcome;
@@ -30,7 +32,7 @@ use tlm_types::Memory;
 
 /// Runs the initiators of a net that was just built by so many workers, 1 to 16, until all have finished. Each access and each debug read is told to the pace before it is made, while no lock is
 /// held. The history is good for the plan whatever the workers do in which order, and it is sealed. Its
-/// only error is want of memory, before the first worker starts or after the last one has ended.
+/// only error is want of memory, before the first worker starts.
 pub fn run<N: Naming<Plan, TlmLaw> + Send + Sync, P: Pace + Sync, R: Threads + Wait + Sync>(
     rt: &R,
     alloc: Global,
@@ -46,12 +48,13 @@ pub fn run<N: Naming<Plan, TlmLaw> + Send + Sync, P: Pace + Sync, R: Threads + W
     ensures world { IfOk result (λ r. (r.1.table ≡ N.table) × (r.1.world ≡ built.net)) }
 {
     let Built { mut net, mut kept } = built;
+    let apart = room_for(alloc, &net)?;
     let handed = finish_all(rt, alloc, &mut net, &mut kept, workers, pace)?;
-    end_run(rt, alloc, net, handed)
+    Ok(end_run(rt, net, handed, apart))
 }
 
 // Gives turns to the jobs of a net that was just built by so many workers, until all initiators have finished, and gathers what
-// these leave. Its only error is want of memory.
+// these leave. Its only error is want of memory, before the first turn.
 fn finish_all<N: Naming<Plan, TlmLaw> + Send + Sync, P: Pace + Sync, R: Threads + Wait + Sync>(
     rt: &R,
     alloc: Global,
@@ -65,23 +68,26 @@ fn finish_all<N: Naming<Plan, TlmLaw> + Send + Sync, P: Pace + Sync, R: Threads 
 {
     let jobs = begin_jobs(alloc, net, kept)?;
     let count = net.plan().platform().initiators.as_slice().len() as u32;
+    let handed = HandedIn::with_room(alloc, count)?;
     let board = begin_board(rt, alloc, &jobs, count)?;
     let jobs = finish_jobs(rt, alloc, net, &board, pace, jobs, count, workers)?;
-    hand_in(alloc, jobs)
+    Ok(hand_in(jobs, handed))
 }
 
-// Takes the net apart whose initiators have left this, and makes the outcome of it. Its only error is want of memory.
+// Takes the net apart whose initiators have left this, and makes the outcome of it. There is room for what its objects
+// leave, so it takes no memory.
 fn end_run<N: Naming<Plan, TlmLaw>, R: Wait>(
     rt: &R,
-    alloc: Global,
     net: Net<N>,
     handed: HandedIn,
-) -> Result<(Outcome, PlatSealed), Memory>
-    requires { AreFinished N.table N.tokens N.frame.world (length N.frame.world.platform.initiators) handed.ends.items handed.wallets.items handed.notes.items }
-    ensures whole { IfOk result (λ r. IsWhole N.frame.world r.0) }
-    ensures core { IfOk result (λ r. IsCoreRun N.frame.world r.0.history.entries) }
-    ensures sealed { IfOk result (λ r. entries_read N.frame.world.platform r.1.entries ≡ r.0.history.entries) }
-    ensures world { IfOk result (λ r. (r.1.table ≡ N.table) × (r.1.world ≡ N.frame.world)) }
+    apart: Apart,
+) -> (Outcome, PlatSealed)
+    requires finished { AreFinished N.table N.tokens N.frame.world (length N.frame.world.platform.initiators) handed.ends.items handed.wallets.items handed.notes.items }
+    requires apart { HasRoom (length (objects_of N.frame.world.platform)) (length N.frame.world.platform.memories) apart }
+    ensures whole { IsWhole N.frame.world result.0 }
+    ensures core { IsCoreRun N.frame.world result.0.history.entries }
+    ensures sealed { entries_read N.frame.world.platform result.1.entries ≡ result.0.history.entries }
+    ensures world { (result.1.table ≡ N.table) × (result.1.world ≡ N.frame.world) }
 {
     let _ = net.plan().platform();
     let HandedIn {
@@ -96,7 +102,7 @@ fn end_run<N: Naming<Plan, TlmLaw>, R: Wait>(
         hops,
         pools,
     } = net.into_parts();
-    let apart = take_apart(rt, alloc, &tickets, memories, hops, pools, &mut wallets)?;
+    let apart = take_apart(rt, &tickets, memories, hops, pools, &mut wallets, apart);
     seal::<N>(history, ends, notes, apart)
 }
 
@@ -188,8 +194,7 @@ fn dismiss_nodes<N: Naming<Plan, TlmLaw>>(mut jobs: Vec<Actor<N>>, count: u32) -
     jobs
 }
 
-/// Builds the net of a plan, and runs it. Its only error is want of memory, before the first worker starts
-/// or after the last one has ended.
+/// Builds the net of a plan, and runs it. Its only error is want of memory, before the first worker starts.
 pub fn run_plan<P: Pace + Sync, R: Threads + Wait + Sync>(
     rt: &R,
     alloc: Global,

@@ -1,6 +1,8 @@
 use Rattle.std.proofs.Common.{◌≡◌, ◌++◌, length}
 use Rattle.std.specs.Prelude.{All}
 use Rattle.token_book.specs.Purse.{IsOf}
+use Rattle.cargo_model.specs.Known.{objects_of}
+use Rattle.plat_end.specs.Room.{Fits}
 use Rattle.plat_end.specs.Taking.{IsTaken}
 use Rattle.plat_end.proofs.TakenLemmas.{HaveStores}
 use Rattle.plat_end.proofs.apart.take_memories.Given as goal
@@ -12,4 +14,5 @@ invariant-loop-memory g l = record {
   taken : IsTaken g.N.Naming.table g.N.Naming.frame l.fn.wallets l.wallets l.apart.logs.items l.apart.seats.items;
   count : length l.apart.seats.items ≡ length l.yielded;
   stores : HaveStores g.N.Naming.frame.world.platform l.apart.logs.items l.apart.stores.items;
+  room : Fits (length (objects_of g.N.Naming.frame.world.platform)) (length g.N.Naming.frame.world.platform.memories) l.apart;
 }

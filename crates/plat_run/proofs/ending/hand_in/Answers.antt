@@ -1,4 +1,4 @@
-use Rattle.std.proofs.Common.{◌≡◌, ℕ, ◌+◌, ◌++◌, [], ◌∷◌, List, length, true, sym, subst, length-append}
+use Rattle.std.proofs.Common.{◌≡◌, ℕ, [], ◌∷◌, length, true, subst, arith, length-append}
 use Rattle.one_history.specs.Held.{Held}
 use Rattle.token_book.specs.Purse.{Purse}
 use Rattle.tlm_types.specs.declared.ends.EndOf.{EndOf}
@@ -7,8 +7,7 @@ use Rattle.tlm_model.specs.Plan.{Plan}
 use Rattle.plat_build.proofs.KeptLemmas.{next_is, whole_next}
 use Rattle.plat_run.specs.Actors.{is_done, number_of}
 use Rattle.net_end.specs.Leaves.{IsFinished}
-use Rattle.plat_end.specs.End.{AreFinished}
-use Rattle.plat_run.proofs.GatherLemmas.{each_there, finished_more}
+use Rattle.plat_run.proofs.GatherLemmas.{each_there, finished_next}
 use Rattle.plat_run.proofs.ending.hand_in.Goals as goal
 
 pub finish-end-requires : goal.finish-end-requires
@@ -35,12 +34,10 @@ loop-job-preserved g c =
     let ends = c.loop-job.ends.items in
     let wallets = c.loop-job.wallets.items in
     let is : IsFinished n.table n.tokens p k end note wallet = subst (λ (m : ℕ). IsFinished n.table n.tokens p m end note wallet) number c.finish-end.ensures in
-    let more = finished_more n.table n.tokens p k ends wallets c.loop-job.notes.items end wallet note i.are is in
     record {
       whole = whole_next jobs past c.next.new.self.rest.items c.loop-job.job-iterator.rest.items job i.whole c.in-Some.ensures.steps.0;
-      are =
-          subst (λ (m : ℕ). AreFinished n.table n.tokens p m c.push.new.self.items c.push-in-loop-job.new.self.items c.push-in-loop-job-2.new.self.items) (sym (length-append past (job ∷ [])))
-          (subst (λ (l : List EndOf). AreFinished n.table n.tokens p (k + 1) l c.push-in-loop-job.new.self.items c.push-in-loop-job-2.new.self.items) (sym c.in_ok-push.ensures.items)
-          (subst (λ (l : List Purse). AreFinished n.table n.tokens p (k + 1) (ends ++ end ∷ []) l c.push-in-loop-job-2.new.self.items) (sym c.in_ok-push-2.ensures.items)
-          (subst (λ (l : List (Held Content Plan)). AreFinished n.table n.tokens p (k + 1) (ends ++ end ∷ []) (wallets ++ wallet ∷ []) l) (sym c.in_ok-push-3.ensures.items) more)));
+      are = finished_next n.table n.tokens p k _ ends _ wallets _ c.loop-job.notes.items _ end wallet note (length-append past (job ∷ [])) c.push_reserved.ensures.items c.push_reserved-in-loop-job.ensures.items c.push_reserved-in-loop-job-2.ensures.items i.are is;
+      ends = omega (arith, i.ends, c.push_reserved.ensures.capacity);
+      wallets = omega (arith, i.wallets, c.push_reserved-in-loop-job.ensures.capacity);
+      notes = omega (arith, i.notes, c.push_reserved-in-loop-job-2.ensures.capacity);
     }

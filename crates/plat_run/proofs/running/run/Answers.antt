@@ -1,4 +1,4 @@
-use Rattle.std.proofs.Common.{◌≡◌, IfOk, ap, subst}
+use Rattle.std.proofs.Common.{◌≡◌, ap, subst}
 use Rattle.one_history.specs.declared.view.Frame.{Frame}
 use Rattle.tlm_model.specs.Plan.{Plan}
 use Rattle.run_outcome.specs.Outcome.{IsWhole}
@@ -8,16 +8,16 @@ use Rattle.plat_run.proofs.running.run.Goals as goal
 
 pub returns-clause-whole : goal.returns-clause-whole
 returns-clause-whole g c =
-    subst (λ (p : Plan). IfOk c.end_run.result (λ r. IsWhole p r.0)) (ap (λ (f : Frame Plan). f.world) c.requires.frame) c.end_run.ensures.whole
+    subst (λ (p : Plan). IsWhole p c.end_run.result.0) (ap (λ (f : Frame Plan). f.world) c.requires.frame) c.end_run.ensures.whole
 
 pub returns-clause-core : goal.returns-clause-core
 returns-clause-core g c =
-    subst (λ (p : Plan). IfOk c.end_run.result (λ r. IsCoreRun p r.0.history.entries)) (ap (λ (f : Frame Plan). f.world) c.requires.frame) c.end_run.ensures.core
+    subst (λ (p : Plan). IsCoreRun p c.end_run.result.0.history.entries) (ap (λ (f : Frame Plan). f.world) c.requires.frame) c.end_run.ensures.core
 
 pub returns-clause-sealed : goal.returns-clause-sealed
 returns-clause-sealed g c =
-    subst (λ (p : Plan). IfOk c.end_run.result (λ r. entries_read p.platform r.1.entries ≡ r.0.history.entries)) (ap (λ (f : Frame Plan). f.world) c.requires.frame) c.end_run.ensures.sealed
+    subst (λ (p : Plan). entries_read p.platform c.end_run.result.1.entries ≡ c.end_run.result.0.history.entries) (ap (λ (f : Frame Plan). f.world) c.requires.frame) c.end_run.ensures.sealed
 
 pub returns-clause-world : goal.returns-clause-world
 returns-clause-world g c =
-    subst (λ (p : Plan). IfOk c.end_run.result (λ r. (r.1.table ≡ g.N.Naming.table) × (r.1.world ≡ p))) (ap (λ (f : Frame Plan). f.world) c.requires.frame) c.end_run.ensures.world
+    subst (λ (p : Plan). (c.end_run.result.1.table ≡ g.N.Naming.table) × (c.end_run.result.1.world ≡ p)) (ap (λ (f : Frame Plan). f.world) c.requires.frame) c.end_run.ensures.world
