@@ -24,20 +24,16 @@ use Rattle.region_object.specs.Region.{LoggedMemory}
 use Rattle.region_object.specs.Written.{built_of}
 use Rattle.cargo_net.specs.Gates.{gates_of}
 use Rattle.cargo_net.specs.Traffic.{IsMemoryBuilt}
+use Rattle.plat_net.proofs.Lookups.{row_in}
 use Rattle.plat_net.proofs.ObjectLemmas.{gates_more}
 use Rattle.dmi_grants.specs.Made.{dmi_gates, dmi_gates_of}
-
-pub row_there : {X : Type 0} (xs : List X) (k : ℕ) → k < length xs → (x : X) × (slice_get xs k ≡ Some x)
-row_there [] k lt = absurd (omega (arith, lt))
-row_there (x ∷ xs) zero lt = (x, refl)
-row_there (x ∷ xs) (suc k) lt = row_there xs k (omega (arith, lt))
 
 -- the gates of the memories below m, as the history counts them
 pub first_gate_is : (p : Platform) (m : ℕ) → m ≤ length p.memories → sum (take m (gates_of p)) ≡ first_gate p m
 first_gate_is p zero le = refl
 first_gate_is p (suc m) le =
     let below : m < length p.memories = omega arith in
-    let row = row_there p.memories m below in
+    let row = row_in p.memories m below in
     let rest = first_gate_is p m (omega arith) in
     let next : suc m ≡ m + 1 = omega arith in
     let here : get_or p.memories m row.0 ≡ row.0 = get_or_from_slice_get p.memories m row.0 row.0 row.1 in

@@ -36,12 +36,13 @@ use Rattle.region_object.specs.Grants.{gives as gives_at, closes as closes_at, o
 use Rattle.region_object.specs.Region.{after_call}
 use Rattle.region_object.specs.Written.{content_of, written_from}
 use Rattle.plat_net.specs.Calls.{entries_of}
+use Rattle.plat_net.proofs.Lookups.{row_in}
 use Rattle.dmi_grants.specs.Invalidating.{HasInvalidated, IsOverlapped, position_in}
 use Rattle.dmi_grants.specs.Known.{AreBelow, HasAllOf, known_to, position_of}
 use Rattle.dmi_grants.specs.Made.{HasSpent, dmi_gates, dmi_gates_of, is_closed_in, is_given_in, unclosed}
 use Rattle.dmi_grants.specs.Telling.{AddsOwn, InvalidationAdds, IsClosingFor}
 use Rattle.dmi_grants.proofs.Counts.{fewer}
-use Rattle.dmi_grants.proofs.GateNumbers.{given_there, row_there}
+use Rattle.dmi_grants.proofs.GateNumbers.{given_there}
 use Rattle.dmi_grants.proofs.Known.{closed_more, known_more, log_given}
 use Rattle.dmi_grants.proofs.Lists.{any_has, has_any}
 use Rattle.dmi_grants.proofs.Reading.{closes_same, gives_same, placed_at, read_at, read_placed}
@@ -58,7 +59,7 @@ dmi_few (Some other) row at = let same : other ≡ row = cc (at) in subst (λ (y
 
 own_gate : (p : Plan) (m g : ℕ) → m < length p.platform.memories → first_gate p.platform m ≤ g → g < first_gate p.platform m + dmi_gates p m → IsTrue (has_gate p.platform m g)
 own_gate p m g below from under =
-    let row = row_there p.platform.memories m below in
+    let row = row_in p.platform.memories m below in
     let few = dmi_few (slice_get p.platform.memories m) row.0 row.1 in
     let after : first_gate p.platform (m + 1) ≡ first_gate p.platform m + row.0.traits.gates =
     sum_by_more (λ (y : MemoryRow). y.traits.gates) p.platform.memories m row.0 below

@@ -53,6 +53,7 @@ use Rattle.plat_net.specs.Net.{HasPool, hop_numbers, memory_numbers, pool_number
 use Rattle.plat_net.specs.Objects.{frame_of}
 use Rattle.plat_net.specs.Places.{LeadsTo, hop_place, memory_place, own_pool}
 use Rattle.plat_net.specs.PoolCalls.{CanAcquire, CanDescend, CanRelease, CanStart, CanStow, CanTake, IsAccessOf, place_above}
+use Rattle.plat_net.proofs.Lookups.{row_in}
 use Rattle.plat_net.proofs.NoCycle.{shapes_law}
 use Rattle.plat_net.proofs.NumberLemmas.{hop_there, memory_number, memory_there}
 use Rattle.plat_net.proofs.ObjectLemmas.{count_planned, object_there}
@@ -66,11 +67,6 @@ among_at (y ∷ xs) zero x at = inl (one y x at)
     one : {A : Type 0} (y x : A) → Some y ≡ Some x → y ≡ x
     one y x q = cc
 among_at (y ∷ xs) (suc k) x at = inr (among_at xs k x at)
-
-row_in : {A : Type 0} (xs : List A) (k : ℕ) → k < length xs → (x : A) × (slice_get xs k ≡ Some x)
-row_in [] k below = absurd (omega (arith, below))
-row_in (x ∷ xs) zero below = (x, refl)
-row_in (x ∷ xs) (suc k) below = row_in xs k (omega (arith, below))
 
 -- a four-phase access has an initiator of four phases, and passes the way of an address
 pub record IsWayOf (p : Plan) (x : TxnId) (pass : Passage) : Type 0 where

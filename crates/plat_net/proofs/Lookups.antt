@@ -11,6 +11,12 @@ at_read [] k x below is = absurd (omega arith)
 at_read (y ∷ xs) zero x below is = ap some (sym is)
 at_read (y ∷ xs) (suc k) x below is = at_read xs k x (omega arith) is
 
+-- a place below the length has an item
+pub row_in : {A : Type 0} (xs : List A) (k : ℕ) → k < length xs → (x : A) × (slice_get xs k ≡ Some x)
+row_in [] k below = absurd (omega (arith, below))
+row_in (x ∷ xs) zero below = (x, refl)
+row_in (x ∷ xs) (suc k) below = row_in xs k (omega (arith, below))
+
 -- something waits at a place
 pub record Waits {A : Type 0} (xs : List (Option A)) (k : ℕ) : Type 0 where
   pub item : A

@@ -37,7 +37,7 @@ use Rattle.plat_net.specs.Places.{LeadsTo}
 use Rattle.plat_net.proofs.Given.{few_passed}
 use Rattle.plat_net.proofs.Targets.{ends_stop}
 use Rattle.node_hops.specs.Traits.{accepts, is_accepting}
-use Rattle.node_hops.proofs.Lists.{row_in}
+use Rattle.plat_net.proofs.Lookups.{row_in}
 use Rattle.router_moves.specs.Items.{way_in, way_of, way_over}
 use Rattle.router_moves.specs.Moves.{owed_above}
 use Rattle.router_moves.specs.declared.items.WayBehind.{WayBehind}

@@ -11,7 +11,7 @@ use Rattle.plat_net.specs.Places.{hop_place}
 use Rattle.plat_net.proofs.Given.{hop_numbered}
 use Rattle.target_node.specs.Items.{IsFetchedWith}
 use Rattle.node_hops.proofs.Looks.{of_some}
-use Rattle.node_hops.proofs.Lists.{row_in}
+use Rattle.plat_net.proofs.Lookups.{row_in}
 use Rattle.target_node.proofs.Fetches.{owed_is, paid, waiting_is}
 use Rattle.target_node.proofs.moves.fetch.Goals as goal
 
