@@ -1,19 +1,36 @@
 // The tests of a platform's shape.
-ghost use Rattle.std.specs.Prelude.{◌≡◌, ◌↔◌, true, IfOk};
+ghost use Rattle.std.specs.Prelude.{◌≡◌, ◌↔◌, true, IfOk, if◌then◌else◌};
 ghost use Rattle.platform_model.specs.Bounded.{IsBounded};
-ghost use Rattle.platform_model.specs.Reading.{Gives, GivesBy};
+ghost use Rattle.platform_model.specs.Reading.{Gives, GivesBy, refusal};
 ghost use Rattle.platform_shape.specs.Shape.{checked_windowed, checked_router_named, checked_memory_named, checked_acyclic, checked_depth, checked_single, checked_shape, IsBlocking};
 
 use crate::copies::copy_platform;
 use crate::paths::{has_two_paths, is_deeper, is_named, is_on_cycle};
 use crate::shapes::Shape;
 use crate::walks::Component;
+use platform_model::PlatformCode::{Cycle, TooDeep, TwoPaths, Unbound};
 use platform_model::{Place, PlatformCode, PlatformFault, RowKind, rows};
 use std::alloc::Global;
 use tlm_model::{InitiatorRow, MemoryRow, Platform, RouterRow, Style};
 
 /// The routers that may stand on a path.
 const MOST_ROUTERS: usize = 8;
+
+// What a test of rows answers: the refusal of this place, where its row has the fault.
+fn refuse_if(
+    has_fault: bool,
+    alloc: Global,
+    place: Place,
+    code: PlatformCode,
+    key: &str,
+) -> Result<(), PlatformFault>
+    ensures { Gives result (if has_fault then Err (refusal code place key.now) else Ok tt) }
+{
+    if has_fault {
+        return Err(place.refuse(alloc, code, key));
+    }
+    Ok(())
+}
 
 /// The test that a router has a window.
 #[derive(Drop)]
@@ -25,10 +42,8 @@ impl RowKind<RouterRow> for Windowed {
     ghost reads = { λ _. checked_windowed };
 
     fn read(&self, alloc: Global, index: usize, item: &RouterRow) -> Result<(), PlatformFault> {
-        if item.windows.as_slice().is_empty() {
-            return Err(Place::Router(index).refuse(alloc, PlatformCode::Unbound, "window"));
-        }
-        Ok(())
+        let is_empty = item.windows.as_slice().is_empty();
+        refuse_if(is_empty, alloc, Place::Router(index), Unbound, "window")
     }
 }
 
@@ -44,10 +59,8 @@ impl<'p> RowKind<RouterRow> for Named<'p> {
     ghost reads = { λ s. checked_router_named s.platform.now };
 
     fn read(&self, alloc: Global, index: usize, _item: &RouterRow) -> Result<(), PlatformFault> {
-        if is_named(self.platform, Component::Router(index)) {
-            return Ok(());
-        }
-        Err(Place::Router(index).refuse(alloc, PlatformCode::Unbound, "name"))
+        let is_unnamed = !is_named(self.platform, Component::Router(index));
+        refuse_if(is_unnamed, alloc, Place::Router(index), Unbound, "name")
     }
 }
 
@@ -57,10 +70,8 @@ impl<'p> RowKind<MemoryRow> for Named<'p> {
     ghost reads = { λ s. checked_memory_named s.platform.now };
 
     fn read(&self, alloc: Global, index: usize, _item: &MemoryRow) -> Result<(), PlatformFault> {
-        if is_named(self.platform, Component::Memory(index)) {
-            return Ok(());
-        }
-        Err(Place::Memory(index).refuse(alloc, PlatformCode::Unbound, "name"))
+        let is_unnamed = !is_named(self.platform, Component::Memory(index));
+        refuse_if(is_unnamed, alloc, Place::Memory(index), Unbound, "name")
     }
 }
 
@@ -76,10 +87,8 @@ impl<'p> RowKind<RouterRow> for Acyclic<'p> {
     ghost reads = { λ s. checked_acyclic s.platform.now };
 
     fn read(&self, alloc: Global, index: usize, _item: &RouterRow) -> Result<(), PlatformFault> {
-        if is_on_cycle(alloc, self.platform, index)? {
-            return Err(Place::Router(index).refuse(alloc, PlatformCode::Cycle, "window"));
-        }
-        Ok(())
+        let is_cyclic = is_on_cycle(alloc, self.platform, index)?;
+        refuse_if(is_cyclic, alloc, Place::Router(index), Cycle, "window")
     }
 }
 
@@ -95,10 +104,8 @@ impl<'p> RowKind<InitiatorRow> for Shallow<'p> {
     ghost reads = { λ s. checked_depth s.platform.now };
 
     fn read(&self, alloc: Global, index: usize, item: &InitiatorRow) -> Result<(), PlatformFault> {
-        if is_deeper(alloc, self.platform, MOST_ROUTERS, item.bind)? {
-            return Err(Place::Initiator(index).refuse(alloc, PlatformCode::TooDeep, "bind"));
-        }
-        Ok(())
+        let is_too_deep = is_deeper(alloc, self.platform, MOST_ROUTERS, item.bind)?;
+        refuse_if(is_too_deep, alloc, Place::Initiator(index), TooDeep, "bind")
     }
 }
 
@@ -114,10 +121,8 @@ impl<'p> RowKind<InitiatorRow> for Single<'p> {
     ghost reads = { λ s. checked_single s.platform.now };
 
     fn read(&self, alloc: Global, index: usize, item: &InitiatorRow) -> Result<(), PlatformFault> {
-        if has_two_paths(alloc, self.platform, item)? {
-            return Err(Place::Initiator(index).refuse(alloc, PlatformCode::TwoPaths, "bind"));
-        }
-        Ok(())
+        let has_two = has_two_paths(alloc, self.platform, item)?;
+        refuse_if(has_two, alloc, Place::Initiator(index), TwoPaths, "bind")
     }
 }
 

@@ -7,90 +7,71 @@ use std::alloc::Global;
 use tlm_model::{InitiatorRow, MemoryRow, Platform, RouterRow, WindowRow};
 use tlm_types::Text;
 
-/// The copies of rows, each of which is the row.
-#[derive(Drop)]
-struct Copies;
+/// A row that can be copied.
+trait Copied {
+    /// A copy of the row. Its only error is want of memory.
+    fn copied(&self, alloc: Global) -> Result<Self, PlatformFault>
+        ensures { Gives result (Ok self.now) };
+}
 
-impl RowKind<InitiatorRow> for Copies {
-    type Row = InitiatorRow;
-
-    ghost reads = { λ _ _ row. Ok row };
-
-    fn read(
-        &self,
-        alloc: Global,
-        _index: usize,
-        item: &InitiatorRow,
-    ) -> Result<InitiatorRow, PlatformFault> {
-        let name = Text::from_text(alloc, item.name.as_text())?;
-        let script = Text::from_text(alloc, item.script.as_text())?;
+impl Copied for InitiatorRow {
+    fn copied(&self, alloc: Global) -> Result<InitiatorRow, PlatformFault> {
+        let name = Text::from_text(alloc, self.name.as_text())?;
+        let script = Text::from_text(alloc, self.script.as_text())?;
         Ok(InitiatorRow {
             name,
-            style: item.style,
+            style: self.style,
             script,
-            bind: item.bind,
-            pool: item.pool,
-            response: item.response,
+            bind: self.bind,
+            pool: self.pool,
+            response: self.response,
         })
     }
 }
 
-impl RowKind<WindowRow> for Copies {
-    type Row = WindowRow;
-
-    ghost reads = { λ _ _ row. Ok row };
-
-    fn read(
-        &self,
-        _alloc: Global,
-        _index: usize,
-        item: &WindowRow,
-    ) -> Result<WindowRow, PlatformFault> {
-        Ok(*item)
+impl Copied for WindowRow {
+    fn copied(&self, _alloc: Global) -> Result<WindowRow, PlatformFault> {
+        Ok(*self)
     }
 }
 
-impl RowKind<RouterRow> for Copies {
-    type Row = RouterRow;
-
-    ghost reads = { λ _ _ row. Ok row };
-
-    fn read(
-        &self,
-        alloc: Global,
-        _index: usize,
-        item: &RouterRow,
-    ) -> Result<RouterRow, PlatformFault> {
-        let name = Text::from_text(alloc, item.name.as_text())?;
-        let windows = rows(alloc, &Copies, item.windows.as_slice())?;
+impl Copied for RouterRow {
+    fn copied(&self, alloc: Global) -> Result<RouterRow, PlatformFault> {
+        let name = Text::from_text(alloc, self.name.as_text())?;
+        let windows = rows(alloc, &Copies, self.windows.as_slice())?;
         Ok(RouterRow {
             name,
-            latency: item.latency,
-            accept: item.accept,
-            lanes: item.lanes,
+            latency: self.latency,
+            accept: self.accept,
+            lanes: self.lanes,
             windows,
         })
     }
 }
 
-impl RowKind<MemoryRow> for Copies {
-    type Row = MemoryRow;
+impl Copied for MemoryRow {
+    fn copied(&self, alloc: Global) -> Result<MemoryRow, PlatformFault> {
+        let name = Text::from_text(alloc, self.name.as_text())?;
+        Ok(MemoryRow {
+            name,
+            traits: self.traits,
+            reply: self.reply,
+            lanes: self.lanes,
+        })
+    }
+}
+
+/// The copies of rows, each of which is the row.
+#[derive(Drop)]
+struct Copies;
+
+impl<I: Copied> RowKind<I> for Copies {
+    type Row = I;
 
     ghost reads = { λ _ _ row. Ok row };
 
-    fn read(
-        &self,
-        alloc: Global,
-        _index: usize,
-        item: &MemoryRow,
-    ) -> Result<MemoryRow, PlatformFault> {
-        let name = Text::from_text(alloc, item.name.as_text())?;
-        Ok(MemoryRow {
-            name,
-            traits: item.traits,
-            reply: item.reply,
-            lanes: item.lanes,
-        })
+    fn read(&self, alloc: Global, _index: usize, item: &I) -> Result<I, PlatformFault> {
+        item.copied(alloc)
     }
 }
 
