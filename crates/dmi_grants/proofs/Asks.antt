@@ -264,25 +264,24 @@ module _ (frame : Frame Plan) (command : Command) (address : ℕ) (route : Route
   pub ask_inside : (gate first last : ℕ) (kind : Kind) → o ≡ GrantedReply gate first last kind → (first ≤ route.offset) × (route.offset ≤ last)
   ask_inside gate first last kind is = offset_in frame route.memory there txn time command note back gate first last kind position route.offset (said (GrantedReply gate first last kind) is) may.inside
 
-  pub ask_taken : (who gate first last low high base p which : ℕ) (kind : Kind) (new : TableView) (after : Purse) → o ≡ GrantedReply gate first last kind → position ≡ Some p
-      → new ≡ record { held = old.held ++ record { gate = gate; memory = route.memory; first = first; last = last; kind = kind; position = p; txn = txn; time = time; low = low; high = high; base = base } ∷ []; room = old.room }
-      → which ≡ length old.held → lifted_at frame.world who address (first, last) ≡ Some (low, high) → AreAddressesOf frame.world who route.memory first last low high base → (low ≤ address) × (address ≤ high) → base + (address - low) ≡ route.offset → (first ≤ base) × (base + (high - low) ≤ last)
+  pub ask_taken : (who which : ℕ) (h : Held) (new : TableView) (after : Purse) → o ≡ GrantedReply h.gate h.first h.last h.kind → position ≡ Some h.position → h.memory ≡ route.memory → (h.txn ≡ txn) × (h.time ≡ time)
+      → new ≡ record { held = old.held ++ h ∷ []; room = old.room } → which ≡ length old.held
+      → lifted_at frame.world who address (h.first, h.last) ≡ Some (h.low, h.high) → AreAddressesOf frame.world who route.memory h.first h.last h.low h.high h.base → (h.low ≤ address) × (address ≤ h.high) → h.base + (address - h.low) ≡ route.offset → (h.first ≤ h.base) × (h.base + (h.high - h.low) ≤ h.last)
       → HasSpent route.memory (added position) w after → IsTaken frame who command address route txn time old new note back which × HasSpent route.memory 1 w after
-  ask_taken who gate first last low high base p which kind new after is some table place range addresses within start inside spent =
-      let reply = said (GrantedReply gate first last kind) is in
-      let g = given_by frame route.memory there txn time command note back gate first last kind position reply in
-      let h : Held = record { gate = gate; memory = route.memory; first = first; last = last; kind = kind; position = p; txn = txn; time = time; low = low; high = high; base = base } in (
+  ask_taken who which h new after is some memory told table place range addresses within start inside spent =
+      let reply = said (GrantedReply h.gate h.first h.last h.kind) is in
+      let g = given_by frame route.memory there txn time command note back h.gate h.first h.last h.kind position reply in (
         record {
           held = h;
           table = table;
           place = place;
-          told = (refl, refl);
-          made = subst (λ (x : Option ℕ). IsMade frame route.memory (Grant txn time command) note back x (GrantedReply gate first last kind)) some reply;
+          told = told;
+          made = subst (λ (x : Option ℕ). IsMade frame route.memory (Grant txn time command) note back x (GrantedReply h.gate h.first h.last h.kind)) some reply;
           range = range;
           addresses = addresses;
           base = start;
           within = within;
-          usable = record { memory = refl; gate = g.total; granted = g.granted; inside = inside };
+          usable = record { memory = memory; gate = g.total; granted = g.granted; inside = inside };
         },
         subst (λ (x : Option ℕ). HasSpent route.memory (added x) w after) some spent,
       )

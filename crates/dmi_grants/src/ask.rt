@@ -1,22 +1,23 @@
 // A wish for a grant.
-ghost use Rattle.std.specs.Prelude.{◌≡◌, ℕ, ◌<◌, IsSomeAnd, length};
+ghost use Rattle.std.specs.Prelude.{◌≡◌, ℕ, ◌+◌, ◌-◌, ◌<◌, ◌≤◌, IsSomeAnd, Some, length};
 ghost use Rattle.std.specs.Option.{ForSome};
 ghost use Rattle.shared_object.specs.Steps.{IsNote};
-ghost use Rattle.token_book.specs.Purse.{IsOf};
+ghost use Rattle.token_book.specs.Purse.{IsOf, left_of};
 ghost use Rattle.region_object.specs.Call.{IsReadOrWrite};
 ghost use Rattle.plat_net.specs.Calls.{HasNoPassage, route_at};
 ghost use Rattle.dmi_grants.specs.Asking.{HasAsked, MayAsk};
 ghost use Rattle.dmi_grants.specs.Made.{IsRoomyFor};
+ghost use Rattle.dmi_grants.specs.Ranges.{AreAddressesOf, lifted_at};
 
 use crate::made::make_paid;
 use crate::range::{Lifted, addresses};
 use crate::table::{GrantTable, Held};
 use plat_net::{Net, PlatNote, TlmLaw};
 use region_object::{Denial, RegionCall, RegionReply};
-use route_plan::Plan;
+use route_plan::{Plan, Route};
 use shared_object::Naming;
 use std::sync::Wait;
-use tlm_types::{Command, Ps, TxnId};
+use tlm_types::{Command, Kind, Ps, TxnId};
 use token_book::Wallet;
 
 /// What a wish for a grant answers: the index at which the grant is held, or why there is none.
@@ -24,6 +25,59 @@ use token_book::Wallet;
 pub enum Asked {
     Held(u32),
     Denied(Denial),
+}
+
+/// Whose wish for a grant it is, for which access, in which transaction and at which time.
+#[derive(Clone, Copy)]
+struct Wish {
+    who: u32,
+    command: Command,
+    address: u64,
+    txn: TxnId,
+    at: Ps,
+}
+
+// What is held of a grant that the memory at the end of the wish's route gave in the entry at this position:
+// with it go the addresses that lead into its range.
+fn held_for(
+    plan: &Plan,
+    wish: Wish,
+    route: Route,
+    gate: u32,
+    first: u64,
+    last: u64,
+    kind: Kind,
+    position: u64,
+) -> Held
+    requires who { wish.who < length plan.now.platform.initiators }
+    requires route { route_at plan.now wish.who wish.address ≡ Some route }
+    requires inside { (first ≤ route.offset) × (route.offset ≤ last) }
+
+    // What the memory gave, and in which entry.
+    ensures given { (result.gate ≡ gate) × (result.first ≡ first) × (result.last ≡ last) × (result.kind ≡ kind) }
+    ensures entry { (result.memory ≡ route.memory) × (result.position ≡ position) × (result.txn ≡ wish.txn) × (result.time ≡ wish.at) }
+
+    // The addresses.
+    ensures range { lifted_at plan.now wish.who wish.address (result.first, result.last) ≡ Some (result.low, result.high) }
+    ensures all { AreAddressesOf plan.now wish.who route.memory result.first result.last result.low result.high result.base }
+    ensures within { (result.low ≤ wish.address) × (wish.address ≤ result.high) }
+    ensures base { result.base + (wish.address - result.low) ≡ route.offset }
+    ensures inside { (result.first ≤ result.base) × (result.base + (result.high - result.low) ≤ result.last) }
+{
+    let Lifted { low, high, base } = addresses(plan, wish.who, wish.address, route, first, last);
+    Held {
+        gate,
+        memory: route.memory,
+        first,
+        last,
+        kind,
+        position,
+        txn: wish.txn,
+        time: wish.at,
+        low,
+        high,
+        base,
+    }
 }
 
 impl GrantTable {
@@ -69,10 +123,44 @@ impl GrantTable {
         if wallet.left(route.memory) == 0 {
             return (Asked::Denied(Denial::GatesSpent), note);
         }
-        let call = RegionCall::Grant {
-            txn,
-            time: at,
+        let wish = Wish {
+            who,
             command,
+            address,
+            txn,
+            at,
+        };
+        self.ask_at(net, rt, wish, route, note, wallet)
+    }
+
+    // Wishes at the end of the wish's route, where a ticket is left, and holds what is granted.
+    fn ask_at<N: Naming<Plan, TlmLaw>, R: Wait>(
+        &mut self,
+        net: &Net<N>,
+        rt: &R,
+        wish: Wish,
+        route: Route,
+        note: PlatNote,
+        wallet: &mut Wallet,
+    ) -> (Asked, PlatNote)
+        requires who { wish.who < length N.frame.world.platform.initiators }
+        requires command { IsReadOrWrite wish.command }
+        requires passage { HasNoPassage N.frame.world wish.txn }
+        requires route { route_at N.frame.world wish.who wish.address ≡ Some route }
+        requires note { IsNote N.table note }
+        requires wallet { IsOf N.tokens wallet.old }
+        requires left { 0 < left_of wallet.old route.memory }
+        requires may { MayAsk N.frame.world wish.command self.old note.knows wallet.old route }
+        ensures asked { HasAsked N.frame wish.who wish.command wish.address route wish.txn wish.at self.old self.new note.knows result.1.knows wallet.old wallet.new result.0 }
+        ensures note { IsNote N.table result.1 }
+        ensures wallet { IsOf N.tokens wallet.new }
+        ensures room { IsRoomyFor route.memory wallet.new }
+        ensures rooms { (m : ℕ) → IsRoomyFor m wallet.old → IsRoomyFor m wallet.new }
+    {
+        let call = RegionCall::Grant {
+            txn: wish.txn,
+            time: wish.at,
+            command: wish.command,
         };
         let (reply, position, note) = make_paid(net, rt, route.memory, note, wallet, call);
         match reply {
@@ -85,27 +173,8 @@ impl GrantTable {
                 let Some(position) = position else {
                     unreachable!()
                 };
-                let Lifted { low, high, base } = addresses(
-                    net.plan(),
-                    who,
-                    address,
-                    route,
-                    first,
-                    last,
-                );
-                let which = self.hold(Held {
-                    gate,
-                    memory: route.memory,
-                    first,
-                    last,
-                    kind,
-                    position,
-                    txn,
-                    time: at,
-                    low,
-                    high,
-                    base,
-                });
+                let held = held_for(net.plan(), wish, route, gate, first, last, kind, position);
+                let which = self.hold(held);
                 (Asked::Held(which), note)
             }
             RegionReply::Denied(denial) => (Asked::Denied(denial), note),
