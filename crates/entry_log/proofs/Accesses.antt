@@ -1,6 +1,6 @@
 -- What an access of a log reads as, with where its bytes stand.
-use Rattle.std.proofs.Common.{◌≡◌, ℕ, zero, suc, ◌≤◌, List, [], ◌∷◌, length, Option, Some, refl, ap, slice_range, slice_get, All, subst, arith}
-use Rattle.std.specs.Prelude.{◌≢◌, option_and_then, option_map}
+use Rattle.std.proofs.Common.{◌≡◌, ℕ, zero, suc, ◌≤◌, List, [], ◌∷◌, length, Option, Some, None, refl, ap, slice_range, slice_get, All, subst, arith}
+use Rattle.std.specs.Prelude.{◌≢◌, option_and_then, option_map, IfSome}
 use Rattle.tlm_types.specs.declared.entry.Entry.{Entry}
 use Rattle.tlm_types.specs.declared.entry.Head.{Head}
 use Rattle.entry_log.specs.declared.log.long.Event.{Event}
@@ -10,8 +10,8 @@ use Rattle.entry_log.specs.declared.log.long.PlacedAccess.{PlacedAccess}
 use Rattle.tlm_types.specs.declared.words.Command.{Command}
 use Rattle.tlm_types.specs.declared.words.Command.TheVariants.{Read, Write, Ignore, FetchAdd}
 use Rattle.tlm_types.specs.declared.words.Way.{Way}
-use Rattle.tlm_types.specs.Entries.{enables_of, entry_at, facts_of, got_of, head_of, read_sends, sent_by, sent_of}
-use Rattle.entry_log.specs.LogItem.{access_from, access_in, entries_of, facts_in, head_in, span_in, what_in, IsKept}
+use Rattle.tlm_types.specs.Entries.{enables_of, entry_at, facts_of, got_of, head_of, read_at, read_sends, sent_by, sent_of}
+use Rattle.entry_log.specs.LogItem.{access_from, access_in, entries_of, facts_from, facts_in, head_in, span_in, what_in, IsKept}
 
 -- an entry reads as this access, whose parts lie among the bytes
 pub record IsRead (bytes : List ℕ) (e : Option Entry) (a : PlacedAccess) : Type 0 where
@@ -63,3 +63,23 @@ pub read_place : (bytes : List ℕ) (items : List LongItem) (index : ℕ) (a : P
 read_place bytes [] index a kept is = absurd (cc)
 read_place bytes (item ∷ items) zero a kept is = read_event bytes (head_in item) item.start item.event a (kept 0 item (omega arith)) is
 read_place bytes (item ∷ items) (suc index) a kept is = read_place bytes items index a (λ k d below. kept (suc k) d (omega arith)) is
+
+sends_event : (bytes : List ℕ) (start : ℕ) (event : Event) → IfSome (facts_from event) (λ f. f.command ≡ Read → sent_of (what_in bytes start event) ≡ Some (read_sends f.way f.length))
+sends_event bytes start (Simple plain) = tt
+sends_event bytes start (Access a) = λ is_read. ap (λ (c : Command). Some (sent_by c a.way a.length (slice_range bytes start a.enables_start))) is_read
+
+-- what the access that stands at a place sent, where it is a read
+pub read_at-sends : (bytes : List ℕ) (items : List LongItem) (index : ℕ) → IfSome (option_and_then (λ i. facts_from i.event) (slice_get items index)) (λ f. f.command ≡ Read → read_at sent_of (entries_of bytes items) index ≡ Some (read_sends f.way f.length))
+read_at-sends bytes [] index = tt
+read_at-sends bytes (item ∷ items) zero = sends_event bytes item.start item.event
+read_at-sends bytes (item ∷ items) (suc index) = read_at-sends bytes items index
+
+no_facts : (head : Head) (start : ℕ) (event : Event) → access_from head start event ≡ None → facts_from event ≡ None
+no_facts head start (Simple plain) none = refl
+no_facts head start (Access a) none = absurd (cc)
+
+-- where no access stands, there are no plain parts of one
+pub read_no_place : (items : List LongItem) (index : ℕ) → option_and_then access_in (slice_get items index) ≡ None → option_and_then (λ i. facts_from i.event) (slice_get items index) ≡ None
+read_no_place [] index none = refl
+read_no_place (item ∷ items) zero none = no_facts (head_in item) item.start item.event none
+read_no_place (item ∷ items) (suc index) none = read_no_place items index none

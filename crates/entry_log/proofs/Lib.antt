@@ -1,3 +1,4 @@
 mod Accesses
 mod ShortForms
+mod Pasts
 mod Stored

@@ -1,6 +1,6 @@
 -- The items of a log read the same after bytes were appended, and an access reads as its parts.
 use Rattle.std.proofs.Common.{◌≡◌, ℕ, zero, suc, ◌+◌, ◌-◌, ◌^◌, ◌<◌, ◌≤◌, List, [], ◌∷◌, ◌++◌, length, drop, slice_range, slice_get, get_or, All, refl, sym, ◌∙◌, arith, append_assoc, length-append}
-use Rattle.std.specs.Prelude.{option_and_then}
+use Rattle.std.specs.Prelude.{option_and_then, option_map}
 use Rattle.std.proofs.lemmas.List.{map-append, take_at, drop_at, take-append-le, drop-append-le, length-drop, append-nil}
 use Rattle.std.proofs.lemmas.List.Elements.{All-cons, All-head, All-nil, All-push, All-tail}
 use Rattle.tlm_types.specs.declared.entry.Entry.{Entry}
@@ -14,8 +14,8 @@ use Rattle.entry_log.specs.declared.log.long.Span.{Span}
 use Rattle.tlm_types.specs.declared.words.Command.{Command}
 use Rattle.tlm_types.specs.declared.words.Way.{Way}
 use Rattle.tlm_types.specs.declared.words.Command.TheVariants.{Read, Write, Ignore, FetchAdd}
-use Rattle.tlm_types.specs.Entries.{access_by, entry_at, kept_of, kept_sent, plain_of, read_at, sent_by}
-use Rattle.entry_log.specs.LogItem.{what_in, item_entry, entries_of, item_for, plain_in, stored_at, HasParts, IsKept, IsLast}
+use Rattle.tlm_types.specs.Entries.{access_by, entry_at, facts_of, head_of, kept_of, kept_sent, plain_of, read_at, sent_by}
+use Rattle.entry_log.specs.LogItem.{what_in, item_entry, entries_of, facts_from, head_in, item_for, plain_in, stored_at, HasParts, IsKept, IsLast}
 
 -- a part of the bytes is the same after more were appended
 pub slice_range-append : (xs ys : List ℕ) (i j : ℕ) → i ≤ j → j ≤ length xs → slice_range (xs ++ ys) i j ≡ slice_range xs i j
@@ -122,6 +122,28 @@ pub read_at-plain : (bytes : List ℕ) (items : List LongItem) (index : ℕ) →
 read_at-plain bytes [] index = refl
 read_at-plain bytes (item ∷ items) zero = plain_of-what_in bytes item.start item.event
 read_at-plain bytes (item ∷ items) (suc index) = read_at-plain bytes items index
+
+facts_of-what_in : (bytes : List ℕ) (start : ℕ) (event : Event) → facts_of (what_in bytes start event) ≡ facts_from event
+facts_of-what_in bytes start (Access a) = refl
+facts_of-what_in bytes start (Simple (plains.Granted gate kind first last)) = refl
+facts_of-what_in bytes start (Simple (plains.Invalidated first last)) = refl
+facts_of-what_in bytes start (Simple (plains.Closed gate)) = refl
+facts_of-what_in bytes start (Simple (plains.Call phase answer)) = refl
+facts_of-what_in bytes start (Simple (plains.Take slot)) = refl
+facts_of-what_in bytes start (Simple (plains.Acquire slot)) = refl
+facts_of-what_in bytes start (Simple (plains.Release slot freed)) = refl
+
+-- the plain parts of an access
+pub read_at-facts : (bytes : List ℕ) (items : List LongItem) (index : ℕ) → read_at facts_of (entries_of bytes items) index ≡ option_and_then (λ i. facts_from i.event) (slice_get items index)
+read_at-facts bytes [] index = refl
+read_at-facts bytes (item ∷ items) zero = facts_of-what_in bytes item.start item.event
+read_at-facts bytes (item ∷ items) (suc index) = read_at-facts bytes items index
+
+-- the heads of entries are those of their items
+pub read_head : (bytes : List ℕ) (items : List LongItem) (index : ℕ) → option_map head_of (slice_get (entries_of bytes items) index) ≡ option_map head_in (slice_get items index)
+read_head bytes [] index = refl
+read_head bytes (item ∷ items) zero = refl
+read_head bytes (item ∷ items) (suc index) = read_head bytes items index
 
 -- the times of entries are those of their items
 pub entries_timed : (bytes : List ℕ) (items : List LongItem) → All (λ (i : LongItem). i.time < 2 ^ 64) items → All (λ (e : Entry). e.time < 2 ^ 64) (entries_of bytes items)

@@ -1,5 +1,5 @@
 -- How a log keeps its entries: as items, whose accesses have their bytes in one list.
-use Rattle.std.specs.Prelude.{◌≡◌, ℕ, ◌+◌, ◌^◌, ◌<◌, ◌≤◌, List, All, Option, Some, None, length, map, [], get_or, slice_range, slice_get, option_and_then}
+use Rattle.std.specs.Prelude.{◌≡◌, ℕ, ◌+◌, ◌^◌, ◌<◌, ◌≤◌, List, All, Option, Some, None, length, map, [], get_or, slice_range}
 use Rattle.tlm_types.specs.declared.entry.Entry.{Entry}
 use Rattle.tlm_types.specs.declared.entry.Facts.{Facts}
 use Rattle.tlm_types.specs.declared.entry.Head.{Head}
@@ -64,13 +64,6 @@ abbrev pub facts_from : Event → Option Facts
 facts_from (Simple plain) = None
 facts_from (Access a) = Some (facts_in a)
 
-abbrev pub span_from : ℕ → Event → Option Span
-span_from start (Simple plain) = None
-span_from start (Access a) = Some (span_in start a)
-
-abbrev pub span_at : List LongItem → ℕ → Option Span
-span_at items index = option_and_then (λ i. span_from i.start i.event) (slice_get items index)
-
 -- the access that an item keeps, with all that it says of it
 abbrev pub access_from : Head → ℕ → Event → Option PlacedAccess
 access_from head start (Simple plain) = None
@@ -95,8 +88,15 @@ abbrev pub IsKept : ℕ → ℕ → Event → Type 0
 IsKept n start (Simple plain) = Unit {0}
 IsKept n start (Access a) = (start ≤ a.enables_start) × (a.enables_start ≤ a.got_start) × (a.got_start ≤ a.end) × (a.end ≤ n)
 
--- a log of these items and bytes, with room for so many bytes more
-pub record IsStored (items : List LongItem) (bytes : List ℕ) (room_bytes capacity : ℕ) : Type 0 where
+-- what a log forgot are so many entries, each with one of the times that there are
+pub record IsPast (past : List Entry) (forgotten : ℕ) : Type 0 where
+  pub count : forgotten ≡ length past
+  pub timed : All (λ (e : Entry). e.time < 2 ^ 64) past
+  pub few : forgotten < 2 ^ 63
+
+-- a log of these items and bytes, with room for so many bytes more, which forgot these entries
+pub record IsStored (past : List Entry) (forgotten : ℕ) (items : List LongItem) (bytes : List ℕ) (room_bytes capacity : ℕ) : Type 0 where
+  pub before : IsPast past forgotten
   pub timed : All (λ (i : LongItem). i.time < 2 ^ 64) items
   pub kept : All (λ i. IsKept (length bytes) i.start i.event) items
   pub roomy : length bytes + room_bytes ≤ capacity

@@ -4,12 +4,14 @@
 //!   and most entries take 32 bytes more; those with large numbers, byte enables or a status other than OK stand in a
 //!   second list, in a long form. A log with room for 64 KiB of bytes keeps equal bytes of large accesses once, where it
 //!   finds them.
+//!   A log can forget the entries that it has in store, while it grows. From then on they are known in contracts alone;
+//!   what isn't in store can't be read.
 //! - `LoggedAccess` is an access that was read from it: its head, its plain parts, and the bytes that it sent, enabled
 //!   and got.
 //!
-//! Promises: a log has what was pushed, in order. It can't fail for want of memory while it has room for entries and for
-//! bytes, and after want of memory it is as before. What a read sent isn't kept: it is zeros. A log holds less than 4 GiB
-//! of bytes.
+//! Promises: a log has what was pushed, in order; and forgetting changes nothing of that. It can't fail for want of
+//! memory while it has room for entries and for bytes, and after want of memory it is as before. What a read sent isn't
+//! kept: it is zeros. A log holds less than 4 GiB of bytes.
 #![tactic(auto)]
 
 mod log;

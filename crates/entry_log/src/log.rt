@@ -1,5 +1,5 @@
 // The log of an object: its entries in order, kept without a list of bytes for each.
-ghost use Rattle.std.specs.Prelude.{◌≡◌, ◌≢◌, ◌+◌, ◌^◌, ◌<◌, ◌≤◌, [], ◌++◌, length, false, true, All, Ok, Some, IsOk, IsSome, IsSomeAnd, IfSome, IfOk, IfErr, OnOk, OnErr, IsTrue, ◌↔◌, slice_get, slice_range, option_map, vec_len, vec_capacity};
+ghost use Rattle.std.specs.Prelude.{◌≡◌, ◌≢◌, ◌+◌, ◌^◌, ◌<◌, ◌≤◌, [], ◌++◌, length, true, false, All, Ok, Some, IsOk, IsSome, IsSomeAnd, IfSome, IfOk, IfErr, OnOk, OnErr, IsTrue, ◌↔◌, slice_get, slice_range, option_map, vec_len, vec_capacity};
 ghost use Rattle.entry_log.specs.LogItem.{HasParts, IsLast};
 ghost use Rattle.tlm_types.specs.Entries.{access_by, enables_of, entry_at, facts_of, got_of, head_of, is_access, plain_of, read_at, read_sends, sent_of};
 ghost use Rattle.entry_log.specs.Log.{with_entry};
@@ -8,9 +8,11 @@ ghost use Rattle.tlm_types.specs.declared.words.Command.TheVariants.{Read};
 mod item;
 mod items;
 mod long;
+mod past;
 
 use items::Items;
 use long::{Span, plain_event};
+use past::Past;
 use std::alloc::Global;
 use std::marker::Model;
 use tlm_types::{Facts, Head, Memory, TxnId, What};
@@ -26,14 +28,18 @@ pub struct LoggedAccess<'a> {
 }
 
 /// The log of an object: its entries in order. Contracts see the list of them, with the room that was
-/// made for entries and for the bytes of accesses. A log holds less than 4 GiB of bytes: more is
-/// refused as want of memory is. A large access whose bytes stand there already refers to those.
+/// made for entries and for the bytes of accesses, and whether all are in store: those that a log forgot
+/// are known in contracts alone. A log holds less than 4 GiB of bytes: more is refused as want of
+/// memory is. A large access whose bytes stand there already refers to those.
 pub struct Log {
     items: Items,
     bytes: Vec<u8>,
-    // Where the bytes of large accesses begin, each at a place that follows from a few of them.
+    // Where the bytes of large accesses begin, each at a place that follows from a few of them. It is
+    // looked whether they stand there, so that it may stay as it is where a log forgets its bytes.
     starts: Vec<u32>,
     room_bytes: u64,
+    past: Past,
+    forgotten: u64,
 }
 
 // Written out, so that crates above call it and needn't prove again how each part is let go of.
@@ -44,31 +50,34 @@ impl Drop for Log {
             bytes: _bytes,
             starts: _starts,
             room_bytes: _,
+            past: _past,
+            forgotten: _,
         } = self;
     }
 }
 
 impl Model for Log {
-    ghost use Rattle.std.specs.Prelude.{vec_capacity};
+    ghost use Rattle.std.specs.Prelude.{◌++◌, eqb, vec_capacity};
     ghost use Rattle.entry_log.specs.Log.{LogView};
     ghost use Rattle.entry_log.specs.LogItem.{entries_of, IsStored};
 
     ghost Value = { LogView };
 
     ghost view = { λ l. record {
-      entries = entries_of l.bytes.items l.items.items;
+      entries = l.past.entries ++ entries_of l.bytes.items l.items.items;
       room = l.items.room;
       room_bytes = l.room_bytes;
+      whole = eqb l.forgotten 0;
     } };
 
-    ghost invariant = { λ l. IsStored l.items.items l.bytes.items l.room_bytes (vec_capacity l.bytes) };
+    ghost invariant = { λ l. IsStored l.past.entries l.forgotten l.items.items l.bytes.items l.room_bytes (vec_capacity l.bytes) };
 }
 
 impl Log {
     /// An empty log with room for so many entries, and for so many bytes of the accesses among them.
     /// Its only error is want of memory.
     pub fn with_room(alloc: Global, entries: u64, bytes: u64) -> Result<Log, Memory>
-        ensures { IfOk result (λ l. l ≡ record { entries = []; room = entries; room_bytes = bytes }) }
+        ensures { IfOk result (λ l. l ≡ record { entries = []; room = entries; room_bytes = bytes; whole = true }) }
     {
         if bytes > BYTES_MAX {
             return Err(Memory);
@@ -81,6 +90,8 @@ impl Log {
             bytes: stored,
             starts,
             room_bytes: bytes,
+            past: Past::none(),
+            forgotten: 0,
         })
     }
 
@@ -89,7 +100,7 @@ impl Log {
         ensures len { result ≡ length self.now.entries }
         ensures timed { All (λ e. e.time < 2 ^ 64) self.now.entries }
     {
-        self.items.len() as u64
+        self.forgotten + self.items.len() as u64
     }
 
     /// For how many entries room was made.
@@ -110,7 +121,14 @@ impl Log {
     pub fn is_empty(&self) -> bool
         ensures { IsTrue result ↔ (self.now.entries ≡ []) }
     {
-        self.items.len() == 0
+        self.len() == 0
+    }
+
+    /// All its entries are in store, so that they can be read.
+    pub fn is_whole(&self) -> bool
+        ensures { result ≡ self.now.whole }
+    {
+        self.forgotten == 0
     }
 
     /// Appends an entry that isn't an access. It is `Ok` where there is room for it. Its only error is
@@ -246,7 +264,8 @@ impl Log {
     /// An entry without what happened.
     #[inline(always)]
     pub fn head(&self, index: u64) -> Head
-        requires { index < length self.now.entries }
+        requires whole { self.now.whole ≡ true }
+        requires index { index < length self.now.entries }
         ensures { option_map head_of (slice_get self.now.entries index) ≡ Some result }
     {
         self.items.head(index as usize)
@@ -254,7 +273,8 @@ impl Log {
 
     /// What happened, and for an access none.
     pub fn what(&self, index: u64) -> Option<What>
-        requires { index < length self.now.entries }
+        requires whole { self.now.whole ≡ true }
+        requires index { index < length self.now.entries }
         ensures { result ≡ read_at plain_of self.now.entries index }
     {
         self.items.what(index as usize)
@@ -263,7 +283,8 @@ impl Log {
     /// The plain parts of an access, and for any other entry none.
     #[inline(always)]
     pub fn facts(&self, index: u64) -> Option<Facts>
-        requires { index < length self.now.entries }
+        requires whole { self.now.whole ≡ true }
+        requires index { index < length self.now.entries }
         ensures facts { result ≡ read_at facts_of self.now.entries index }
 
         // What a read sent isn't kept.
@@ -276,7 +297,8 @@ impl Log {
     /// The access at this index with all that is kept of it, and for any other entry none.
     #[inline(always)]
     pub fn access(&self, index: u64) -> Option<LoggedAccess<'_>>
-        requires { index < length self.now.entries }
+        requires whole { self.now.whole ≡ true }
+        requires index { index < length self.now.entries }
         ensures facts { option_map (λ a. a.facts) result ≡ read_at facts_of self.now.entries index }
         ensures head { IfSome result (λ a. option_map head_of (slice_get self.now.entries index) ≡ Some a.head) }
         ensures sent { IfSome result (λ a. a.facts.command ≢ Read → read_at sent_of self.now.entries index ≡ Some a.sent.now) }
@@ -301,29 +323,38 @@ impl Log {
 
     /// The bytes that an access sent, which isn't a read.
     pub fn sent(&self, index: u64) -> &[u8]
-        requires { IsSomeAnd (read_at facts_of self.now.entries index) (λ f. f.command ≢ Read) }
+        requires whole { self.now.whole ≡ true }
+        requires access { IsSomeAnd (read_at facts_of self.now.entries index) (λ f. f.command ≢ Read) }
         ensures { read_at sent_of self.now.entries index ≡ Some result.now }
     {
-        let span = self.items.span(index as usize);
-        &self.bytes[span.start as usize..span.enables_start as usize]
+        match self.access(index) {
+            Some(access) => access.sent,
+            None => &[],
+        }
     }
 
     /// The byte enables of an access.
     pub fn enables(&self, index: u64) -> &[u8]
-        requires { IsSome (read_at facts_of self.now.entries index) }
+        requires whole { self.now.whole ≡ true }
+        requires access { IsSome (read_at facts_of self.now.entries index) }
         ensures { read_at enables_of self.now.entries index ≡ Some result.now }
     {
-        let span = self.items.span(index as usize);
-        &self.bytes[span.enables_start as usize..span.got_start as usize]
+        match self.access(index) {
+            Some(access) => access.enables,
+            None => &[],
+        }
     }
 
     /// A read's buffer after the access, or what a debug read moved.
     pub fn got(&self, index: u64) -> &[u8]
-        requires { IsSome (read_at facts_of self.now.entries index) }
+        requires whole { self.now.whole ≡ true }
+        requires access { IsSome (read_at facts_of self.now.entries index) }
         ensures { read_at got_of self.now.entries index ≡ Some result.now }
     {
-        let span = self.items.span(index as usize);
-        &self.bytes[span.got_start as usize..span.end as usize]
+        match self.access(index) {
+            Some(access) => access.got,
+            None => &[],
+        }
     }
 }
 

@@ -1,5 +1,5 @@
 // A hop, and what is read of it.
-ghost use Rattle.std.specs.Prelude.{◌≡◌, ℕ, ◌<◌, ◌≤◌, [], not, length, All, IfOk};
+ghost use Rattle.std.specs.Prelude.{◌≡◌, ℕ, ◌<◌, ◌≤◌, [], true, not, length, All, IfOk};
 ghost use Rattle.std.specs.List.{list_all, list_any};
 ghost use Rattle.tlm_types.specs.declared.entry.What.TheVariants.{Call};
 ghost use Rattle.tlm_types.specs.Entries.{entry_at};
@@ -117,6 +117,7 @@ impl<T> Hop<T> {
         ensures entries { result.now.entries ≡ entries self.now.log.events }
         ensures room { result.now.room ≡ self.now.log.room }
         ensures len { length result.now.entries ≡ length self.now.log.events }
+        ensures whole { result.now.whole ≡ true }
         ensures follows { Follows self.now }
         ensures own { All (λ (e : Event). e.object ≡ ObjectNo.Hop self.now.number) self.now.log.events }
     {
@@ -128,6 +129,7 @@ impl<T> Hop<T> {
     where
         T: Drop,
         ensures entries { result.entries ≡ entries self.log.events }
+        ensures whole { result.whole ≡ true }
         ensures follows { Follows self }
     {
         let Hop {

@@ -117,6 +117,11 @@ impl<T> Object for Hop<T> {
         Hop::log(self)
     }
 
+    // It keeps all entries in store, each with its number.
+    fn forget(&mut self) {
+        let _ = Hop::log(self);
+    }
+
     fn room(&self) -> u64 {
         let log = Hop::log(self);
         log.room().saturating_sub(log.len())

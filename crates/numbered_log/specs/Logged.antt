@@ -1,6 +1,7 @@
 -- A log whose entries have numbers: those of the references that they acquire or release, or the marks of calls.
-use Rattle.std.specs.Prelude.{ℕ, ◌≡◌, ◌<◌, ◌≤◌, List, [], ◌∷◌, ◌++◌}
+use Rattle.std.specs.Prelude.{ℕ, ◌≡◌, ◌<◌, ◌≤◌, true, List, [], ◌∷◌, ◌++◌, length}
 use Rattle.tlm_types.specs.declared.entry.Entry.{Entry}
+use Rattle.entry_log.specs.Log.{LogView}
 use Rattle.shared_object.specs.Written.{Written, noted}
 use Rattle.flow_model.specs.Events.{Event}
 
@@ -31,7 +32,8 @@ written_by e = noted e.number e.entry
 abbrev pub IsBefore : Event → Event → Type 0
 IsBefore d e = d.position < e.position
 
--- each entry has a number, and there is room for as many numbers as entries
-pub record IsNumbered (entries numbers room capacity : ℕ) : Type 0 where
-  pub same : entries ≡ numbers
-  pub roomy : room ≤ capacity
+-- each entry has a number, there is room for as many numbers as entries, and all entries are in store
+pub record IsNumbered (log : LogView) (numbers capacity : ℕ) : Type 0 where
+  pub same : length log.entries ≡ numbers
+  pub roomy : log.room ≤ capacity
+  pub whole : log.whole ≡ true

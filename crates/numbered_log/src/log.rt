@@ -1,5 +1,5 @@
 // A log whose entries have numbers.
-ghost use Rattle.std.specs.Prelude.{◌≡◌, ◌<◌, false, [], length, map, IfOk};
+ghost use Rattle.std.specs.Prelude.{◌≡◌, ◌<◌, true, false, [], length, map, IfOk};
 ghost use Rattle.tlm_types.specs.Entries.{entry_at, is_access};
 ghost use Rattle.flow_model.specs.Events.{entries};
 ghost use Rattle.numbered_log.specs.Logged.{event_of, with_event};
@@ -18,7 +18,7 @@ pub struct NumberedLog {
 }
 
 impl Model for NumberedLog {
-    ghost use Rattle.std.specs.Prelude.{◌≡◌, ◌≤◌, length, vec_capacity};
+    ghost use Rattle.std.specs.Prelude.{length, vec_capacity};
     ghost use Rattle.numbered_log.specs.Logged.{LoggedView, IsNumbered, events_of};
 
     ghost Value = { LoggedView };
@@ -28,8 +28,7 @@ impl Model for NumberedLog {
       room = l.log.room;
     } };
 
-    ghost invariant = { λ l. IsNumbered (length l.log.entries) (length l.numbers.items) l.log.room
-        (vec_capacity l.numbers) };
+    ghost invariant = { λ l. IsNumbered l.log (length l.numbers.items) (vec_capacity l.numbers) };
 }
 
 impl NumberedLog {
@@ -47,6 +46,7 @@ impl NumberedLog {
         ensures entries { result.now.entries ≡ entries self.now.events }
         ensures room { result.now.room ≡ self.now.room }
         ensures len { length result.now.entries ≡ length self.now.events }
+        ensures whole { result.now.whole ≡ true }
     {
         &self.log
     }
@@ -60,7 +60,8 @@ impl NumberedLog {
 
     /// The entries without their numbers, when the numbers aren't needed any more.
     pub fn into_log(self) -> Log
-        ensures { result.entries ≡ entries self.events }
+        ensures entries { result.entries ≡ entries self.events }
+        ensures whole { result.whole ≡ true }
     {
         self.log
     }

@@ -102,7 +102,7 @@ const CALL_HEAD: Head = Head {
 };
 
 fn is_the_write(log: &Log) -> bool {
-    if log.is_empty() {
+    if log.is_empty() || !log.is_whole() {
         return false;
     }
     match log.access(0) {
@@ -136,7 +136,7 @@ fn is_request(what: What) -> bool {
 }
 
 fn is_the_call(log: &Log) -> bool {
-    if log.len() < 2 {
+    if log.len() < 2 || !log.is_whole() {
         return false;
     }
     match log.what(1) {
@@ -185,7 +185,7 @@ const BLOCK_READ: Facts = Facts {
 
 // The entry's data: what a read got, and what any other access sent.
 fn has_data(log: &Log, index: u64, data: &[u8]) -> bool {
-    if index >= log.len() {
+    if index >= log.len() || !log.is_whole() {
         return false;
     }
     match log.access(index) {
@@ -222,4 +222,13 @@ fn a_log_reads_back_blocks_that_it_keeps_once(rt: HostRuntime) {
     assert!(rt; first.is_ok() && second.is_ok() && between.is_ok() && again.is_ok());
     assert!(rt; has_data(&log, 0, BLOCK) && has_data(&log, 1, &like));
     assert!(rt; has_data(&log, 2, NINES) && has_data(&log, 3, &like));
+}
+
+#[test]
+fn a_log_that_forgot_counts_what_it_has_and_is_not_whole(rt: HostRuntime) {
+    let mut log = Log::with_room(rt.alloc(), 2, 6).expect(&rt, "memory");
+    assert!(rt; log.push(CALL_HEAD, BEGUN).is_ok() && log.is_whole());
+    log.forget();
+    assert!(rt; log.push(CALL_HEAD, BEGUN).is_ok());
+    assert!(rt; log.len() == 2 && !log.is_whole());
 }

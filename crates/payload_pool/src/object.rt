@@ -102,6 +102,11 @@ impl Object for Pool {
         Pool::log(self)
     }
 
+    // It keeps all entries in store, each with its number.
+    fn forget(&mut self) {
+        let _ = Pool::log(self);
+    }
+
     fn room(&self) -> u64 {
         let log = Pool::log(self);
         log.room().saturating_sub(log.len())

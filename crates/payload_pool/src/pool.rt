@@ -1,5 +1,5 @@
 // A pool and how it is made.
-ghost use Rattle.std.specs.Prelude.{◌≡◌, ◌≤◌, [], length, replicate, IfOk};
+ghost use Rattle.std.specs.Prelude.{◌≡◌, ◌≤◌, [], true, length, replicate, IfOk};
 ghost use Rattle.std.specs.List.{All};
 ghost use Rattle.tlm_types.specs.declared.words.ObjectNo.TheVariants.{Pool as pool_number};
 ghost use Rattle.flow_model.specs.Events.{Event, entries};
@@ -122,6 +122,7 @@ impl Pool {
         ensures entries { result.now.entries ≡ entries self.now.log.events }
         ensures room { result.now.room ≡ self.now.log.room }
         ensures len { length result.now.entries ≡ length self.now.log.events }
+        ensures whole { result.now.whole ≡ true }
         ensures follows { Follows self.now }
         ensures own { All (λ (e : Event). e.object ≡ pool_number self.now.initiator) self.now.log.events }
     {
@@ -131,6 +132,7 @@ impl Pool {
     /// The log, when the pool is done with.
     pub fn into_log(self) -> Log
         ensures entries { result.entries ≡ entries self.log.events }
+        ensures whole { result.whole ≡ true }
         ensures pool { IsPool self }
     {
         let Pool {

@@ -1,5 +1,5 @@
 // What a run counts in all.
-ghost use Rattle.std.specs.Prelude.{◌≡◌, ◌<◌, ◌≤◌, ◌^◌, ◌++◌, Some, IfOk, OnOk, length, slice_get, string_bytes};
+ghost use Rattle.std.specs.Prelude.{◌≡◌, ◌<◌, ◌≤◌, ◌^◌, ◌++◌, true, Some, IfOk, OnOk, length, slice_get, string_bytes};
 ghost use Rattle.tlm_types.specs.declared.entry.Entry.{Entry};
 ghost use Rattle.tlm_types.specs.Entries.{is_access};
 ghost use Rattle.trace_print.specs.Writes.{IsPrinted};
@@ -25,7 +25,8 @@ pub struct Totals {
 
 // There is an access at this place of a log.
 fn is_access(log: &Log, index: u64) -> bool
-    requires { index < length log.now.entries }
+    requires whole { log.now.whole ≡ true }
+    requires index { index < length log.now.entries }
     ensures { (e : Entry) → slice_get log.now.entries index ≡ Some e → result ≡ is_access e.what }
 {
     log.facts(index).is_some()
@@ -33,7 +34,8 @@ fn is_access(log: &Log, index: u64) -> bool
 
 // A payload is taken at this place of a log.
 fn is_take(log: &Log, index: u64) -> bool
-    requires { index < length log.now.entries }
+    requires whole { log.now.whole ≡ true }
+    requires index { index < length log.now.entries }
     ensures { (e : Entry) → slice_get log.now.entries index ≡ Some e → result ≡ is_take e.what }
 {
     matches!(log.what(index), Some(What::Take { .. }))
@@ -69,7 +71,8 @@ fn syncs(ends: &[EndOf]) -> u64
 }
 
 fn count_totals(alloc: Global, outcome: &Outcome) -> Result<Totals, Memory>
-    requires { HasSmallTotals outcome.now }
+    requires small { HasSmallTotals outcome.now }
+    requires whole { outcome.now.history.whole ≡ true }
     ensures { IfOk result (λ t. t ≡ totals_in outcome.now) }
 {
     let mut reader = outcome.history.reader(alloc)?;
@@ -112,7 +115,8 @@ pub fn print_totals<K: Sink>(
     seed: u64,
     outcome: &Outcome,
 ) -> Result<(), PrintFault>
-    requires { HasSmallTotals outcome.now }
+    requires small { HasSmallTotals outcome.now }
+    requires whole { outcome.now.history.whole ≡ true }
     ensures printed { IsPrinted result (record {
       taken_before = K.taken out.old;
       taken_after = K.taken out.new;

@@ -1,5 +1,5 @@
 -- A memory is built as the plan says.
-use Rattle.std.proofs.Common.{◌≡◌, ℕ, ◌<◌, [], length, take, sum, get_or, Option, Some, None, refl, sym, ap, subst, ◌∙◌}
+use Rattle.std.proofs.Common.{◌≡◌, ℕ, ◌<◌, [], length, take, sum, get_or, Option, Some, None, true, refl, sym, ap, subst, ◌∙◌}
 use Rattle.std.specs.Prelude.{IsSomeAnd, slice_get}
 use Rattle.atomic_table.specs.Seated.{TableId}
 use Rattle.one_history.specs.declared.view.Frame.{Frame}
@@ -19,7 +19,7 @@ use Rattle.plat_net.proofs.ObjectLemmas.{gates_at_memory}
 
 -- a memory with an empty log
 abbrev pub blank_memory : ℕ → MemoryTraits → ℕ → ℕ → ℕ → LoggedMemory
-blank_memory m traits first_gate entries bytes = record { number = m; traits = traits; first_gate = first_gate; log = record { entries = []; room = entries; room_bytes = bytes } }
+blank_memory m traits first_gate entries bytes = record { number = m; traits = traits; first_gate = first_gate; log = record { entries = []; room = entries; room_bytes = bytes; whole = true } }
 
 gates_in_row : (traits : MemoryTraits) (o : Option MemoryRow) → IsSomeAnd o (λ (row : MemoryRow). traits ≡ row.traits) → traits.gates ≡ row_gates o
 gates_in_row traits None h = absurd h

@@ -132,7 +132,7 @@ fresh_none p regions none = subst (λ (r : List LoggedMemory). AreFresh p r 0) (
     nothing : (k : ℕ) (m : LoggedMemory) → slice_get [] k ≡ Some m → ⊥
     nothing k m is = cc
 
-pub fresh_region : (p : Plan) (k : ℕ) (rows : List MemoryRow) (row : MemoryRow) (m : LoggedMemory) (entries bytes gate : ℕ) → rows ≡ p.platform.memories → k < length rows → row ≡ get_or rows k row → m ≡ record { number = k; traits = row.traits; first_gate = gate; log = record { entries = []; room = entries; room_bytes = bytes } } → entries ≡ planned_at p (memory_object k) → entries ≤ 1000000 → bytes ≡ logged_bytes p k → IsFresh p k m
+pub fresh_region : (p : Plan) (k : ℕ) (rows : List MemoryRow) (row : MemoryRow) (m : LoggedMemory) (entries bytes gate : ℕ) → rows ≡ p.platform.memories → k < length rows → row ≡ get_or rows k row → m ≡ record { number = k; traits = row.traits; first_gate = gate; log = record { entries = []; room = entries; room_bytes = bytes; whole = true } } → entries ≡ planned_at p (memory_object k) → entries ≤ 1000000 → bytes ≡ logged_bytes p k → IsFresh p k m
 fresh_region p k rows row m entries bytes gate same below is made planned few logged = subst (IsFresh p k) (sym made) (record {
   number = refl;
   row = subst (λ (o : Option MemoryRow). IsSomeAnd o (λ r. row.traits ≡ r.traits)) (sym (ap (λ (l : List MemoryRow). slice_get l k) (sym same) ∙ (slice_get-get_or rows k row below ∙ ap (λ (r : MemoryRow). Some r) (sym is)))) refl;

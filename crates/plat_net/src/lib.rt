@@ -5,7 +5,8 @@
 //!   with its log. `TlmLaw` is the law of the history: it says which earlier entries back an entry of four-phase
 //!   traffic, and backs every other entry.
 //! - `Net::call_memory` makes a call at a memory, and `Net::debug` a debug read along its route. A `Reach` is a
-//!   way to the memories: of a thread that shares the net, or of the only one who has it.
+//!   way to the memories: of a thread that shares the net, or of the only one who has it. `Net::forget_memories` has
+//!   the memories' logs forget what nobody will read.
 //! - The calls of four-phase traffic find hop, memory, pool, history and tokens themselves: at hops `forward`,
 //!   `begin_req`, `end_req`, `backward`, `end_resp`, `fetch_request`, `fetch_response` and `has_ended`, at memories
 //!   `serve`, at pools `take`, `start`, `acquire`, `release`, `stow` and `live`, and `descend` of routers.

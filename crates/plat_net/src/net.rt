@@ -181,6 +181,14 @@ impl<N: Naming<Plan, TlmLaw>> Net<N> {
         pool_of(&self.pools, initiator)
     }
 
+    /// The memories' logs forget the entries that they have in store, so that they can't be read any more. Contracts see no
+    /// change.
+    pub fn forget_memories<R: Wait>(&self, rt: &R) {
+        for memory in &self.memories {
+            memory.forget(rt);
+        }
+    }
+
     /// The history, the tokens, and the memories, hops and pools in order.
     pub fn into_parts(self) -> NetParts<N>
         ensures world { self ≡ N.frame.world }

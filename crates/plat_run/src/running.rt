@@ -14,6 +14,7 @@ ghost use Rattle.plat_end.specs.Run.{IsCoreRun};
 use crate::actor::Actor;
 use crate::begin::begin_jobs;
 use crate::ending::{HandedIn, hand_in, room_for};
+use crate::logs::{Logs, until_in_store};
 use crate::workers::{work_all, work_alone};
 use outside::Pace;
 use plat_build::{Built, Kept, Opened, build};
@@ -39,6 +40,7 @@ pub fn run<N: Naming<Plan, TlmLaw> + Send + Sync, P: Pace + Sync, R: Threads + W
     built: Built<N>,
     workers: u32,
     pace: &P,
+    logs: Logs,
 ) -> Result<(Outcome, PlatSealed), Memory>
     requires frame { N.frame ≡ frame_of built.net }
     requires kept { built.kept ≡ all_waiting built.net.platform }
@@ -46,11 +48,14 @@ pub fn run<N: Naming<Plan, TlmLaw> + Send + Sync, P: Pace + Sync, R: Threads + W
     ensures core { IfOk result (λ r. IsCoreRun built.net r.0.history.entries) }
     ensures sealed { IfOk result (λ r. entries_read built.net.platform r.1.entries ≡ r.0.history.entries) }
     ensures world { IfOk result (λ r. (r.1.table ≡ N.table) × (r.1.world ≡ built.net)) }
+    ensures whole_log { logs ≡ Logs.Kept → IfOk result (λ r. r.0.history.whole ≡ true) }
 {
     let Built { mut net, mut kept } = built;
     let apart = room_for(alloc, &net)?;
-    let handed = finish_all(rt, alloc, &mut net, &mut kept, workers, pace)?;
-    Ok(end_run(rt, net, handed, apart))
+    let handed = finish_all(rt, alloc, &mut net, &mut kept, workers, pace, logs)?;
+    let (outcome, sealed) = end_run(rt, net, handed, apart);
+    until_in_store(rt, &outcome.history, logs);
+    Ok((outcome, sealed))
 }
 
 // Gives turns to the jobs of a net that was just built by so many workers, until all initiators have finished, and gathers what
@@ -62,6 +67,7 @@ fn finish_all<N: Naming<Plan, TlmLaw> + Send + Sync, P: Pace + Sync, R: Threads 
     kept: &mut Kept<N>,
     workers: u32,
     pace: &P,
+    logs: Logs,
 ) -> Result<HandedIn, Memory>
     requires kept { kept.old ≡ all_waiting net.old.platform }
     ensures { IfOk result (λ h. AreFinished N.table N.tokens N.frame.world (length N.frame.world.platform.initiators) h.ends.items h.wallets.items h.notes.items) }
@@ -70,7 +76,7 @@ fn finish_all<N: Naming<Plan, TlmLaw> + Send + Sync, P: Pace + Sync, R: Threads 
     let count = net.plan().platform().initiators.as_slice().len() as u32;
     let handed = HandedIn::with_room(alloc, count)?;
     let board = begin_board(rt, alloc, &jobs, count)?;
-    let jobs = finish_jobs(rt, alloc, net, &board, pace, jobs, count, workers)?;
+    let jobs = finish_jobs(rt, alloc, net, &board, pace, jobs, count, workers, logs)?;
     Ok(hand_in(jobs, handed))
 }
 
@@ -133,6 +139,7 @@ fn finish_jobs<N: Naming<Plan, TlmLaw> + Send + Sync, P: Pace + Sync, R: Threads
     jobs: Vec<Actor<N>>,
     count: u32,
     workers: u32,
+    logs: Logs,
 ) -> Result<Vec<Actor<N>>, Memory>
     requires initiators { count ≡ length N.frame.world.platform.initiators }
     requires many { count ≤ length jobs.items }
@@ -141,7 +148,7 @@ fn finish_jobs<N: Naming<Plan, TlmLaw> + Send + Sync, P: Pace + Sync, R: Threads
     ensures count { IfOk result (λ jobs. length jobs.items ≡ count) }
     ensures done { IfOk result (λ jobs. All (λ job. is_done job ≡ true) jobs.items) }
 {
-    let jobs = give_all_turns(rt, alloc, net, board, pace, jobs, count, workers)?;
+    let jobs = give_all_turns(rt, alloc, net, board, pace, jobs, count, workers, logs)?;
     Ok(dismiss_nodes(jobs, count))
 }
 
@@ -156,6 +163,7 @@ fn give_all_turns<N: Naming<Plan, TlmLaw> + Send + Sync, P: Pace + Sync, R: Thre
     mut jobs: Vec<Actor<N>>,
     count: u32,
     workers: u32,
+    logs: Logs,
 ) -> Result<Vec<Actor<N>>, Memory>
     requires many { count ≤ length jobs.items }
     requires numbered { AreNumbered number_of jobs.items }
@@ -166,11 +174,11 @@ fn give_all_turns<N: Naming<Plan, TlmLaw> + Send + Sync, P: Pace + Sync, R: Thre
     // More workers than jobs would find nothing to do.
     let workers = jobs.len().min(workers as usize);
     if workers <= 1 {
-        work_alone(rt, net, board, pace, &mut jobs, count);
+        work_alone(rt, net, board, pace, &mut jobs, count, logs);
         return Ok(jobs);
     }
     let queue = RunQueue::new(alloc, jobs, count)?;
-    work_all(rt, net, board, &queue, workers as u32, pace);
+    work_all(rt, net, board, &queue, workers as u32, pace, logs);
     Ok(queue.into_jobs(rt))
 }
 
@@ -201,14 +209,16 @@ pub fn run_plan<P: Pace + Sync, R: Threads + Wait + Sync>(
     plan: &Plan,
     workers: u32,
     pace: &P,
+    logs: Logs,
 ) -> Result<(Outcome, PlatSealed), Memory>
     ensures whole { IfOk result (λ r. IsWhole plan.now r.0) }
     ensures core { IfOk result (λ r. IsCoreRun plan.now r.0.history.entries) }
     ensures sealed { IfOk result (λ r. entries_read plan.now.platform r.1.entries ≡ r.0.history.entries) }
     ensures world { IfOk result (λ r. r.1.world ≡ plan.now) }
+    ensures whole_log { logs ≡ Logs.Kept → IfOk result (λ r. r.0.history.whole ≡ true) }
 {
     let opened = Opened::new(alloc, plan)?;
-    run_opened::<Brand, P, R>(rt, alloc, plan, opened, workers, pace)
+    run_opened::<Brand, P, R>(rt, alloc, plan, opened, workers, pace, logs)
 }
 
 // The same of a history that has been opened. The call picks N.
@@ -219,6 +229,7 @@ fn run_opened<N: Naming<Plan, TlmLaw> + Send + Sync, P: Pace + Sync, R: Threads 
     opened: Opened,
     workers: u32,
     pace: &P,
+    logs: Logs,
 ) -> Result<(Outcome, PlatSealed), Memory>
     requires history { (opened.table ≡ N.table) × (opened.frame ≡ N.frame) }
     requires tickets { opened.tokens ≡ N.tokens }
@@ -227,7 +238,8 @@ fn run_opened<N: Naming<Plan, TlmLaw> + Send + Sync, P: Pace + Sync, R: Threads 
     ensures core { IfOk result (λ r. IsCoreRun plan.now r.0.history.entries) }
     ensures sealed { IfOk result (λ r. entries_read plan.now.platform r.1.entries ≡ r.0.history.entries) }
     ensures world { IfOk result (λ r. r.1.world ≡ plan.now) }
+    ensures whole_log { logs ≡ Logs.Kept → IfOk result (λ r. r.0.history.whole ≡ true) }
 {
     let built = build::<N>(alloc, opened, plan)?;
-    run::<N, P, R>(rt, alloc, built, workers, pace)
+    run::<N, P, R>(rt, alloc, built, workers, pace, logs)
 }

@@ -3,6 +3,7 @@ ghost use Rattle.std.specs.Prelude.{◌≡◌, ◌<◌, true, false, map, length
 ghost use Rattle.plat_run.specs.Actors.{is_done, number_of};
 
 use crate::actor::Actor;
+use crate::logs::{Forgetting, Logs};
 use crate::turn::JobTurn;
 use outside::Pace;
 use plat_net::{Net, Reach, TlmLaw};
@@ -17,23 +18,29 @@ use tlm_types::ObjectNo;
 
 /// Takes a job, gives it its share of turns, and takes the next one as it hands it in, until enough have finished, or
 /// none is in line: each of the others is out with another worker, or parked or at rest until one that is out lets
-/// it go on. Then a worker waits where `waits` says so, and else it leaves, since it isn't needed: where rounds are short,
+/// it go on. Then a worker waits where that pays, and else it leaves, since it isn't needed: where rounds are short,
 /// waking it would cost more than its work. The last one stays: whoever lets others go on takes one of them, and where
-/// none is out the queue gives those that rest.
+/// none is out the queue gives those that rest. Where it `forgets`, it lets memories forget now and then.
 fn work<N: Naming<Plan, TlmLaw>, P: Pace, R: Wait>(
     rt: &R,
     net: &Net<N>,
     board: &Board,
     queue: &RunQueue<Actor<N>>,
     pace: &P,
-    waits: bool,
+    forgets: bool,
 ) {
+    let waits = pays_to_wait(net.plan());
     let mut reach = net;
+    let mut forgetting = Forgetting::of(forgets);
     let mut next = queue.take_and_look(rt);
     for _ in rt.forever() {
         let (taken, moves) = next;
         next = match taken {
-            TakenJob::Took(job) => give_turns(rt, &mut reach, board, queue, pace, job, moves),
+            TakenJob::Took(job) => {
+                let handed = give_turns(rt, &mut reach, board, queue, pace, job, moves);
+                forgetting.after(rt, net, TURNS);
+                handed
+            }
             TakenJob::Nothing if waits => queue.wait_and_take(rt),
             TakenJob::Nothing | TakenJob::AllDone => return,
         };
@@ -134,16 +141,24 @@ pub(crate) fn work_all<
     N: Naming<Plan, TlmLaw> + Send + Sync,
     P: Pace + Sync,
     R: Threads + Wait + Sync,
->(rt: &R, net: &Net<N>, board: &Board, queue: &RunQueue<Actor<N>>, workers: u32, pace: &P) {
-    let waits = pays_to_wait(net.plan());
+>(
+    rt: &R,
+    net: &Net<N>,
+    board: &Board,
+    queue: &RunQueue<Actor<N>>,
+    workers: u32,
+    pace: &P,
+    logs: Logs,
+) {
+    let forgets = logs.are_forgotten();
     thread::scope(thread::scope_env(), rt, |scope| {
         for _worker in 1..workers {
-            let worker = move || work::<N, P, R>(rt, net, board, queue, pace, waits);
+            let worker = move || work::<N, P, R>(rt, net, board, queue, pace, forgets);
             if scope.spawn(worker).is_err() {
                 break;
             }
         }
-        work(rt, net, board, queue, pace, waits);
+        work(rt, net, board, queue, pace, forgets);
     });
 }
 
@@ -208,7 +223,8 @@ fn give_round<N: Naming<Plan, TlmLaw>, P: Pace, R: Wait>(
 }
 
 /// Gives turns by the caller alone, in the order in which they would come off a queue, until the first so many jobs have
-/// finished. No lock is taken to give a turn, and none for the access of a blocking initiator; nor is memory.
+/// finished. No lock is taken to give a turn, and none for the access of a blocking initiator; nor is memory. Where the logs
+/// aren't kept, it lets memories forget now and then.
 pub(crate) fn work_alone<N: Naming<Plan, TlmLaw>, P: Pace, R: Wait>(
     rt: &R,
     net: &mut Net<N>,
@@ -216,14 +232,17 @@ pub(crate) fn work_alone<N: Naming<Plan, TlmLaw>, P: Pace, R: Wait>(
     pace: &P,
     jobs: &mut [Actor<N>],
     count: u32,
+    logs: Logs,
 )
     ensures numbers { map number_of jobs.new ≡ map number_of jobs.old }
     ensures done { All (λ job. number_of job < count → is_done job ≡ true) jobs.new }
 {
+    let mut forgetting = Forgetting::of(logs.are_forgotten());
     for _ in rt.forever() {
         if !give_round(rt, net, board, pace, jobs, count) {
             return;
         }
+        forgetting.after(rt, net, count);
     }
     unreachable!()
 }

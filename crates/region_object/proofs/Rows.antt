@@ -24,7 +24,7 @@ ram : MemoryTraits
 ram = record { size = 16; latency = 10; readable = true; writable = true; fetch_add = true; enables = false; streaming = true; dmi = true; gates = 16 }
 
 with_log : MemoryTraits → List Entry → LoggedMemory
-with_log m log = record { number = 3; traits = m; first_gate = 0; log = record { entries = log; room = 8; room_bytes = 64 } }
+with_log m log = record { number = 3; traits = m; first_gate = 0; log = record { entries = log; room = 8; room_bytes = 64; whole = true } }
 
 txn : TxnId
 txn = record { initiator = 0; seq = 0 }

@@ -80,6 +80,11 @@ impl Object for Region {
         Region::log(self)
     }
 
+    fn forget(&mut self) {
+        Region::forget(self);
+        let _ = Region::log(self);
+    }
+
     fn room(&self) -> u64 {
         let log = Region::log(self);
         log.room().saturating_sub(log.len())

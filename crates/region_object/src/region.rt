@@ -81,7 +81,7 @@ impl Region {
           number = number;
           traits = traits;
           first_gate = first_gate;
-          log = record { entries = []; room = entries; room_bytes = bytes };
+          log = record { entries = []; room = entries; room_bytes = bytes; whole = true };
         }) }
     {
         let store = vec![in alloc; 0u8; traits.size as usize]?;
@@ -125,6 +125,14 @@ impl Region {
         ensures own { All (λ e. e.object ≡ ObjectNo.Memory self.now.number) self.now.log.entries }
     {
         &self.log
+    }
+
+    /// The log forgets the entries that it has in store, so that they can't be read any more. Nothing else
+    /// changes.
+    pub fn forget(&mut self)
+        ensures { self.new ≡ record self.old { log = record self.old.log { whole = self.new.log.whole } } }
+    {
+        self.log.forget();
     }
 
     /// The bytes as the log leaves them, as many as the memory's size.

@@ -1,7 +1,8 @@
 -- The places of a history's entries in its logs.
-use Rattle.std.proofs.Common.{◌≡◌, ◌≢◌, ℕ, zero, suc, ◌+◌, ◌<◌, ◌≤◌, List, [], ◌∷◌, ◌++◌, length, get_or, Option, Some, None, Bool, true, false, nat_eq, refl, ap, sym, subst, ◌∙◌, arith}
+use Rattle.std.proofs.Common.{◌≡◌, ◌≢◌, ℕ, zero, suc, ◌+◌, ◌<◌, ◌≤◌, List, [], ◌∷◌, ◌++◌, length, get_or, Option, Some, None, Bool, true, false, ◌&&◌, nat_eq, refl, ap, sym, subst, ◌∙◌, arith}
 use Rattle.std.specs.List.{AllByRecursion}
 use Rattle.std.specs.Option.{option_and_then, option_map}
+use Rattle.std.proofs.lemmas.List.{length-map}
 use Rattle.std.proofs.lemmas.Option.{slice_get_read}
 use Rattle.std.specs.Prelude.{slice_get}
 use Rattle.std.proofs.lemmas.Bool.Decides.{nat_tests}
@@ -13,7 +14,7 @@ use Rattle.tlm_model.specs.History.{IsNumbered, IsNumberedFrom}
 use Rattle.tlm_model.proofs.HistoryLemmas.{AllByRecursion-weaker}
 use Rattle.run_outcome.specs.declared.merge.window.Place.{Place}
 use Rattle.run_outcome.specs.Merge.{entries_in, merged}
-use Rattle.run_outcome.specs.Places.{HasAt, HasNoneBefore, HaveNoneBefore, StandsAt, entries_of_logs, entry_at}
+use Rattle.run_outcome.specs.Places.{HasAt, HasNoneBefore, HaveNoneBefore, StandsAt, are_whole, entries_of_logs, entry_at}
 use Rattle.run_outcome.proofs.ListLemmas.{at_map, has_element, within}
 use Rattle.run_outcome.proofs.MergeLemmas.{by_position-all, by_position-of}
 
@@ -163,3 +164,27 @@ some_has logs position number numbered below all none =
     let found = has_element (merged logs) position below in
     let has = place_of logs position found.element found.at in
     none has.place found.element (omega (arith, entry_log_within logs has.place found.element has.at)) has.at (omega (arith, numbered_at 0 (merged logs) position found.element numbered found.at))
+
+-- a log, where an entry of the history stands
+module _ (logs : List LogView) (position : ℕ) (place : Place) (log : LogView) (stands : StandsAt (entries_of_logs logs) position place) (is : log ≡ get_or logs place.log log) where
+  below : place.log < length logs
+  below = omega (arith, entry_log_within (entries_of_logs logs) place stands.entry stands.there, length-map logs (λ (x : LogView). x.entries))
+
+  pub stands_same : slice_get log.entries place.index ≡ slice_get (merged (entries_of_logs logs)) position
+  stands_same = sym (ap (option_and_then (λ (l : List Entry). slice_get l place.index)) (log_at logs place.log log below is)) ∙ stands.there ∙ sym stands.at
+
+  pub stands_whole : are_whole logs ≡ true → log.whole ≡ true
+  stands_whole whole = whole_at logs place.log log whole (slice_get_read logs (length logs) place.log log refl below is)
+    where
+      first : (a b : Bool) → (a && b) ≡ true → a ≡ true
+      first true b both = refl
+      first false b both = both
+
+      second : (a b : Bool) → (a && b) ≡ true → b ≡ true
+      second true b both = both
+      second false b both = cc
+
+      whole_at : (all : List LogView) (k : ℕ) (x : LogView) → are_whole all ≡ true → slice_get all k ≡ Some x → x.whole ≡ true
+      whole_at [] k x one at = cc
+      whole_at (y ∷ all) zero x one at = let same : y ≡ x = cc in ap (λ (v : LogView). v.whole) (sym same) ∙ first y.whole (are_whole all) one
+      whole_at (y ∷ all) (suc k) x one at = whole_at all k x (second y.whole (are_whole all) one) at

@@ -1,14 +1,19 @@
 -- Where the entries of a history stand in its logs.
-use Rattle.std.specs.Prelude.{ℕ, ◌≡◌, ◌≢◌, ◌<◌, List, map, Option, Some, slice_get}
+use Rattle.std.specs.Prelude.{ℕ, ◌≡◌, ◌≢◌, ◌<◌, Bool, List, map, Option, Some, slice_get}
+use Rattle.std.specs.List.{list_all}
 use Rattle.std.specs.Option.{option_and_then}
 use Rattle.tlm_types.specs.declared.entry.Entry.{Entry}
 use Rattle.entry_log.specs.Log.{LogView}
 use Rattle.run_outcome.specs.declared.merge.window.Place.{Place}
 use Rattle.run_outcome.specs.Merge.{merged}
 
--- what is seen of a merged log: its entries in order
+-- what is seen of a merged log: its entries in order, and whether all its logs have theirs in store
 pub record MergedView : Type 0 where
   pub entries : List Entry
+  pub whole : Bool
+
+abbrev pub are_whole : List LogView → Bool
+are_whole logs = list_all (λ (log : LogView). log.whole) logs
 
 abbrev pub entries_of_logs : List LogView → List (List Entry)
 entries_of_logs logs = map (λ (log : LogView). log.entries) logs

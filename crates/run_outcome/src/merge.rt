@@ -1,8 +1,8 @@
 // Logs that are read as one, in the order of the positions of their entries.
-ghost use Rattle.std.specs.Prelude.{◌≡◌, ◌<◌, length, IfOk, slice_get};
+ghost use Rattle.std.specs.Prelude.{◌≡◌, ◌<◌, length, true, IfOk, slice_get};
 ghost use Rattle.tlm_model.specs.History.{IsNumbered};
 ghost use Rattle.run_outcome.specs.Merge.{merged};
-ghost use Rattle.run_outcome.specs.Places.{entries_of_logs};
+ghost use Rattle.run_outcome.specs.Places.{are_whole, entries_of_logs};
 
 mod window;
 
@@ -13,24 +13,26 @@ use tlm_types::Memory;
 use window::Window;
 
 /// The entries of several logs in the order of their positions, which count from 0. They stay in their
-/// logs. Contracts see the list of them.
+/// logs. Contracts see the list of them, and whether all are in store, so that they can be read.
 #[derive(Drop)]
 pub struct MergedLog {
     logs: Vec<Log>,
     count: u64,
+    whole: bool,
 }
 
 impl Model for MergedLog {
     ghost use Rattle.std.specs.Prelude.{◌≡◌, length};
     ghost use Rattle.tlm_model.specs.History.{IsNumbered};
     ghost use Rattle.run_outcome.specs.Merge.{merged};
-    ghost use Rattle.run_outcome.specs.Places.{MergedView, entries_of_logs};
+    ghost use Rattle.run_outcome.specs.Places.{MergedView, are_whole, entries_of_logs};
 
     ghost Value = { MergedView };
 
-    ghost view = { λ m. record { entries = merged (entries_of_logs m.logs.items) } };
+    ghost view = { λ m. record { entries = merged (entries_of_logs m.logs.items); whole = m.whole } };
 
-    ghost invariant = { λ m. IsNumbered (merged (entries_of_logs m.logs.items)) × (m.count ≡ length (merged (entries_of_logs m.logs.items))) };
+    ghost invariant = { λ m. IsNumbered (merged (entries_of_logs m.logs.items)) × (m.count ≡ length (merged (entries_of_logs m.logs.items)))
+        × (m.whole ≡ are_whole m.logs.items) };
 }
 
 impl MergedLog {
@@ -39,9 +41,18 @@ impl MergedLog {
     pub fn of_logs(logs: Vec<Log>, count: u64) -> MergedLog
         requires numbered { IsNumbered (merged (entries_of_logs logs.items)) }
         requires counted { count ≡ length (merged (entries_of_logs logs.items)) }
-        ensures { result.entries ≡ merged (entries_of_logs logs.items) }
+        ensures entries { result.entries ≡ merged (entries_of_logs logs.items) }
+        ensures whole { result.whole ≡ are_whole logs.items }
     {
-        MergedLog { logs, count }
+        let whole = are_whole(&logs);
+        MergedLog { logs, count, whole }
+    }
+
+    /// All entries are in store, so that they can be read.
+    pub fn is_whole(&self) -> bool
+        ensures { result ≡ self.now.whole }
+    {
+        self.whole
     }
 
     /// How many entries there are.
@@ -53,6 +64,7 @@ impl MergedLog {
 
     /// A reader of the entries. Its only error is want of memory.
     pub fn reader(&self, alloc: Global) -> Result<LogReader<'_>, Memory>
+        requires { self.now.whole ≡ true }
         ensures { IfOk result (λ reader. reader ≡ self.now) }
     {
         let window = Window::over(alloc, self.logs.len())?;
@@ -74,16 +86,17 @@ pub struct LogReader<'a> {
 }
 
 impl<'a> Model for LogReader<'a> {
-    ghost use Rattle.std.specs.Prelude.{◌≡◌, length};
+    ghost use Rattle.std.specs.Prelude.{◌≡◌, length, true};
     ghost use Rattle.tlm_model.specs.History.{IsNumbered};
     ghost use Rattle.run_outcome.specs.Merge.{merged};
-    ghost use Rattle.run_outcome.specs.Places.{MergedView, entries_of_logs};
+    ghost use Rattle.run_outcome.specs.Places.{MergedView, are_whole, entries_of_logs};
 
     ghost Value = { MergedView };
 
-    ghost view = { λ r. record { entries = merged (entries_of_logs r.logs.now) } };
+    ghost view = { λ r. record { entries = merged (entries_of_logs r.logs.now); whole = true } };
 
-    ghost invariant = { λ r. IsNumbered (merged (entries_of_logs r.logs.now)) × (r.count ≡ length (merged (entries_of_logs r.logs.now))) };
+    ghost invariant = { λ r. IsNumbered (merged (entries_of_logs r.logs.now)) × (r.count ≡ length (merged (entries_of_logs r.logs.now)))
+        × (are_whole r.logs.now ≡ true) };
 }
 
 impl<'a> LogReader<'a> {
@@ -100,10 +113,18 @@ impl<'a> LogReader<'a> {
         requires { position < length self.old.entries }
         ensures entries { self.new ≡ self.old }
         ensures within { result.1 < length result.0.now.entries }
+        ensures whole { result.0.now.whole ≡ true }
         ensures same { slice_get result.0.now.entries result.1 ≡ slice_get self.old.entries position }
     {
         let logs = self.logs;
         let place = self.window.place_of(logs, position);
         (&logs[place.log], place.index)
     }
+}
+
+// All these logs have their entries in store.
+fn are_whole(logs: &[Log]) -> bool
+    ensures { result ≡ are_whole logs.now }
+{
+    logs.iter().all(|log| log.is_whole())
 }

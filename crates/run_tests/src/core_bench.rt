@@ -44,6 +44,7 @@ fn row_at(rt: &impl Abort, reader: &mut LogReader<'_>, position: u64) -> Row {
 /// The history has just these entries.
 pub(crate) fn expect_entries(rt: &impl Abort, alloc: Global, outcome: &Outcome, want: &[Row]) {
     assert!(rt; outcome.history.len() == want.len() as u64);
+    assert!(rt; outcome.history.is_whole());
     let mut reader = outcome.history.reader(alloc).expect(rt, "a reader");
     for (position, row) in want.iter().enumerate() {
         let found = row_at(rt, &mut reader, position as u64);

@@ -5,7 +5,8 @@
 //! - `bench` makes plans of texts.
 //! - `nets` has a net that was just built, `transports` accesses along their routes.
 //! - `runs` has runs by 1 to 4 workers: that they end, that workers run at once, that rounds hold
-//!   initiators back, and whom the pace is told of. `paces` has the paces that hold initiators and count.
+//!   initiators back, whom the pace is told of, and that a run whose logs are forgotten ends as any other.
+//!   `paces` has the paces that hold initiators and count.
 //! - `phases` has runs of four-phase initiators, some beside blocking ones, by 1, 2, 4 and 16 workers.
 //! - `core_bench` makes plans for the one-thread core, and compares entries and ends of an outcome with rows that
 //!   were made by hand. `schedules` has a run by a schedule: when it is complete. `reports` has a report whose

@@ -18,6 +18,7 @@ const SCRIPT: &str = "write 0x10 deadbeef\nread 0x10 4\n";
 fn print_run<R: Abort>(rt: &R, alloc: Global, out: &mut VecSink) -> Result<(), PrintFault> {
     let plan = plan_of(rt, alloc, PLATFORM, SCRIPT);
     let outcome = run_in_order(alloc, &plan, &NoPace).expect(rt, "a run");
+    assert!(rt; outcome.history.is_whole());
     print(alloc, out, &plan, &outcome, Trace::All)
 }
 

@@ -1,7 +1,8 @@
 // Runs by worker threads.
 use crate::bench::plan_of;
 use crate::paces::{Holding, InTurn, Pacing, Watching};
-use plat_run::run_plan;
+use outside::NoPace;
+use plat_run::{Logs, run_plan};
 use route_plan::Plan;
 use run_outcome::{MergedLog, Outcome};
 use std::alloc::Global;
@@ -34,7 +35,9 @@ pub(crate) fn run_of<R: Threads + Wait + Abort + Sync>(
     workers: u32,
     pace: Pacing<'_>,
 ) -> Outcome {
-    let (outcome, sealed) = run_plan(rt, alloc, plan, workers, &pace).expect(rt, "a run");
+    let (outcome, sealed) = run_plan(rt, alloc, plan, workers, &pace, Logs::Kept).expect(
+        rt, "a run",
+    );
     assert!(rt; outcome.complete);
     assert!(rt; sealed.len() == outcome.history.len());
     outcome
@@ -97,8 +100,22 @@ const FOUR_AHEAD: &str = "version = 1\nquantum = 1000000\n\
     [[initiator]]\nname = 'four'\nstyle = 'blocking'\nscript = 'd'\nbind = 'ram'\n\
     [[memory]]\nname = 'ram'\nsize = 16\n";
 
+// With logs that are forgotten the same comes of a run, by one worker and by several, but its history can't be read. The
+// first share of turns has an access, after which the memories forget for the first time.
+#[test]
+fn what_is_forgotten_is_counted(rt: HostRuntime) {
+    let plan = plan_of(rt.alloc(), BUS, &[ONE, TWO]).expect(&rt, "a plan");
+    for workers in 1..4 {
+        let run = run_plan(&rt, rt.alloc(), &plan, workers, &NoPace, Logs::Forgotten);
+        let (outcome, _) = run.expect(&rt, "a run");
+        expect_bus(&rt, &outcome);
+        assert!(rt; !outcome.history.is_whole());
+    }
+}
+
 // The initiator of the entry at position 0, which is that one's first access.
 fn first_of(rt: &impl Abort, alloc: Global, history: &MergedLog) -> u32 {
+    assert!(rt; history.is_whole());
     let mut reader = history.reader(alloc).expect(rt, "a reader");
     assert!(rt; reader.len() > 0);
     let (log, place) = reader.at(0);

@@ -6,7 +6,8 @@
 //! - `Shared` has an object, its seat in the history and its book of tickets under a lock. `step` makes
 //!   one call: it joins a note, draws where the call is admitted, applies it and copies a note.
 //!   `step_leaving` does so with a note that is inside a gate, and leaves it after the draw.
-//!   `step_alone` does so without the lock, for the only one who has the object.
+//!   `step_alone` does so without the lock, for the only one who has the object. `forget` lets the object's
+//!   log forget the entries that it has in store: an object whose log nobody reads needs no more memory.
 //!
 //! Promises: a call that is admitted adds one entry to the history, which is that of the object's log,
 //! and spends one ticket; any other adds none. The reply is what the object gives in a state that its

@@ -330,6 +330,15 @@ impl<O: Object, G, W: Law<Content, G> + World<G, O>, N: Naming<G, W>> Locked<O, 
         }
     }
 
+    /// The object's log may forget the entries that it has in store. Nothing is drawn.
+    pub fn forget(&mut self)
+        ensures number { self.new.number ≡ self.old.number }
+        ensures built { O.built self.new.object ≡ O.built self.old.object }
+        ensures entries { O.entries self.new.object ≡ O.entries self.old.object }
+    {
+        self.object.forget();
+    }
+
     /// The object, its seat and its book.
     pub fn into_parts(self) -> (O, ObjectSeat<Content, G, W>, Book)
         ensures object { result.0 ≡ self.object }

@@ -111,6 +111,15 @@ pub trait Object {
     fn log(&self) -> &Log
         ensures { result.now.entries ≡ map (logged (built self.now).object) (entries self.now) };
 
+    /// Its log may forget the entries that it has in store. Nothing else changes.
+    fn forget(&mut self)
+        ensures built { built self.new ≡ built self.old }
+        ensures state { follows self.new }
+        ensures entries { entries self.new ≡ entries self.old }
+        ensures room { room self.new ≡ room self.old }
+        ensures bytes { bytes_left self.new ≡ bytes_left self.old }
+        ensures items { carried self.new ≡ carried self.old };
+
     /// How many entries it has room for.
     fn room(&self) -> u64
         ensures { result ≡ room self.now };

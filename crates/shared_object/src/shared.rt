@@ -250,6 +250,13 @@ impl<O: Object, G, W: Law<Content, G> + World<G, O>, N: Naming<G, W>> Shared<O, 
         locked.step(history, tickets, note, ticket, None, call)
     }
 
+    /// The object's log may forget the entries that it has in store, so that they can't be read any more.
+    /// Contracts see no change: all that they say of the object's entries stays true. The lock is taken.
+    pub fn forget<R: Wait>(&self, rt: &R) {
+        let mut guard = self.lock.lock(rt);
+        guard.forget();
+    }
+
     /// The object, its seat and its book. The log stands in the seat, and a ticket is out for each
     /// entry that was planned and isn't there.
     pub fn into_parts<R: Wait>(self, rt: &R) -> (O, ObjectSeat<Content, G, W>, Book)

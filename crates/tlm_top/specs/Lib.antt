@@ -1,3 +1,4 @@
 pub mod Headline
 pub mod Complete
 pub mod Serving
+pub mod Kept

@@ -1,17 +1,18 @@
 // The top call: from the words to the report.
-ghost use Rattle.std.specs.Prelude.{◌≤◌};
+ghost use Rattle.std.specs.Prelude.{◌≡◌, ◌≤◌, true};
 ghost use Rattle.command_words.specs.Commands.{line_of, texts};
 ghost use Rattle.trace_print.specs.Writes.{Tells};
 ghost use Rattle.run_outcome.specs.Outcome.{IsReportable};
 ghost use Rattle.trace_print.specs.Writes.{IsPrinted};
 ghost use Rattle.route_plan.specs.Valid.{IsValid};
 ghost use Rattle.tlm_top.specs.Headline.{IsAnswer, IsExplained, IsRunOf, written_of};
+ghost use Rattle.tlm_top.specs.Kept.{logs_for, logs_of};
 ghost use Rattle.plan_loads.specs.Exits.{told_of};
 
 use command_words::{Command, read_words};
 use outside::{Library, Pace, Sink};
 use plan_loads::{Exit, plan_of, print_totals, tell, workers_of};
-use plat_run::run_plan;
+use plat_run::{Logs, run_plan};
 use route_plan::Plan;
 use run_outcome::Outcome;
 use std::alloc::Global;
@@ -20,6 +21,26 @@ use std::thread::Threads;
 use tlm_model::Trace;
 use tlm_types::Memory;
 use trace_print::{PrintFault, print};
+
+// Whether a report with this trace reads the logs.
+fn logs_for(trace: Trace) -> Logs
+    ensures { result ≡ logs_for trace }
+{
+    match trace {
+        Trace::All | Trace::Accesses => Logs::Kept,
+        Trace::None => Logs::Forgotten,
+    }
+}
+
+// Whether what a command line wants of a run reads the logs.
+fn logs_of(command: Command) -> Logs
+    ensures { result ≡ logs_of (line_of command.entry) }
+{
+    match command {
+        Command::Run { trace, .. } => logs_for(trace),
+        Command::Script { .. } | Command::Gen { .. } => Logs::Kept,
+    }
+}
 
 // Writes what a command line wants of a run: its report, or the line of its totals.
 fn print_asked<K: Sink>(
@@ -31,6 +52,7 @@ fn print_asked<K: Sink>(
 ) -> Result<(), PrintFault>
     requires valid { IsValid plan.now }
     requires reportable { IsReportable plan.now outcome.now }
+    requires kept { logs_of (line_of command) ≡ Logs.Kept → outcome.now.history.whole ≡ true }
     ensures printed { IsPrinted result (record {
       taken_before = K.taken out.old;
       taken_after = K.taken out.new;
@@ -46,7 +68,7 @@ fn print_asked<K: Sink>(
     }
 }
 
-// Runs a plan by the workers of a command line, and writes what it wants of the run.
+// Runs a plan by the workers of a command line, and writes what it wants of the run. Logs that nobody will read aren't kept.
 fn run_and_print<R: Threads + Wait + Sync, K: Sink, P: Pace + Sync>(
     rt: &R,
     alloc: Global,
@@ -64,7 +86,8 @@ fn run_and_print<R: Threads + Wait + Sync, K: Sink, P: Pace + Sync>(
     }) (line_of command.entry) plan.now }
     ensures later { K.faults out.old ≤ K.faults out.new }
 {
-    let Ok((outcome, sealed)) = run_plan(rt, alloc, plan, workers_of(command), pace) else {
+    let logs = logs_of(command);
+    let Ok((outcome, sealed)) = run_plan(rt, alloc, plan, workers_of(command), pace, logs) else {
         return Exit::NoMemory;
     };
     match print_asked(alloc, out, command, plan, &outcome) {

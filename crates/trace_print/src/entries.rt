@@ -1,5 +1,5 @@
 // The lines of the entries of a history.
-ghost use Rattle.std.specs.Prelude.{◌≡◌, ◌≢◌, ◌<◌, ◌∷◌, [], ◌++◌, Some, IfSome, IfNone, length, slice_get, map, codes, false, if◌then◌else◌};
+ghost use Rattle.std.specs.Prelude.{◌≡◌, ◌≢◌, ◌<◌, ◌∷◌, [], ◌++◌, Some, IfSome, IfNone, length, slice_get, map, codes, true, false, if◌then◌else◌};
 ghost use Rattle.std.specs.Fmt.{decimal};
 ghost use Rattle.std.specs.List.{join_with_byte};
 ghost use Rattle.tlm_types.specs.declared.entry.Entry.{Entry};
@@ -7,6 +7,8 @@ ghost use Rattle.tlm_types.specs.declared.entry.What.TheVariants.{Granted, Call}
 ghost use Rattle.report_model.specs.Report.{entry_words, has_operand, operand_text, traced, txn_word, what_words};
 ghost use Rattle.tlm_types.specs.Entries.{is_access};
 ghost use Rattle.tlm_model.specs.Text.{line_of};
+ghost use Rattle.tlm_model.specs.declared.trace.Trace.TheVariants as Traces;
+ghost use Rattle.run_outcome.specs.Places.{MergedView};
 ghost use Rattle.line_text.specs.AccessText.{access_text, IsShort};
 ghost use Rattle.line_text.specs.EventText.{event_text, what_of, IsBrief};
 ghost use Rattle.line_text.specs.declared.event.Event.{Event};
@@ -204,7 +206,8 @@ fn put_told<K: Sink>(out: &mut K, line: &mut Line, what: &What)
 // What happened at this place of the log, after a space and with the end of the line.
 #[inline(always)]
 fn put_what<K: Sink>(out: &mut K, line: &mut Line, log: &Log, index: u64)
-    requires { index < length log.now.entries }
+    requires whole { log.now.whole ≡ true }
+    requires index { index < length log.now.entries }
     ensures { (e : Entry) → slice_get log.now.entries index ≡ Some e →
         Puts (page (K.taken out.old) (K.faults out.old) line.old)
         (page (K.taken out.new) (K.faults out.new) line.new) (codes " " ++ line_of (what_words e.what)) }
@@ -232,7 +235,8 @@ pub fn put_entry<K: Sink>(
     log: &Log,
     index: u64,
 )
-    requires { index < length log.now.entries }
+    requires whole { log.now.whole ≡ true }
+    requires index { index < length log.now.entries }
     ensures { (e : Entry) → slice_get log.now.entries index ≡ Some e → ends ≡ ends_at platform.now e.object →
         Puts (page (K.taken out.old) (K.faults out.old) line.old)
         (page (K.taken out.new) (K.faults out.new) line.new) (line_of (entry_words platform.now e)) }
@@ -246,7 +250,8 @@ pub fn put_entry<K: Sink>(
 /// without an operand.
 #[inline(always)]
 pub fn access_line<'a>(platform: &'a Platform, log: &'a Log, index: u64) -> Option<AccessLine<'a>>
-    requires { index < length log.now.entries }
+    requires whole { log.now.whole ≡ true }
+    requires index { index < length log.now.entries }
     ensures short { IfSome result IsShort }
     ensures text { (e : Entry) → slice_get log.now.entries index ≡ Some e →
         IfSome result (λ access. access_text access ≡ line_of (entry_words platform.now e)) }
@@ -296,7 +301,8 @@ fn event_of(what: &What) -> Option<Event>
 /// as short as those of a run.
 #[inline(always)]
 pub fn event_line<'a>(plan: &'a Plan, log: &Log, index: u64) -> Option<EventLine<'a>>
-    requires { index < length log.now.entries }
+    requires whole { log.now.whole ≡ true }
+    requires index { index < length log.now.entries }
     ensures brief { IfSome result IsBrief }
     ensures text { (e : Entry) → slice_get log.now.entries index ≡ Some e →
         IfSome result (λ line. event_text line ≡ line_of (entry_words plan.now.platform e)) }
@@ -316,7 +322,8 @@ pub fn event_line<'a>(plan: &'a Plan, log: &Log, index: u64) -> Option<EventLine
 
 /// The trace shows the entry at this place.
 pub fn is_shown(log: &Log, index: u64, trace: Trace) -> bool
-    requires { index < length log.now.entries }
+    requires whole { log.now.whole ≡ true }
+    requires index { index < length log.now.entries }
     ensures { (e : Entry) → slice_get log.now.entries index ≡ Some e → traced trace (e ∷ [])
         ≡ (if result then e ∷ [] else []) }
 {
@@ -330,7 +337,8 @@ pub fn is_shown(log: &Log, index: u64, trace: Trace) -> bool
 // Puts the line of the entry at this place, where it is no short access.
 #[inline(always)]
 fn put_other<K: Sink>(out: &mut K, line: &mut Line, plan: &Plan, log: &Log, index: u64)
-    requires { index < length log.now.entries }
+    requires whole { log.now.whole ≡ true }
+    requires index { index < length log.now.entries }
     ensures { (e : Entry) → slice_get log.now.entries index ≡ Some e →
         Puts (page (K.taken out.old) (K.faults out.old) line.old)
         (page (K.taken out.new) (K.faults out.new) line.new) (line_of (entry_words plan.now.platform e)) }
@@ -354,7 +362,8 @@ fn put_traced<K: Sink>(
     index: u64,
     trace: Trace,
 )
-    requires { index < length log.now.entries }
+    requires whole { log.now.whole ≡ true }
+    requires index { index < length log.now.entries }
     ensures { (e : Entry) → slice_get log.now.entries index ≡ Some e →
         Puts (page (K.taken out.old) (K.faults out.old) line.old)
         (page (K.taken out.new) (K.faults out.new) line.new)
@@ -371,8 +380,8 @@ fn put_traced<K: Sink>(
     }
 }
 
-/// Puts the lines of the entries that a trace shows, in order.
-pub fn put_entries<K: Sink>(
+// Puts the lines of the entries that a trace shows, in order.
+fn put_entries<K: Sink>(
     out: &mut K,
     line: &mut Line,
     plan: &Plan,
@@ -383,11 +392,27 @@ pub fn put_entries<K: Sink>(
         (page (K.taken out.new) (K.faults out.new) line.new)
         (text_of (map (entry_words plan.now.platform) (traced trace reader.old.entries))) }
 {
-    if let Trace::None = trace {
-        return;
-    }
     for position in 0..reader.len() {
         let (log, index) = reader.at(position);
         put_traced(out, line, plan, log, index, trace);
+    }
+}
+
+/// Puts the lines of the entries that a trace shows, in order. There is no reader of them where it shows none.
+pub fn put_shown<K: Sink>(
+    out: &mut K,
+    line: &mut Line,
+    plan: &Plan,
+    reader: Option<LogReader<'_>>,
+    trace: Trace,
+)
+    requires { IfNone reader (trace ≡ Traces.None) }
+    ensures { (log : MergedView) → IfSome reader.entry (λ r. r ≡ log) →
+        Puts (page (K.taken out.old) (K.faults out.old) line.old)
+        (page (K.taken out.new) (K.faults out.new) line.new)
+        (text_of (map (entry_words plan.now.platform) (traced trace log.entries))) }
+{
+    if let Some(mut reader) = reader {
+        put_entries(out, line, plan, &mut reader, trace);
     }
 }

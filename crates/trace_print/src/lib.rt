@@ -1,6 +1,7 @@
 //! The report of a run.
 //!
-//! - `print` writes the report of an outcome to a sink, with the entries that a `Trace` shows.
+//! - `print` writes the report of an outcome to a sink, with the entries that a `Trace` shows. Where it
+//!   shows some, the history has to be in store.
 //! - `PrintFault` tells why it didn't: the sink failed, or memory was refused.
 //!
 //! Promises: on Ok the sink took the report of the definitions, byte for byte. Where the sink fails it
@@ -12,10 +13,11 @@
 //! the history.
 #![tactic(auto)]
 
-ghost use Rattle.std.specs.Prelude.{◌≡◌, ◌≤◌, ◌∷◌, [], codes};
+ghost use Rattle.std.specs.Prelude.{◌≡◌, ◌≢◌, ◌≤◌, ◌∷◌, [], codes, true, IfOk, IfSome, IfNone};
 ghost use Rattle.std.specs.Fmt.{decimal};
 ghost use Rattle.report_model.specs.Report.{report_of};
 ghost use Rattle.tlm_model.specs.Text.{line_of};
+ghost use Rattle.tlm_model.specs.declared.trace.Trace.TheVariants as Traces;
 ghost use Rattle.trace_print.specs.Putting.{Puts, page};
 ghost use Rattle.run_outcome.specs.Outcome.{IsReportable};
 ghost use Rattle.trace_print.specs.Writes.{IsPrinted};
@@ -29,13 +31,13 @@ mod names;
 mod words;
 
 use crate::ends::put_initiators;
-use crate::entries::put_entries;
+use crate::entries::put_shown;
 use crate::line::{Line, end_line, flush, put};
 use crate::memories::put_memories;
 use crate::words::put_number;
 use outside::Sink;
 use route_plan::Plan;
-use run_outcome::{LogReader, Outcome};
+use run_outcome::{LogReader, MergedLog, Outcome};
 use std::alloc::Global;
 use thiserror::Error;
 use tlm_model::Trace;
@@ -82,24 +84,41 @@ fn put_count<K: Sink>(out: &mut K, line: &mut Line, count: u64)
     end_line(out, line);
 }
 
+// A reader of a history, unless the trace shows none of its entries. Its only error is want of memory.
+fn reader_for(
+    alloc: Global,
+    history: &MergedLog,
+    trace: Trace,
+) -> Result<Option<LogReader<'_>>, Memory>
+    requires { trace ≢ Traces.None → history.now.whole ≡ true }
+    ensures some { IfOk result (λ reader. IfSome reader (λ r. r ≡ history.now)) }
+    ensures none { IfOk result (λ reader. IfNone reader (trace ≡ Traces.None)) }
+{
+    match trace {
+        Trace::None => Ok(None),
+        Trace::All | Trace::Accesses => Ok(Some(history.reader(alloc)?)),
+    }
+}
+
 // The whole report, of which the end of the last line may still wait.
 fn put_report<K: Sink>(
     out: &mut K,
     line: &mut Line,
     plan: &Plan,
     outcome: &Outcome,
-    reader: &mut LogReader<'_>,
+    reader: Option<LogReader<'_>>,
     trace: Trace,
 )
     requires reportable { IsReportable plan.now outcome.now }
-    requires reader { reader.old ≡ outcome.now.history }
+    requires reader { IfSome reader (λ r. r ≡ outcome.now.history) }
+    requires none { IfNone reader (trace ≡ Traces.None) }
     ensures { Puts (page (K.taken out.old) (K.faults out.old) line.old)
         (page (K.taken out.new) (K.faults out.new) line.new)
         (report_of trace plan.now outcome.now.history.entries) }
 {
     let platform = plan.platform();
     put_title(out, line);
-    put_entries(out, line, plan, reader, trace);
+    put_shown(out, line, plan, reader, trace);
     put_initiators(
         out,
         line,
@@ -118,7 +137,8 @@ fn put_report<K: Sink>(
 /// Prints the report of an outcome of this plan: its head, a line for each entry that the trace shows,
 /// how each initiator ended with what was refused to it, the bytes of each memory that aren't zeros, 16
 /// a line, and the number of entries. Times are in picoseconds; addresses, offsets and lengths in
-/// bytes. After Failed the sink took a prefix of the report, and after Memory nothing.
+/// bytes. Where the trace shows no entry, the history needn't be in store. After Failed the sink took a
+/// prefix of the report, and after Memory nothing.
 pub fn print<K: Sink>(
     alloc: Global,
     out: &mut K,
@@ -126,7 +146,8 @@ pub fn print<K: Sink>(
     outcome: &Outcome,
     trace: Trace,
 ) -> Result<(), PrintFault>
-    requires { IsReportable plan.now outcome.now }
+    requires reportable { IsReportable plan.now outcome.now }
+    requires whole { trace ≢ Traces.None → outcome.now.history.whole ≡ true }
     ensures printed { IsPrinted result (record {
       taken_before = K.taken out.old;
       taken_after = K.taken out.new;
@@ -136,8 +157,8 @@ pub fn print<K: Sink>(
     ensures later { K.faults out.old ≤ K.faults out.new }
 {
     let mut line = Line::with_room(alloc)?;
-    let mut reader = outcome.history.reader(alloc)?;
-    put_report(out, &mut line, plan, outcome, &mut reader, trace);
+    let reader = reader_for(alloc, &outcome.history, trace)?;
+    put_report(out, &mut line, plan, outcome, reader, trace);
     flush(out, &mut line);
     if line.has_failed() {
         return Err(PrintFault::Failed);

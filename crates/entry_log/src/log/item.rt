@@ -1,14 +1,12 @@
 // The items that a log keeps of its entries. A long history is as large as its items, so what most
 // entries have is kept in a short form, and the fields of an item are in an order that leaves no room
 // between them.
-ghost use Rattle.std.specs.Prelude.{◌≡◌, ◌+◌, ◌^◌, ◌<◌, length, Some, IfSome, IsSome, IsTrue};
-ghost use Rattle.entry_log.specs.LogItem.{access_in, facts_from, full_access, full_head, full_way, head_in, item_for, long_form, plain_in, short_facts, short_span, span_from, stored_at, IsOrdered, FitsItems, IsShortFor};
+ghost use Rattle.std.specs.Prelude.{◌≡◌, ◌+◌, ◌^◌, ◌<◌, length, Some, IfSome, IsTrue};
+ghost use Rattle.entry_log.specs.LogItem.{access_in, facts_from, full_access, full_head, full_way, head_in, item_for, long_form, plain_in, short_facts, short_span, stored_at, IsOrdered, FitsItems, IsShortFor};
 ghost use Rattle.entry_log.specs.declared.log.long.Event.TheVariants as events;
 ghost use Rattle.tlm_types.specs.declared.words.ObjectNo.TheVariants.{Memory};
 
-use super::long::{
-    LongItem, PlacedAccess, Plain, Span, access_of, facts_of, head_of, span_of, what_of,
-};
+use super::long::{LongItem, PlacedAccess, Plain, Span, access_of, facts_of, head_of, what_of};
 use std::mem::size_of;
 use tlm_types::{Command, Facts, Head, ObjectNo, Phase, Ps, Response, TlmSync, TxnId, Way, What};
 
@@ -196,22 +194,6 @@ impl Item {
             } => Some(placed_access(Way::Direct(*gate as u32), *length, access, head)),
             Item::Long(place) => access_of(&long[*place]),
             _ => None,
-        }
-    }
-
-    // Where the bytes of an access stand.
-    #[inline(always)]
-    pub(super) fn span(&self, long: &[LongItem]) -> Span
-        requires placed { FitsItems (length long.now) self.now }
-        requires access { let item = long_form long.now self.now in IsSome (span_from item.start item.event) }
-        ensures { let item = long_form long.now self.now in span_from item.start item.event ≡ Some result }
-    {
-        match self {
-            Item::Access { length, access, .. } | Item::Direct { length, access, .. } => {
-                short_span(access.command, access.start, *length)
-            }
-            Item::Long(place) => span_of(&long[*place]),
-            _ => unreachable!(),
         }
     }
 }

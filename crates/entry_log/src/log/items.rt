@@ -1,6 +1,6 @@
 // The items of a log: those of most entries in a short form, and the others in a second list.
-ghost use Rattle.std.specs.Prelude.{◌≡◌, ◌<◌, [], ◌∷◌, ◌++◌, length, Some, IsOk, IsSome, IfOk, OnOk, OnErr, slice_get, option_map, option_and_then};
-ghost use Rattle.entry_log.specs.LogItem.{access_in, facts_from, head_in, item_for, long_form, plain_in, span_at, stored_at, IsOrdered, FitsItems};
+ghost use Rattle.std.specs.Prelude.{◌≡◌, ◌^◌, ◌<◌, [], ◌∷◌, ◌++◌, length, Some, IsOk, IfOk, OnOk, OnErr, slice_get, option_map, option_and_then};
+ghost use Rattle.entry_log.specs.LogItem.{access_in, facts_from, head_in, item_for, long_form, plain_in, stored_at, IsOrdered, FitsItems};
 ghost use Rattle.entry_log.specs.declared.log.long.Event.TheVariants as events;
 
 use super::item::{Item, short_access, short_event};
@@ -39,7 +39,8 @@ impl Items {
     }
 
     pub(super) fn len(&self) -> usize
-        ensures { result ≡ length self.now.items }
+        ensures len { result ≡ length self.now.items }
+        ensures small { result < 2 ^ 63 }
     {
         self.items.len()
     }
@@ -48,6 +49,13 @@ impl Items {
         ensures { result ≡ self.now.room }
     {
         self.room
+    }
+
+    pub(super) fn clear(&mut self)
+        ensures { self.new ≡ record self.old { items = [] } }
+    {
+        self.items.clear();
+        self.long.clear();
     }
 
     // Appends an entry that is no access. Its only error is want of memory.
@@ -140,14 +148,5 @@ impl Items {
         ensures { result ≡ option_and_then access_in (slice_get self.now.items index) }
     {
         self.items[index].access(&self.long)
-    }
-
-    // Where the bytes of an access stand.
-    #[inline(always)]
-    pub(super) fn span(&self, index: usize) -> Span
-        requires { IsSome (span_at self.now.items index) }
-        ensures { span_at self.now.items index ≡ Some result }
-    {
-        self.items[index].span(&self.long)
     }
 }

@@ -1,6 +1,6 @@
 // The long form of a log's items, which has room for any entry.
-ghost use Rattle.std.specs.Prelude.{◌≡◌, false, Some, IsSome};
-ghost use Rattle.entry_log.specs.LogItem.{access_in, facts_from, facts_in, head_in, item_for, plain_in, plain_what, span_from, span_in, stored_at};
+ghost use Rattle.std.specs.Prelude.{◌≡◌, false, Some};
+ghost use Rattle.entry_log.specs.LogItem.{access_in, facts_from, facts_in, head_in, item_for, plain_in, plain_what, span_in, stored_at};
 ghost use Rattle.tlm_types.specs.Entries.{is_access};
 
 use tlm_types::{
@@ -132,16 +132,6 @@ pub(super) fn facts_of(item: &LongItem) -> Option<Facts>
     match &item.event {
         Event::Plain(_) => None,
         Event::Access(access) => Some(facts_in(access)),
-    }
-}
-
-pub(super) fn span_of(item: &LongItem) -> Span
-    requires { IsSome (span_from item.now.start item.now.event) }
-    ensures { span_from item.now.start item.now.event ≡ Some result }
-{
-    match &item.event {
-        Event::Access(access) => span_in(item.start, access),
-        Event::Plain(_) => unreachable!(),
     }
 }
 

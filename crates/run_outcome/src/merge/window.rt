@@ -1,8 +1,8 @@
 // Where the entries of merged logs stand that are read next.
-ghost use Rattle.std.specs.Prelude.{◌≡◌, ◌≤◌, ◌<◌, length, IfOk, IfSome, IfNone, slice_get};
+ghost use Rattle.std.specs.Prelude.{◌≡◌, ◌≤◌, ◌<◌, length, true, IfOk, IfSome, IfNone, slice_get};
 ghost use Rattle.tlm_model.specs.History.{IsNumbered};
 ghost use Rattle.run_outcome.specs.Merge.{merged};
-ghost use Rattle.run_outcome.specs.Places.{entries_of_logs, HasAt, HasNoneBefore, StandsAt};
+ghost use Rattle.run_outcome.specs.Places.{are_whole, entries_of_logs, HasAt, HasNoneBefore, StandsAt};
 
 use entry_log::Log;
 use std::alloc::Global;
@@ -49,6 +49,7 @@ impl Window {
     #[inline(always)]
     pub(super) fn place_of(&mut self, logs: &[Log], position: u64) -> Place
         requires numbered { IsNumbered (merged (entries_of_logs logs.now)) }
+        requires whole { are_whole logs.now ≡ true }
         requires within { position < length (merged (entries_of_logs logs.now)) }
         ensures { StandsAt (entries_of_logs logs.now) position result }
     {
@@ -65,7 +66,8 @@ impl Window {
     // The place that was noted for this position, where the entry there has it.
     #[inline(always)]
     fn noted_at(&self, logs: &[Log], position: u64) -> Option<Place>
-        requires { IsNumbered (merged (entries_of_logs logs.now)) }
+        requires numbered { IsNumbered (merged (entries_of_logs logs.now)) }
+        requires whole { are_whole logs.now ≡ true }
         ensures { IfSome result (StandsAt (entries_of_logs logs.now) position) }
     {
         let ahead = position.checked_sub(self.first)?;
@@ -82,6 +84,7 @@ impl Window {
     #[cold]
     #[inline(never)]
     fn note_from(&mut self, logs: &[Log], position: u64)
+        requires { are_whole logs.now ≡ true }
         ensures { self.new.first ≡ position }
     {
         self.first = position;
@@ -96,6 +99,7 @@ impl Window {
 // Notes the places of a log's entries from an index on, up to the first whose position is after those that
 // have a place, which are from `first` on. It answers the index of that one.
 fn note_log(places: &mut [Place], first: u64, log: &Log, number: usize, from: u64) -> u64
+    requires { log.now.whole ≡ true }
     ensures { result ≤ length log.now.entries }
 {
     for index in from..log.len() {
@@ -114,6 +118,7 @@ fn note_log(places: &mut [Place], first: u64, log: &Log, number: usize, from: u6
 #[cold]
 fn find(logs: &[Log], position: u64) -> Place
     requires numbered { IsNumbered (merged (entries_of_logs logs.now)) }
+    requires whole { are_whole logs.now ≡ true }
     requires within { position < length (merged (entries_of_logs logs.now)) }
     ensures { StandsAt (entries_of_logs logs.now) position result }
 {
@@ -127,6 +132,7 @@ fn find(logs: &[Log], position: u64) -> Place
 
 // The index of a log's entry of this position, where it has one.
 fn find_in(log: &Log, position: u64) -> Option<u64>
+    requires { log.now.whole ≡ true }
     ensures found { IfSome result (HasAt log.now.entries position) }
     ensures none { IfNone result (HasNoneBefore log.now.entries position (length log.now.entries)) }
 {

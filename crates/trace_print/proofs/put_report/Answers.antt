@@ -18,6 +18,6 @@ returns g c =
     let inits = rw (c.as_slice.ensures, c.as_slice-2.ensures, same) at c.put_initiators.ensures in
     let mems = rw (c.as_slice-3.ensures, c.as_slice-4.ensures, same) at c.put_memories.ensures in
     let count = rw c.len.ensures at c.put_count.ensures in
-    let entries = rw c.requires.reader at c.put_entries.ensures in
+    let entries = c.put_shown.ensures c.args.outcome.now.history c.requires.reader in
     puts-as _ _ _ _ (puts-more _ _ _ _ _ c.put_title.ensures (puts-more _ _ _ _ _ entries (puts-more _ _ _ _ _ inits (puts-more _ _ _ _ _ mems count))))
     (report-is c.args.trace c.args.plan.now c.args.outcome.now c.requires.reportable)

@@ -45,18 +45,18 @@ returns-clause-whole g c =
     let d = c.in-Done.ensures in
     let a = c.args.apart in
     whole n.table n.tokens n.frame c.args.ends.items c.args.notes.items a.logs.items a.stores.items a.seats.items c.in-Done.sealed.entries c.requires.valid c.requires.frame c.requires.left c.args.history.frame c.requires.history.1 d.merge d.planned d.tell d.backed d.ended
-    (record { history = c.of_logs.result; stores = c.from_vec.result; ends = c.from_vec-2.result; complete = Rattle.std.specs.Prelude.true }) c.of_logs.ensures c.from_vec.ensures c.from_vec-2.ensures refl
+    (record { history = c.of_logs.result; stores = c.from_vec.result; ends = c.from_vec-2.result; complete = Rattle.std.specs.Prelude.true }) c.of_logs.ensures.entries c.from_vec.ensures c.from_vec-2.ensures refl
 
 pub returns-clause-core : goal.returns-clause-core
 returns-clause-core g c =
     let n = g.N.Naming in
     let d = c.in-Done.ensures in
     let a = c.args.apart in
-    core_is n.table n.tokens n.frame c.args.ends.items c.args.notes.items a.logs.items a.stores.items a.seats.items c.in-Done.sealed.entries c.requires.valid c.requires.frame c.requires.left c.args.history.frame c.requires.history.1 d.merge d.planned d.tell d.backed d.ended c.of_logs.result.entries c.of_logs.ensures
+    core_is n.table n.tokens n.frame c.args.ends.items c.args.notes.items a.logs.items a.stores.items a.seats.items c.in-Done.sealed.entries c.requires.valid c.requires.frame c.requires.left c.args.history.frame c.requires.history.1 d.merge d.planned d.tell d.backed d.ended c.of_logs.result.entries c.of_logs.ensures.entries
 
 pub returns-clause-sealed : goal.returns-clause-sealed
 returns-clause-sealed g c =
     let n = g.N.Naming in
     let d = c.in-Done.ensures in
     let a = c.args.apart in
-    read_all n.table n.tokens n.frame c.args.ends.items c.args.notes.items a.logs.items a.stores.items a.seats.items c.in-Done.sealed.entries c.requires.valid c.requires.frame c.requires.left c.args.history.frame c.requires.history.1 d.merge d.planned d.tell d.backed d.ended c.of_logs.result.entries c.of_logs.ensures
+    read_all n.table n.tokens n.frame c.args.ends.items c.args.notes.items a.logs.items a.stores.items a.seats.items c.in-Done.sealed.entries c.requires.valid c.requires.frame c.requires.left c.args.history.frame c.requires.history.1 d.merge d.planned d.tell d.backed d.ended c.of_logs.result.entries c.of_logs.ensures.entries

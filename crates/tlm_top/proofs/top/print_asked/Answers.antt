@@ -6,8 +6,8 @@ use Rattle.plan_loads.specs.declared.totals.Totals.{Totals}
 use Rattle.plan_loads.proofs.Sums.{totals-are, totals-are-small}
 use Rattle.tlm_top.proofs.top.print_asked.Goals as goal
 
-pub print_totals-requires : goal.print_totals-requires
-print_totals-requires g c = totals-are-small c.args.plan.now c.args.outcome.now c.requires.reportable c.requires.valid
+pub print_totals-requires-clause-small : goal.print_totals-requires-clause-small
+print_totals-requires-clause-small g c = totals-are-small c.args.plan.now c.args.outcome.now c.requires.reportable c.requires.valid
 
 pub returns-in-Gen-clause-printed : goal.returns-in-Gen-clause-printed
 returns-in-Gen-clause-printed g c =

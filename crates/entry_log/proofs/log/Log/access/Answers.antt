@@ -1,8 +1,11 @@
-use Rattle.std.proofs.Common.{ℕ, ◌≤◌, List, length, slice_get, slice_range, Some, ap, sym, subst, ◌∙◌}
+use Rattle.std.proofs.Common.{ℕ, ◌≤◌, List, length, slice_get, slice_range, Option, Some, None, ◌≡◌, ap, sym, subst, ◌∙◌}
 use Rattle.std.specs.Prelude.{option_map}
 use Rattle.tlm_types.specs.Entries.{enables_of, facts_of, got_of, head_of, read_at, sent_of}
-use Rattle.entry_log.specs.Log.{LogView}
-use Rattle.entry_log.proofs.Accesses.{read_place}
+use Rattle.tlm_types.specs.declared.entry.Entry.{Entry}
+use Rattle.entry_log.specs.declared.log.LoggedAccess.{LoggedAccess}
+use Rattle.entry_log.proofs.Accesses.{read_no_place, read_place}
+use Rattle.entry_log.proofs.Pasts.{stored_whole}
+use Rattle.entry_log.proofs.Stored.{read_at-facts}
 use Rattle.entry_log.proofs.log.Log.access.Goals as goal
 
 pub returns-clause-facts : goal.returns-clause-facts
@@ -11,7 +14,8 @@ returns-clause-facts c =
     let a = c.in_ok-access.access in
     let i = c.args.index in
     let r = read_place s.bytes.items s.items.items i a c.self.invariant.kept (sym c.access.ensures ∙ c.in_ok-access.was) in
-    sym r.facts ∙ ap (λ (l : LogView). read_at facts_of l.entries i) c.self.view_is
+    let same = stored_whole s c.args.self.now c.self.invariant.before c.self.view_is c.requires.whole in
+    sym r.facts ∙ ap (λ (es : List Entry). read_at facts_of es i) same
 
 pub returns-clause-head : goal.returns-clause-head
 returns-clause-head c =
@@ -19,7 +23,8 @@ returns-clause-head c =
     let a = c.in_ok-access.access in
     let i = c.args.index in
     let r = read_place s.bytes.items s.items.items i a c.self.invariant.kept (sym c.access.ensures ∙ c.in_ok-access.was) in
-    ap (λ (l : LogView). option_map head_of (slice_get l.entries i)) (sym c.self.view_is) ∙ r.head
+    let same = stored_whole s c.args.self.now c.self.invariant.before c.self.view_is c.requires.whole in
+    ap (λ (es : List Entry). option_map head_of (slice_get es i)) (sym same) ∙ r.head
 
 pub returns-clause-sent : goal.returns-clause-sent
 returns-clause-sent c =
@@ -27,7 +32,8 @@ returns-clause-sent c =
     let a = c.in_ok-access.access in
     let i = c.args.index in
     let r = read_place s.bytes.items s.items.items i a c.self.invariant.kept (sym c.access.ensures ∙ c.in_ok-access.was) in
-    λ other. ap (λ (l : LogView). read_at sent_of l.entries i) (sym c.self.view_is) ∙ r.sent other ∙ ap (λ (b : List ℕ). Some (slice_range b a.span.start a.span.enables_start)) (sym c.as_slice-bytes.ensures.value)
+    let same = stored_whole s c.args.self.now c.self.invariant.before c.self.view_is c.requires.whole in
+    λ other. ap (λ (es : List Entry). read_at sent_of es i) (sym same) ∙ r.sent other ∙ ap (λ (b : List ℕ). Some (slice_range b a.span.start a.span.enables_start)) (sym c.as_slice-bytes.ensures.value)
 
 pub returns-clause-reads : goal.returns-clause-reads
 returns-clause-reads c =
@@ -35,7 +41,8 @@ returns-clause-reads c =
     let a = c.in_ok-access.access in
     let i = c.args.index in
     let r = read_place s.bytes.items s.items.items i a c.self.invariant.kept (sym c.access.ensures ∙ c.in_ok-access.was) in
-    λ is_read. ap (λ (l : LogView). read_at sent_of l.entries i) (sym c.self.view_is) ∙ r.reads is_read
+    let same = stored_whole s c.args.self.now c.self.invariant.before c.self.view_is c.requires.whole in
+    λ is_read. ap (λ (es : List Entry). read_at sent_of es i) (sym same) ∙ r.reads is_read
 
 pub returns-clause-enables : goal.returns-clause-enables
 returns-clause-enables c =
@@ -43,7 +50,8 @@ returns-clause-enables c =
     let a = c.in_ok-access.access in
     let i = c.args.index in
     let r = read_place s.bytes.items s.items.items i a c.self.invariant.kept (sym c.access.ensures ∙ c.in_ok-access.was) in
-    ap (λ (l : LogView). read_at enables_of l.entries i) (sym c.self.view_is) ∙ r.enables ∙ ap (λ (b : List ℕ). Some (slice_range b a.span.enables_start a.span.got_start)) (sym c.as_slice-bytes.ensures.value)
+    let same = stored_whole s c.args.self.now c.self.invariant.before c.self.view_is c.requires.whole in
+    ap (λ (es : List Entry). read_at enables_of es i) (sym same) ∙ r.enables ∙ ap (λ (b : List ℕ). Some (slice_range b a.span.enables_start a.span.got_start)) (sym c.as_slice-bytes.ensures.value)
 
 pub returns-clause-got : goal.returns-clause-got
 returns-clause-got c =
@@ -51,7 +59,8 @@ returns-clause-got c =
     let a = c.in_ok-access.access in
     let i = c.args.index in
     let r = read_place s.bytes.items s.items.items i a c.self.invariant.kept (sym c.access.ensures ∙ c.in_ok-access.was) in
-    ap (λ (l : LogView). read_at got_of l.entries i) (sym c.self.view_is) ∙ r.got ∙ ap (λ (b : List ℕ). Some (slice_range b a.span.got_start a.span.end)) (sym c.as_slice-bytes.ensures.value)
+    let same = stored_whole s c.args.self.now c.self.invariant.before c.self.view_is c.requires.whole in
+    ap (λ (es : List Entry). read_at got_of es i) (sym same) ∙ r.got ∙ ap (λ (b : List ℕ). Some (slice_range b a.span.got_start a.span.end)) (sym c.as_slice-bytes.ensures.value)
 
 pub slice_bounds-result-start : goal.slice_bounds-result-start
 slice_bounds-result-start c =
@@ -100,3 +109,36 @@ slice_bounds-result-end-3 c =
     let i = c.args.index in
     let r = read_place s.bytes.items s.items.items i a c.self.invariant.kept (sym c.access.ensures ∙ c.in_ok-access.was) in
     subst (λ (b : List ℕ). a.span.end ≤ length b) (sym c.as_slice-bytes.ensures.value) r.got_to
+
+pub slice_bounds-result-count : goal.slice_bounds-result-count
+slice_bounds-result-count c =
+    let s = c.self.inside in
+    let a = c.in_ok-access.access in
+    let i = c.args.index in
+    let r = read_place s.bytes.items s.items.items i a c.self.invariant.kept (sym c.access.ensures ∙ c.in_ok-access.was) in
+    r.sent_from
+
+pub slice_bounds-result-count-2 : goal.slice_bounds-result-count-2
+slice_bounds-result-count-2 c =
+    let s = c.self.inside in
+    let a = c.in_ok-access.access in
+    let i = c.args.index in
+    let r = read_place s.bytes.items s.items.items i a c.self.invariant.kept (sym c.access.ensures ∙ c.in_ok-access.was) in
+    r.enables_from
+
+pub slice_bounds-result-count-3 : goal.slice_bounds-result-count-3
+slice_bounds-result-count-3 c =
+    let s = c.self.inside in
+    let a = c.in_ok-access.access in
+    let i = c.args.index in
+    let r = read_place s.bytes.items s.items.items i a c.self.invariant.kept (sym c.access.ensures ∙ c.in_ok-access.was) in
+    r.got_from
+
+pub returns-in_err-access-clause-facts : goal.returns-in_err-access-clause-facts
+returns-in_err-access-clause-facts c =
+    let s = c.self.inside in
+    let i = c.args.index in
+    let none = read_no_place s.items.items i (sym c.access.ensures ∙ c.in_err-access.was) in
+    let same = stored_whole s c.args.self.now c.self.invariant.before c.self.view_is c.requires.whole in
+    let read : read_at facts_of c.args.self.now.entries i ≡ None = ap (λ (es : List Entry). read_at facts_of es i) (sym same) ∙ read_at-facts s.bytes.items s.items.items i ∙ none in
+    ap (λ (r : Option LoggedAccess). option_map (λ a. a.facts) r) c.from_residual.ensures ∙ sym read

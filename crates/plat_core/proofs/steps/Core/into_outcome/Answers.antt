@@ -16,4 +16,4 @@ of_logs-history-requires-clause-counted c =
 pub returns : goal.returns
 returns c =
     outcome_is c.self.inside.plan.now c.self.inside.runs.items c.self.inside.regions.items c.self.inside.rounds c.self.inside.made c.args.self _ c.self.invariant.0 c.self.invariant.1 c.self.view_is
-    (c.of_logs-history.ensures ∙ ap merged c.in_ok-logs.ensures.logs) c.in_ok-logs.ensures.stores c.in_ok-ends.ensures c.has_finished-complete.ensures.all
+    (c.of_logs-history.ensures.entries ∙ ap merged c.in_ok-logs.ensures.logs) c.in_ok-logs.ensures.stores c.in_ok-ends.ensures c.has_finished-complete.ensures.all

@@ -1,0 +1,25 @@
+use Rattle.std.proofs.Common.{◌^◌, ◌<◌, List, length, append-nil, All, ap, arith, subst, sym, ◌∙◌}
+use Rattle.std.proofs.lemmas.List.Elements.{All-nil}
+use Rattle.tlm_types.specs.declared.entry.Entry.{Entry}
+use Rattle.entry_log.specs.declared.log.long.LongItem.{LongItem}
+use Rattle.entry_log.specs.LogItem.{IsKept}
+use Rattle.entry_log.proofs.log.Log.forget.Goals as goal
+
+pub invariant_of-self : goal.invariant_of-self
+invariant_of-self c =
+    let count = ap length c.of-past.ensures in
+    let bytes = ap length c.clear-2.ensures.items in
+    record {
+      before = record {
+        count = c.len-count.ensures.len ∙ sym count;
+        timed = subst (λ (es : List Entry). All (λ (e : Entry). e.time < 2 ^ 64) es) (sym c.of-past.ensures) c.len-count.ensures.timed;
+        few = omega arith;
+      };
+      timed = rw c.clear.ensures (All-nil (λ (i : LongItem). i.time < 2 ^ 64));
+      kept = rw c.clear.ensures (All-nil (λ i. IsKept (length c.clear-2.new.self.items) i.start i.event));
+      roomy = omega arith;
+      small = omega arith;
+    }
+
+pub returns-clause-entries : goal.returns-clause-entries
+returns-clause-entries c = rw (c.clear.ensures, c.of-past.ensures) (append-nil c.args.self.now.entries)
