@@ -467,6 +467,7 @@ module _ {E G : Type 0} (backs : G → List (Entry E) → Entry E → Type 0) (k
           backed = λ k is. subst (λ (q : Frame G). AreBacked backs q.world log) (framed k is) h.backed;
           planned = λ k is. subst (λ (q : Frame G). ArePlanned q log) (framed k is) h.planned;
           last = last;
+          is = refl;
         },
       )
 

@@ -4,3 +4,4 @@ pub mod GateKeeps
 pub mod Wholes
 pub mod Gathering
 pub mod Statements
+pub mod Alike

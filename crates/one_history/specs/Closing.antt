@@ -10,6 +10,7 @@ use Rattle.one_history.specs.declared.view.View.{View}
 use Rattle.view_lists.specs.Lists.{Has, Within}
 use Rattle.one_history.specs.Lists.{entries_at}
 use Rattle.one_history.specs.Gates.{NoneAfterClosed}
+use Rattle.one_history.specs.Moves.{learnt}
 
 module _ {E : Type 0} where
   -- the entry at each place has that position
@@ -37,3 +38,4 @@ module _ {E G : Type 0} where
     pub backed : (key : Frame G) → m.0.frame ≡ Some key → AreBacked backs key.world m'.0.known
     pub planned : (key : Frame G) → m.0.frame ≡ Some key → ArePlanned key m'.0.known
     pub last : NoneAfterClosed m'.0.known
+    pub is : m'.0 ≡ learnt m.0 m'.0.known

@@ -7,3 +7,4 @@ pub mod Closing
 pub mod Seats
 pub mod Parts
 pub mod Answer
+pub mod Alike

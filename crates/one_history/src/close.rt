@@ -60,7 +60,7 @@ impl<E, G, W: Law<E, G>> History<E, G, W> {
     ghost use Rattle.one_history.specs.declared.view.Owned.{Owned};
     ghost use Rattle.one_history.specs.Gates.{NoneAfterClosed};
     ghost use Rattle.one_history.specs.Lists.{entries_at};
-    ghost use Rattle.one_history.specs.Moves.{joined};
+    ghost use Rattle.one_history.specs.Moves.{joined, learnt};
     ghost use Rattle.one_history.specs.Seats.{AreSeats, AreNotes, Gathers, Tell, IsMerge};
     ghost use Rattle.one_history.specs.Closing.{Numbered, AreBacked, ArePlanned};
     ghost use Rattle.one_history.specs.Answer.{IfDone};
@@ -115,6 +115,21 @@ impl<E, G, W: Law<E, G>> History<E, G, W> {
         while let Some(next) = notes.pop() {
             self.take_note(master, next);
         }
+    }
+
+    /// Looks at the whole history so far, and answers its length. The note knows all of it then, by numbers from 0 on, and
+    /// nothing else about the note changes. It takes no memory and can't fail.
+    pub fn learn(&self, note: &mut Note<E, G, W>) -> u64
+        requires note { note.old.table ≡ self.now.table }
+        requires notes { 1 ≤ note.old.knows.notes }
+        ensures table { note.new.table ≡ note.old.table }
+        ensures learnt { note.new.knows ≡ learnt note.old.knows note.new.knows.known }
+        ensures keeps { Within note.old.knows.known note.new.knows.known }
+        ensures numbered { Numbered note.new.knows.known }
+        ensures length { result ≡ length note.new.knows.known }
+        ensures ended { NoneAfterClosed note.new.knows.known }
+    {
+        self.table.shared.load::<Learns<W>>(&mut note.seat, 0)
     }
 
     // What the master knows of the whole history, and its length.

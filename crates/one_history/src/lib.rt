@@ -6,7 +6,7 @@
 //! - A note goes inside a gate by `enter`, and its seat leaves by `leave`. `mark` lets nobody in any more,
 //!   and `drain` waits until nobody is inside.
 //! - A `Law` says which earlier entries back an entry in a world. `NoLaw` backs everything.
-//! - `close` ends the history. Its `Sealed` has all entries, in the order of their positions.
+//! - `learn` lets a note know the whole history so far. `close` ends it: its `Sealed` has all entries, in the order of their positions.
 //!
 //! Promises, between any two steps of any threads and for any law: each position below the count
 //! stands in one object's own entries, what a seat or a note knows stands in the history below the
@@ -33,8 +33,8 @@ pub use history::History;
 pub use law::{Drawn, Law, Looked, NoLaw};
 pub use parts::{
     closings_are_last, entries_are_backed, marked_gates_are_revoked, notes_are_shared_out,
-    objects_have_one_seat, positions_stand_once, rule_is_kept, shut_gates_are_empty,
-    stays_are_counted, views_know_the_history,
+    numbered_lists_begin_alike, objects_have_one_seat, positions_stand_once, rule_is_kept,
+    shut_gates_are_empty, stays_are_counted, views_know_the_history,
 };
 pub use seats::{Note, ObjectSeat};
 pub use view::{Frame, Owned, Stay, View};

@@ -5,6 +5,7 @@ ghost use Rattle.atomic_table.specs.Table.{State};
 ghost use Rattle.one_history.specs.declared.view.Frame.{Frame};
 ghost use Rattle.one_history.specs.declared.view.View.{View};
 ghost use Rattle.one_history.specs.Rule.{IsOneLog};
+ghost use Rattle.one_history.specs.Alike.{BeginAlike};
 ghost use Rattle.one_history.specs.Parts.{StandsOnce, KnowsHistory, HasOneSeat, SharesNotes, MergesBacked, CountsStays, MarksRevoked, KeepsShut, EndsDirect, IsKept};
 
 use crate::law::Law;
@@ -65,4 +66,10 @@ pub fn closings_are_last<E, G, W: Law<E, G>>()
 /// All parts of the rule.
 pub fn rule_is_kept<E, G, W: Law<E, G>>()
     ensures { (key : Frame G) (s : State ℕ (View E G)) → IsOneLog W.backs key s → IsKept W.backs key s }
+{}
+
+/// A list in which each entry stands at its position begins with each other such list all of whose entries it has. So what a
+/// note knows of the whole history at one time is the beginning of what it knows later.
+pub fn numbered_lists_begin_alike<E>()
+    ensures { BeginAlike E }
 {}

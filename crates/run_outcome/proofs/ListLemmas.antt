@@ -97,3 +97,10 @@ pub is_within : {X : Type 0} (xs : List X) (k : ℕ) → is_none (slice_get xs k
 is_within [] k is = cc
 is_within (x ∷ xs) zero is = omega arith
 is_within (x ∷ xs) (suc k) is = omega (arith, is_within xs k is)
+
+-- an element of a list's beginning
+pub at_taken : {X : Type 0} (n : ℕ) (xs : List X) (k : ℕ) → k < length (take n xs) → slice_get (take n xs) k ≡ slice_get xs k
+at_taken zero xs k below = absurd (omega arith)
+at_taken (suc n) [] k below = absurd (omega arith)
+at_taken (suc n) (x ∷ xs) zero below = refl
+at_taken (suc n) (x ∷ xs) (suc k) below = at_taken n xs k (omega arith)

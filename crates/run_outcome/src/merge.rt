@@ -1,5 +1,5 @@
 // Logs that are read as one, in the order of the positions of their entries.
-ghost use Rattle.std.specs.Prelude.{◌≡◌, ◌<◌, length, true, IfOk, slice_get};
+ghost use Rattle.std.specs.Prelude.{◌≡◌, ◌<◌, ◌≤◌, length, take, true, IfOk, slice_get};
 ghost use Rattle.tlm_model.specs.History.{IsNumbered};
 ghost use Rattle.run_outcome.specs.Merge.{merged};
 ghost use Rattle.run_outcome.specs.Places.{are_whole, entries_of_logs};
@@ -22,16 +22,16 @@ pub struct MergedLog {
 }
 
 impl Model for MergedLog {
-    ghost use Rattle.std.specs.Prelude.{◌≡◌, length};
+    ghost use Rattle.std.specs.Prelude.{◌≡◌, ◌≤◌, length, take};
     ghost use Rattle.tlm_model.specs.History.{IsNumbered};
     ghost use Rattle.run_outcome.specs.Merge.{merged};
     ghost use Rattle.run_outcome.specs.Places.{MergedView, are_whole, entries_of_logs};
 
     ghost Value = { MergedView };
 
-    ghost view = { λ m. record { entries = merged (entries_of_logs m.logs.items); whole = m.whole } };
+    ghost view = { λ m. record { entries = take m.count (merged (entries_of_logs m.logs.items)); whole = m.whole } };
 
-    ghost invariant = { λ m. IsNumbered (merged (entries_of_logs m.logs.items)) × (m.count ≡ length (merged (entries_of_logs m.logs.items)))
+    ghost invariant = { λ m. IsNumbered (merged (entries_of_logs m.logs.items)) × (m.count ≤ length (merged (entries_of_logs m.logs.items)))
         × (m.whole ≡ are_whole m.logs.items) };
 }
 
@@ -53,6 +53,16 @@ impl MergedLog {
         ensures { result ≡ self.now.whole }
     {
         self.whole
+    }
+
+    /// The first so many entries. It takes no memory, and all stay in their logs.
+    pub fn cut(mut self, count: u64) -> MergedLog
+        requires { count ≤ length self.entries }
+        ensures entries { result.entries ≡ take count self.entries }
+        ensures whole { result.whole ≡ self.whole }
+    {
+        self.count = count;
+        self
     }
 
     /// How many entries there are.
@@ -86,16 +96,16 @@ pub struct LogReader<'a> {
 }
 
 impl<'a> Model for LogReader<'a> {
-    ghost use Rattle.std.specs.Prelude.{◌≡◌, length, true};
+    ghost use Rattle.std.specs.Prelude.{◌≡◌, ◌≤◌, length, take, true};
     ghost use Rattle.tlm_model.specs.History.{IsNumbered};
     ghost use Rattle.run_outcome.specs.Merge.{merged};
     ghost use Rattle.run_outcome.specs.Places.{MergedView, are_whole, entries_of_logs};
 
     ghost Value = { MergedView };
 
-    ghost view = { λ r. record { entries = merged (entries_of_logs r.logs.now); whole = true } };
+    ghost view = { λ r. record { entries = take r.count (merged (entries_of_logs r.logs.now)); whole = true } };
 
-    ghost invariant = { λ r. IsNumbered (merged (entries_of_logs r.logs.now)) × (r.count ≡ length (merged (entries_of_logs r.logs.now)))
+    ghost invariant = { λ r. IsNumbered (merged (entries_of_logs r.logs.now)) × (r.count ≤ length (merged (entries_of_logs r.logs.now)))
         × (are_whole r.logs.now ≡ true) };
 }
 
