@@ -102,6 +102,10 @@ pub count_seats : (table : TableId) (frame : Frame Plan) (seats : List (Held Con
 count_seats table frame seats is left = left.count ∙ sym (plan_is frame is).count
 
 -- what an initiator leaves, by its place
+-- what is told by some notes is told by those of them that are kept
+pub tells : (kept notes : List (Held Content Plan)) (all : List (HistoryEntry Content)) → ((k : ℕ) (note : Held Content Plan) → get_elem? kept k ≡ some note → Has notes note) → Tell notes 0 all → Tell kept 0 all
+tells kept notes all told tell k note from at = let there = told k note at in tell there.0 note (omega arith) there.1
+
 module _ (table tokens : TableId) (p : Plan) (count : ℕ) (ends : List EndOf) (wallets : List Purse) (notes : List (Held Content Plan)) (are : AreFinished table tokens p count ends wallets notes) where
   pub record Leaves (k : ℕ) : Type 0 where
     pub end : EndOf

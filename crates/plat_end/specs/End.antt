@@ -4,7 +4,9 @@ use mathlib.Core.Option.{some}
 use lib.ListN.{get_elem?}
 use Rattle.atomic_table.specs.Seated.{TableId}
 use Rattle.one_history.specs.declared.view.Frame.{Frame}
+use Rattle.view_lists.specs.Lists.{Has}
 use Rattle.one_history.specs.Held.{Held}
+use Rattle.one_history.specs.Seats.{AreNotes}
 use Rattle.token_book.specs.Purse.{Purse}
 use Rattle.tlm_types.specs.declared.ends.EndOf.{EndOf}
 use Rattle.tlm_types.specs.declared.entry.Content.{Content}
@@ -30,3 +32,11 @@ pub record HaveAllLeft (table tokens : TableId) (frame : Frame Plan) (ends : Lis
   pub logs_left : HaveLeftLogs table frame logs seats
   pub stores_are : AreStores frame.world.platform logs stores
   pub handed_back : AreHandedBack frame seats (left_by frame.world.platform wallets)
+
+-- What all initiators and objects have left, where what the initiators' notes knew at the end is told by these notes: each by its own, or all by
+-- one that they had in turn.
+pub record HaveAllTold (table tokens : TableId) (frame : Frame Plan) (ends : List EndOf) (notes : List (Held Content Plan)) (logs : List LogView) (stores : List (List ℕ)) (seats : List (Held Content Plan)) : Type 0 where
+  pub kept : List (Held Content Plan)
+  pub left : HaveAllLeft table tokens frame ends kept logs stores seats
+  pub of : AreNotes table notes
+  pub told : (k : ℕ) (note : Held Content Plan) → get_elem? kept k ≡ some note → Has notes note

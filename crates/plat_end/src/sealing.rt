@@ -3,7 +3,7 @@ ghost use Rattle.std.specs.Prelude.{◌≡◌};
 ghost use Rattle.plat_net.specs.Objects.{frame_of};
 ghost use Rattle.route_plan.specs.Valid.{IsValid};
 ghost use Rattle.run_outcome.specs.Outcome.{IsWhole};
-ghost use Rattle.plat_end.specs.End.{HaveAllLeft};
+ghost use Rattle.plat_end.specs.End.{HaveAllTold};
 ghost use Rattle.plat_end.specs.Entries.{entries_read};
 ghost use Rattle.plat_end.specs.Run.{IsCoreRun};
 
@@ -19,7 +19,8 @@ use tlm_types::{Content, EndOf};
 /// The history of a run that has ended.
 pub type PlatSealed = Sealed<Content, Plan, TlmLaw>;
 
-/// Seals the history, and makes the outcome of what the initiators and the objects have left. It takes no memory.
+/// Seals the history, and makes the outcome of what the initiators and the objects have left. The notes tell what the
+/// initiators knew at the end: each has its own, or they had one in turn. It takes no memory.
 pub fn seal<N: Naming<Plan, TlmLaw>>(
     history: PlatHistory,
     ends: Vec<EndOf>,
@@ -29,7 +30,7 @@ pub fn seal<N: Naming<Plan, TlmLaw>>(
     requires history { (history.table ≡ N.table) × (history.frame ≡ N.frame) }
     requires frame { N.frame ≡ frame_of N.frame.world }
     requires valid { IsValid N.frame.world }
-    requires left { HaveAllLeft N.table N.tokens N.frame ends.items notes.items apart.logs.items apart.stores.items apart.seats.items }
+    requires left { HaveAllTold N.table N.tokens N.frame ends.items notes.items apart.logs.items apart.stores.items apart.seats.items }
     ensures whole { IsWhole N.frame.world result.0 }
     ensures core { IsCoreRun N.frame.world result.0.history.entries }
     ensures sealed { entries_read N.frame.world.platform result.1.entries ≡ result.0.history.entries }
