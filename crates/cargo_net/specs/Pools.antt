@@ -20,6 +20,7 @@ use Rattle.payload_pool.specs.Calls.{Applied, admitted, built_of, content_of}
 use Rattle.payload_pool.specs.Pool.{Follows, PoolView}
 use Rattle.payload_pool.specs.declared.baton.Baton.{Baton}
 use Rattle.payload_pool.specs.declared.call.PoolCall.{PoolCall}
+use Rattle.payload_pool.specs.declared.call.PoolCall.TheVariants.{Acquire}
 use Rattle.payload_pool.specs.declared.call.PoolReply.{PoolReply}
 use Rattle.payload_pool.specs.declared.call.PoolReply.TheVariants.{Acquired, Live, Released, Took}
 use Rattle.payload_pool.specs.declared.pool.PoolMade.{PoolMade}
@@ -50,6 +51,13 @@ pub record HasPooled (frame : Frame Plan) (tokens : TableId) (number own : ℕ) 
 pub record HasPooledWith (frame : Frame Plan) (tokens : TableId) (number own : ℕ) (note back : View Content Plan) (call : PoolCall) (ticket : Option Ticket) (reply : PoolReply) (left : Option Ticket) : Type 0 where
   pub pooled : HasPooled frame tokens number own note back call reply
   pub left_is : left ≡ unspent pooled.position ticket
+
+-- the pool of this number has acquired one reference more, at this time
+pub record HasAcquiredOne (frame : Frame Plan) (tokens : TableId) (number own : ℕ) (note back : View Content Plan) (at : ℕ) : Type 0 where
+  pub baton : Baton
+  pub next : Baton
+  pub hold : Slip
+  pub pooled : HasPooled frame tokens number own note back (Acquire baton at) (Acquired next hold)
 
 -- the pool of x's initiator has this number in the history, which has a planned number for each object
 pub record IsPoolOf (frame : Frame Plan) (number : ℕ) (x : TxnId) : Type 0 where

@@ -6,6 +6,7 @@ ghost use Rattle.shared_object.specs.Steps.{IsNote};
 ghost use Rattle.cargo_model.specs.Known.{Known};
 ghost use Rattle.cargo_model.specs.Travel.{GoesDown, Ready};
 ghost use Rattle.cargo_net.specs.Descends.{MayDescend};
+ghost use Rattle.cargo_net.specs.Pools.{HasAcquiredOne};
 ghost use Rattle.cargo_net.specs.Wallets.{IsTicketAt};
 
 use crate::law::TlmLaw;
@@ -53,6 +54,7 @@ pub fn descend<R: Wait, N: Naming<Plan, TlmLaw>>(
     ensures knew { Within note.knows.known result.note.knows.known }
     ensures below { StandBelow result.note.knows.known result.note.knows.seen }
     ensures look { result.note.knows.looks ≡ note.knows.looks ++ (pool.now.number, 0) ∷ [] }
+    ensures answer { HasAcquiredOne N.frame N.tokens pool.now.number pool.now.own note.knows result.note.knows at }
     ensures kept { result.kept ≡ cargo.hold }
     ensures ticket { IsTicketAt N.tokens above result.ticket }
     ensures descended { (may : MayDescend N.frame N.tokens pool.now.number cargo above address at note.knows.known) →

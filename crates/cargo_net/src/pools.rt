@@ -7,7 +7,7 @@ ghost use Rattle.token_book.specs.Ticket.{IsTicket};
 ghost use Rattle.payload_pool.specs.Calls.{look_of};
 ghost use Rattle.payload_pool.specs.declared.call.PoolCall.TheVariants as Calls;
 ghost use Rattle.payload_pool.specs.declared.call.PoolReply.TheVariants as Replies;
-ghost use Rattle.cargo_net.specs.Pools.{HasAcquired, HasPooled, HasReleased, IsAcquiredReply, IsLiveReply, IsReleasedReply, IsTookReply, MayAcquire, MayRelease, MayStow, MayTake};
+ghost use Rattle.cargo_net.specs.Pools.{HasAcquired, HasAcquiredOne, HasPooled, HasReleased, IsAcquiredReply, IsLiveReply, IsReleasedReply, IsTookReply, MayAcquire, MayRelease, MayStow, MayTake};
 ghost use Rattle.cargo_net.specs.Taken.{IsTakenAs, taken_note, took_reply};
 
 use crate::law::TlmLaw;
@@ -136,6 +136,7 @@ pub fn acquire<R: Wait, N: Naming<Plan, TlmLaw>>(
     ensures knew { Within note.knows.known result.1.knows.known }
     ensures below { StandBelow result.1.knows.known result.1.knows.seen }
     ensures look { result.1.knows.looks ≡ note.knows.looks ++ (pool.now.number, 0) ∷ [] }
+    ensures answer { HasAcquiredOne N.frame N.tokens pool.now.number pool.now.own note.knows result.1.knows at }
     ensures acquired { (may : MayAcquire N.frame N.tokens pool.now.number baton at note.knows.known) →
         HasAcquired N.frame N.tokens pool.now.number baton at may.position may.count result.0.baton result.0.hold result.1.knows.known }
 {
@@ -176,6 +177,8 @@ pub fn release<R: Wait, N: Naming<Plan, TlmLaw>>(
     ensures knew { Within note.knows.known result.1.knows.known }
     ensures below { StandBelow result.1.knows.known result.1.knows.seen }
     ensures look { result.1.knows.looks ≡ note.knows.looks ++ (pool.now.number, 0) ∷ [] }
+    ensures answer { HasPooled N.frame N.tokens pool.now.number pool.now.own note.knows result.1.knows
+        (Calls.Release hold at) (Replies.Released result.0) }
     ensures released { (may : MayRelease N.frame N.tokens pool.now.number hold at note.knows.known) →
         HasReleased N.frame may.x may.count at result.0 result.1.knows.known }
 {
@@ -214,6 +217,8 @@ pub fn stow<R: Wait, N: Naming<Plan, TlmLaw>>(
     ensures knew { Within note.knows.known result.1.knows.known }
     ensures below { StandBelow result.1.knows.known result.1.knows.seen }
     ensures look { result.1.knows.looks ≡ note.knows.looks ++ (pool.now.number, 0) ∷ [] }
+    ensures answer { HasPooled N.frame N.tokens pool.now.number pool.now.own note.knows result.1.knows
+        (Calls.Stow baton at) (Replies.Released result.0) }
     ensures stowed { HasReleased N.frame baton.txn 15 at result.0 result.1.knows.known }
 {
     let (reply, note, _) = step_pool(

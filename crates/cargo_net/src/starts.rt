@@ -6,6 +6,7 @@ ghost use Rattle.shared_object.specs.Steps.{IsNote};
 ghost use Rattle.flow_model.specs.Events.{FindsAt, IsAcquire};
 ghost use Rattle.cargo_model.specs.Known.{Known};
 ghost use Rattle.cargo_model.specs.Travel.{GoesDown, Ready};
+ghost use Rattle.cargo_net.specs.Pools.{HasAcquiredOne};
 ghost use Rattle.cargo_net.specs.Starts.{MayStart};
 
 use crate::law::TlmLaw;
@@ -39,6 +40,7 @@ pub fn start<R: Wait, N: Naming<Plan, TlmLaw>>(
     ensures knew { Within note.knows.known result.1.knows.known }
     ensures below { StandBelow result.1.knows.known result.1.knows.seen }
     ensures look { result.1.knows.looks ≡ note.knows.looks ++ (pool.now.number, 0) ∷ [] }
+    ensures answer { HasAcquiredOne N.frame N.tokens pool.now.number pool.now.own note.knows result.1.knows at }
     ensures acquired { FindsAt (Known N.frame.world.platform result.1.knows.known) (IsAcquire baton.txn 0) at }
     ensures started { (may : MayStart N.frame N.tokens pool.now.number baton at note.knows.known) →
         GoesDown N.frame.world N.tokens (Known N.frame.world.platform result.1.knows.known) baton.txn may.pass Ready 0 result.0 }

@@ -11,7 +11,7 @@ ghost use Rattle.payload_pool.specs.declared.call.PoolReply.TheVariants as Repli
 ghost use Rattle.flow_model.specs.Events.{FindsAt, IsAcquire};
 ghost use Rattle.cargo_model.specs.Known.{Known};
 ghost use Rattle.cargo_model.specs.Travel.{GoesDown, Ready};
-ghost use Rattle.cargo_net.specs.Pools.{HasAcquired, HasPooled, HasReleased};
+ghost use Rattle.cargo_net.specs.Pools.{HasAcquired, HasAcquiredOne, HasPooled, HasReleased};
 ghost use Rattle.cargo_net.specs.Taken.{IsTakenAs, taken_note, took_reply};
 ghost use Rattle.cargo_net.specs.Wallets.{IsTicketAt};
 ghost use Rattle.plat_net.specs.Net.{HasPool};
@@ -97,6 +97,7 @@ impl<N: Naming<Plan, TlmLaw>> Net<N> {
         ensures knew { Within note.knows.known result.1.knows.known }
         ensures below { StandBelow result.1.knows.known result.1.knows.seen }
         ensures look { result.1.knows.looks ≡ note.knows.looks ++ (own_pool N.frame.world initiator, 0) ∷ [] }
+        ensures answer { HasAcquiredOne N.frame N.tokens (own_pool N.frame.world initiator) initiator note.knows result.1.knows at }
         ensures acquired { FindsAt (Known N.frame.world.platform result.1.knows.known) (IsAcquire baton.txn 0) at }
         ensures started { (can : CanStart N.frame N.tokens initiator baton at note.knows.known) →
             GoesDown N.frame.world N.tokens (Known N.frame.world.platform result.1.knows.known) baton.txn can.pass Ready 0 result.0 }
@@ -123,6 +124,7 @@ impl<N: Naming<Plan, TlmLaw>> Net<N> {
         ensures knew { Within note.knows.known result.1.knows.known }
         ensures below { StandBelow result.1.knows.known result.1.knows.seen }
         ensures look { result.1.knows.looks ≡ note.knows.looks ++ (own_pool N.frame.world initiator, 0) ∷ [] }
+        ensures answer { HasAcquiredOne N.frame N.tokens (own_pool N.frame.world initiator) initiator note.knows result.1.knows at }
         ensures acquired { (can : CanAcquire N.frame N.tokens initiator baton at note.knows.known) →
             HasAcquired N.frame N.tokens (own_pool N.frame.world initiator) baton at can.position can.count result.0.baton result.0.hold result.1.knows.known }
     {
@@ -150,6 +152,8 @@ impl<N: Naming<Plan, TlmLaw>> Net<N> {
         ensures knew { Within note.knows.known result.1.knows.known }
         ensures below { StandBelow result.1.knows.known result.1.knows.seen }
         ensures look { result.1.knows.looks ≡ note.knows.looks ++ (own_pool N.frame.world initiator, 0) ∷ [] }
+        ensures answer { HasPooled N.frame N.tokens (own_pool N.frame.world initiator) initiator note.knows result.1.knows
+            (Calls.Release hold at) (Replies.Released result.0) }
         ensures released { (can : CanRelease N.frame N.tokens initiator hold at note.knows.known) →
             HasReleased N.frame can.x can.count at result.0 result.1.knows.known }
     {
@@ -189,6 +193,8 @@ impl<N: Naming<Plan, TlmLaw>> Net<N> {
         ensures knew { Within note.knows.known result.1.knows.known }
         ensures below { StandBelow result.1.knows.known result.1.knows.seen }
         ensures look { result.1.knows.looks ≡ note.knows.looks ++ (own_pool N.frame.world initiator, 0) ∷ [] }
+        ensures answer { HasPooled N.frame N.tokens (own_pool N.frame.world initiator) initiator note.knows result.1.knows
+            (Calls.Stow baton at) (Replies.Released result.0) }
         ensures stowed { HasReleased N.frame baton.txn 15 at result.0 result.1.knows.known }
     {
         let _ = self.plan();
@@ -245,6 +251,7 @@ impl<N: Naming<Plan, TlmLaw>> Net<N> {
         ensures knew { Within note.knows.known result.note.knows.known }
         ensures below { StandBelow result.note.knows.known result.note.knows.seen }
         ensures look { result.note.knows.looks ≡ note.knows.looks ++ (own_pool N.frame.world initiator, 0) ∷ [] }
+        ensures answer { HasAcquiredOne N.frame N.tokens (own_pool N.frame.world initiator) initiator note.knows result.note.knows at }
         ensures kept { result.kept ≡ cargo.hold }
         ensures ticket { IsTicketAt N.tokens (place_above N.frame.world above) result.ticket }
         ensures descended { (can : CanDescend N.frame N.tokens initiator cargo above address at note.knows.known) →

@@ -33,3 +33,6 @@ acquire-cargo-requires-clause-tickets g c = c.requires.tickets
 
 pub acquire-cargo-requires-clause-note : goal.acquire-cargo-requires-clause-note
 acquire-cargo-requires-clause-note g c = c.requires.note
+
+pub returns-clause-answer : goal.returns-clause-answer
+returns-clause-answer g c = c.acquire-cargo.ensures.answer

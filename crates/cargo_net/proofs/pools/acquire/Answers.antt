@@ -28,3 +28,11 @@ step_pool-reply-requires-clause-note g c = c.requires.note
 
 pub returns-clause-note : goal.returns-clause-note
 returns-clause-note g c = c.step_pool-reply.ensures.note
+
+pub returns-clause-answer : goal.returns-clause-answer
+returns-clause-answer g c = record {
+  baton = (let b = c.args.baton in record b { wallet = c.pull-ticket.new.self });
+  next = c.acquired-baton.result.0;
+  hold = c.acquired-baton.result.1;
+  pooled = subst (λ (r : PoolReply). HasPooled g.N.Naming.frame g.N.Naming.tokens c.args.pool.now.number c.args.pool.now.own c.args.note.knows c.step_pool-reply.result.1.knows (Acquire (let b = c.args.baton in record b { wallet = c.pull-ticket.new.self }) c.args.at) r) c.acquired-baton.ensures c.step_pool-reply.ensures.pooled.pooled;
+}

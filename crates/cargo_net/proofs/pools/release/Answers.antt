@@ -25,3 +25,7 @@ step_pool-reply-requires-clause-note g c = c.requires.note
 
 pub returns-clause-note : goal.returns-clause-note
 returns-clause-note g c = c.step_pool-reply.ensures.note
+
+pub returns-clause-answer : goal.returns-clause-answer
+returns-clause-answer g c =
+    subst (λ (r : PoolReply). HasPooled g.N.Naming.frame g.N.Naming.tokens c.args.pool.now.number c.args.pool.now.own c.args.note.knows c.step_pool-reply.result.1.knows (Release c.args.hold c.args.at) r) c.released.ensures c.step_pool-reply.ensures.pooled.pooled

@@ -22,3 +22,6 @@ acquire-requires-clause-tickets g c = c.requires.tickets
 
 pub acquire-requires-clause-note : goal.acquire-requires-clause-note
 acquire-requires-clause-note g c = c.requires.note
+
+pub returns-clause-answer : goal.returns-clause-answer
+returns-clause-answer g c = c.acquire.ensures.answer
