@@ -17,6 +17,17 @@ pub enum Pumped {
     Nothing,
 }
 
+/// What a step of an actor has come to.
+#[derive(Clone, Copy, Debug, PartialEq, Eq)]
+pub enum OneStep {
+    /// It has made one entry.
+    Made,
+    /// There is nothing that it can do before others have moved.
+    Waits,
+    /// It has nothing more to do.
+    Finished,
+}
+
 /// A memory or a router between the hops of a net.
 pub trait Node<N: Naming<Plan, TlmLaw>>: Drop {
     ghost use Rattle.std.specs.Prelude.{List};
