@@ -34,6 +34,6 @@ new_is frame tokens p t room world there hops accepts latency queue long free =
         accepts = subst (λ (r : Plan). t.accepts ≡ is_accepting r.platform (Memory t.memory)) world accepts;
         latency = subst (λ (r : Plan). t.latency ≡ latency_of r.platform (Memory t.memory)) world latency;
         queue = subst (λ (es : List (ℕ × MemoryRequest)). AllByRecursion (IsQueued frame tokens t.memory t.latency known) es) (sym (ap (λ (e : Events MemoryRequest). e.entries) queue)) tt;
-        held = subst (λ (o : Option MemoryResponse). IfSome o (IsToSend frame tokens known)) (sym free) tt;
+        held = subst (λ (o : Option MemoryResponse). IfSome o (IsToSend frame tokens t.memory known)) (sym free) tt;
       };
     }

@@ -17,7 +17,7 @@ use Rattle.cargo_model.specs.Known.{Known}
 use Rattle.cargo_model.specs.Travel.{Ready}
 use Rattle.cargo_model.proofs.More.{goes_up_more, is_fetched_more}
 use Rattle.route_plan.specs.Valid.{hop_count}
-use Rattle.plat_net.specs.Places.{hop_place}
+use Rattle.plat_net.specs.Places.{LeadsTo, hop_place}
 use Rattle.node_hops.specs.Traits.{hop_latency}
 use Rattle.target_node.specs.Items.{HasServedAt, IsWaiting}
 use Rattle.target_node.specs.Node.{IsQueued, IsTarget, IsToSend}
@@ -69,11 +69,12 @@ module _ (frame : Frame Plan) (tokens : TableId) (known back : List (Entry Conte
   queued_more memory latency es all = all_by (IsQueued frame tokens memory latency known) (IsQueued frame tokens memory latency back) (λ e q. record { due = q.due; below = q.below; waits = waiting_more memory e.1 q.waits }) es all
 
   -- a response that may be sent may be sent later
-  pub to_send_more : (r : MemoryResponse) → IsToSend frame tokens known r → IsToSend frame tokens back r
-  to_send_more r s =
+  pub to_send_more : (memory : ℕ) (r : MemoryResponse) → IsToSend frame tokens memory known r → IsToSend frame tokens memory back r
+  to_send_more memory r s =
       let can = s.can in
       record {
         below = s.below;
+        leads = s.leads;
         can = record {
           pass = can.pass;
           hop = can.hop;
@@ -91,22 +92,26 @@ module _ (frame : Frame Plan) (tokens : TableId) (known back : List (Entry Conte
         };
       }
 
-  pub held_more : (held : Option MemoryResponse) → IfSome held (IsToSend frame tokens known) → IfSome held (IsToSend frame tokens back)
-  held_more None h = h
-  held_more (Some r) h = to_send_more r h
+  pub held_more : (memory : ℕ) (held : Option MemoryResponse) → IfSome held (IsToSend frame tokens memory known) → IfSome held (IsToSend frame tokens memory back)
+  held_more memory None h = h
+  held_more memory (Some r) h = to_send_more memory r h
 
   -- a memory with another queue and another response in hand
-  pub keeps : (t : TargetNode) (es : List (ℕ × MemoryRequest)) (held : Option MemoryResponse) → IsTarget frame tokens t known → AllByRecursion (IsQueued frame tokens t.memory t.latency back) es → IfSome held (IsToSend frame tokens back)
+  pub keeps : (t : TargetNode) (es : List (ℕ × MemoryRequest)) (held : Option MemoryResponse) → IsTarget frame tokens t known → AllByRecursion (IsQueued frame tokens t.memory t.latency back) es → IfSome held (IsToSend frame tokens t.memory back)
       → IsTarget frame tokens (record t { queue = (let q = t.queue in record q { entries = es }); held = held }) back
   keeps t es held is queue h = record { memory = is.memory; hops = is.hops; accepts = is.accepts; latency = is.latency; queue = queue; held = h }
 
   pub target_more : (t : TargetNode) → IsTarget frame tokens t known → IsTarget frame tokens t back
-  target_more t is = record { memory = is.memory; hops = is.hops; accepts = is.accepts; latency = is.latency; queue = queued_more t.memory t.latency t.queue.entries is.queue; held = held_more t.held is.held }
+  target_more t is = record { memory = is.memory; hops = is.hops; accepts = is.accepts; latency = is.latency; queue = queued_more t.memory t.latency t.queue.entries is.queue; held = held_more t.memory t.held is.held }
 
 -- the latency of a memory is that of its hops
 pub latency_there : (frame : Frame Plan) (tokens : TableId) (t : TargetNode) (known : List (Entry Content)) → IsTarget frame tokens t known → (r : MemoryRequest) → IsWaiting frame tokens t.memory known r → t.latency ≡ hop_latency frame.world r.hop
 latency_there frame tokens t known is r waits = is.latency ∙ latency_to frame.world r.hop (Memory t.memory) (let q = waits.request in q.leads)
 
 -- a response that was served may be sent
-pub served_to_send : (frame : Frame Plan) (tokens : TableId) (latency : ℕ) (r : MemoryRequest) (known : List (Entry Content)) (a : MemoryResponse) → r.hop < hop_count frame.world.platform → HasServedAt frame tokens latency r known a → IsToSend frame tokens known a
-served_to_send frame tokens latency r known a below s = record { below = subst (λ (h : ℕ). h < hop_count frame.world.platform) (sym s.hop) below; can = s.can }
+pub served_to_send : (frame : Frame Plan) (tokens : TableId) (memory latency : ℕ) (r : MemoryRequest) (known : List (Entry Content)) (a : MemoryResponse) → r.hop < hop_count frame.world.platform → LeadsTo frame.world.platform r.hop (Memory memory) → HasServedAt frame tokens latency r known a → IsToSend frame tokens memory known a
+served_to_send frame tokens memory latency r known a below leads s = record {
+  below = subst (λ (h : ℕ). h < hop_count frame.world.platform) (sym s.hop) below;
+  leads = subst (λ (h : ℕ). LeadsTo frame.world.platform h (Memory memory)) (sym s.hop) leads;
+  can = s.can;
+}

@@ -3,4 +3,5 @@ pub mod Fetches
 pub mod Looks
 pub mod Keeps
 pub mod Steps
+pub mod Adds
 pub mod HopLists

@@ -8,13 +8,14 @@ use Rattle.one_history.specs.declared.entry.Entry.{Entry}
 use Rattle.one_history.specs.declared.view.Frame.{Frame}
 use Rattle.one_history.specs.declared.view.View.{View}
 use Rattle.tlm_types.specs.declared.entry.Content.{Content}
+use Rattle.tlm_model.specs.declared.platform.Target.TheVariants.{Memory}
 use Rattle.tlm_model.specs.Plan.{Plan}
 use Rattle.tlm_model.specs.Route.{later}
 use Rattle.event_queue.specs.EventQueue.{Events, first_time, notified, place_after}
 use Rattle.route_plan.specs.Valid.{hop_count}
-use Rattle.plat_net.specs.Places.{memory_place}
+use Rattle.plat_net.specs.Places.{LeadsTo, memory_place}
 use Rattle.target_node.specs.Items.{HasResponded, HasServedAt, IsWaiting}
-use Rattle.target_node.specs.Node.{DoesNothing, FindsFirst, FindsNone, HasSent, HasServedFirst, IsQueued, IsTarget, IsToSend, Sends, SendsNot, Serves, ServesOne, TakesIn, end_looks}
+use Rattle.target_node.specs.Node.{DoesNothing, FindsFirst, FindsNone, HasSent, HasServedFirst, IsQueued, IsTarget, IsToSend, Sends, SendsNot, Serves, ServesNext, ServesOne, TakesIn, end_looks}
 use Rattle.target_node.specs.declared.items.FromHop.{FromHop}
 use Rattle.target_node.specs.declared.items.MemoryRequest.{MemoryRequest}
 use Rattle.target_node.specs.declared.items.MemoryResponse.{MemoryResponse}
@@ -45,8 +46,8 @@ module _ (frame : Frame Plan) (tokens : TableId) (t : TargetNode) where
 
     pub refused_keeps : (r same : MemoryResponse) (was new : View Content Plan) → new.known ≡ back → t.held ≡ Some r → HasResponded frame tokens r was new (Some same) → IsTarget frame tokens (record t { held = Some same }) back
     refused_keeps r same was new at held refused =
-        let old : IsToSend frame tokens known r = of_some (IsToSend frame tokens known) t.held r held is.held in
-        let can = subst (λ (xs : List (Entry Content)). IsToSend frame tokens xs same) at (record { below = subst (λ (h : ℕ). h < hop_count frame.world.platform) (sym refused.0) old.below; can = refused.4 }) in
+        let old : IsToSend frame tokens t.memory known r = of_some (IsToSend frame tokens t.memory known) t.held r held is.held in
+        let can = subst (λ (xs : List (Entry Content)). IsToSend frame tokens t.memory xs same) at (record { below = subst (λ (h : ℕ). h < hop_count frame.world.platform) (sym refused.0) old.below; leads = subst (λ (h : ℕ). LeadsTo frame.world.platform h (Memory t.memory)) (sym refused.0) old.leads; can = refused.4 }) in
         keeps frame tokens known back w t t.queue.entries (Some same) is (queued_more frame tokens known back w t.memory t.latency t.queue.entries is.queue) can
 
     pub taken_keeps : (q : Events MemoryRequest) (r : MemoryRequest) (at : ℕ) → q ≡ (let old = t.queue in record old { entries = notified old.entries r at }) → at ≡ later r.at t.latency → r.hop < hop_count frame.world.platform → IsWaiting frame tokens t.memory back r → IsTarget frame tokens (record t { queue = q }) back
@@ -54,7 +55,7 @@ module _ (frame : Frame Plan) (tokens : TableId) (t : TargetNode) where
         let one : IsQueued frame tokens t.memory t.latency back (at, r) = record { due = due; below = below; waits = waits } in
         let old = queued_more frame tokens known back w t.memory t.latency t.queue.entries is.queue in
         let all = all_insert (IsQueued frame tokens t.memory t.latency back) t.queue.entries (place_after t.queue.entries at) (at, r) one old in
-        subst (λ (p : Events MemoryRequest). IsTarget frame tokens (record t { queue = p }) back) (sym put) (record { memory = is.memory; hops = is.hops; accepts = is.accepts; latency = is.latency; queue = all; held = held_more frame tokens known back w t.held is.held })
+        subst (λ (p : Events MemoryRequest). IsTarget frame tokens (record t { queue = p }) back) (sym put) (record { memory = is.memory; hops = is.hops; accepts = is.accepts; latency = is.latency; queue = all; held = held_more frame tokens known back w t.memory t.held is.held })
 
     -- the first of the queue
     pub first_of : (e : ℕ × MemoryRequest) (rest : List (ℕ × MemoryRequest)) → t.queue.entries ≡ e ∷ rest → IsQueued frame tokens t.memory t.latency known e × AllByRecursion (IsQueued frame tokens t.memory t.latency known) rest
@@ -69,7 +70,7 @@ module _ (frame : Frame Plan) (tokens : TableId) (t : TargetNode) where
           accepts = is.accepts;
           latency = is.latency;
           queue = queued_more frame tokens known back w t.memory t.latency q.entries first.1;
-          held = served_to_send frame tokens t.latency e.1 back a first.0.below s;
+          held = (let q = first.0.waits.request in served_to_send frame tokens t.memory t.latency e.1 back a first.0.below q.leads s);
         }
 
   pub serves_first : (q : Events MemoryRequest) (e : ℕ × MemoryRequest) (a : MemoryResponse) (was is : View Content Plan) → q.room ≡ t.queue.room → t.queue.entries ≡ e ∷ q.entries → HasServedAt frame tokens t.latency e.1 is.known a → is.looks ≡ was.looks ++ (memory_place frame.world t.memory, 0) ∷ []
@@ -126,6 +127,18 @@ module _ (frame : Frame Plan) (tokens : TableId) (old tried looked : TargetNode)
           let s = not_sent.refused r q in
           let h : Some s.0 ≡ None = sym (ap (λ (n : TargetNode). n.held) s.2) ∙ (sym (ap (λ (n : TargetNode). n.held) none.same) ∙ free) in
           absurd (no_response s.0 h)
+
+  pub serves_next : (served : TargetNode) (after : View Content Plan) → looked.held ≡ None → Serves frame tokens looked served is after → ServesNext frame tokens old served was after
+  serves_next served after free serves =
+      let open_hand = free_before free in
+      let same = not_sent.none open_hand in
+      record {
+        looked = looked;
+        then = is;
+        free = open_hand;
+        none = subst (λ (v : View Content Plan). FindsNone frame tokens old looked v is) same.1 (subst (λ (n : TargetNode). FindsNone frame tokens n looked then is) same.0 none);
+        serves = serves;
+      }
 
   pub serves_one : (served new : TargetNode) (after end : View Content Plan) (sent : Bool) → looked.held ≡ None → Serves frame tokens looked served is after → HasSent frame tokens served new after end sent → ServesOne frame tokens old new was end
   serves_one served new after end sent free serves tries =

@@ -1,3 +1,4 @@
 pub mod Items
 pub mod Node
+pub mod Laws
 pub mod Hops

@@ -1,5 +1,5 @@
 -- A memory behind hops, and what it does in a pump.
-use Rattle.std.specs.Prelude.{ℕ, ◌≡◌, ◌⊎◌, ◌<◌, ◌++◌, Bool, true, false, List, [], ◌∷◌, length, Option, Some, None, IfSome, IsSome}
+use Rattle.std.specs.Prelude.{ℕ, zero, suc, ◌≡◌, ◌⊎◌, ◌<◌, ◌++◌, Bool, true, false, List, [], ◌∷◌, length, Option, Some, None, IfSome, IsSome}
 use Rattle.std.specs.List.{AllByRecursion}
 use Rattle.atomic_table.specs.Seated.{TableId}
 use Rattle.one_history.specs.declared.entry.Entry.{Entry}
@@ -13,15 +13,18 @@ use Rattle.token_book.specs.declared.ticket.Ticket.{Ticket}
 use Rattle.event_queue.specs.EventQueue.{notified}
 use Rattle.route_plan.specs.Valid.{hop_count}
 use Rattle.plat_net.specs.HopCalls.{CanRespond}
-use Rattle.plat_net.specs.Places.{hop_place, memory_place}
+use Rattle.plat_net.specs.Places.{LeadsTo, hop_place, memory_place}
 use Rattle.node_hops.specs.Hops.{IsHopTo}
 use Rattle.node_hops.specs.Looks.{IsFirst, vain_looks}
+use Rattle.node_hops.specs.Steps.{HasNew, IsByNode}
 use Rattle.node_hops.specs.Traits.{is_accepting, latency_of}
 use Rattle.target_node.specs.Items.{HasResponded, HasServedAt, IsFetchedAs, IsWaiting}
 use Rattle.target_node.specs.declared.items.FromHop.{FromHop}
 use Rattle.target_node.specs.declared.items.MemoryRequest.{MemoryRequest}
 use Rattle.target_node.specs.declared.items.MemoryResponse.{MemoryResponse}
 use Rattle.target_node.specs.declared.node.TargetNode.{TargetNode}
+use Rattle.node_hops.specs.declared.node.OneStep.{OneStep}
+use Rattle.node_hops.specs.declared.node.OneStep.TheVariants.{Finished, Made, Waits}
 use Rattle.node_hops.specs.declared.node.Pumped.{Pumped}
 use Rattle.node_hops.specs.declared.node.Pumped.TheVariants.{Did, Nothing}
 
@@ -32,9 +35,10 @@ module _ (frame : Frame Plan) (tokens : TableId) where
     pub below : e.1.hop < hop_count frame.world.platform
     pub waits : IsWaiting frame tokens memory known e.1
 
-  -- a response that is held may be sent
-  pub record IsToSend (known : List (Entry Content)) (r : MemoryResponse) : Type 0 where
+  -- a response that is held may be sent, on a hop to the memory
+  pub record IsToSend (memory : ℕ) (known : List (Entry Content)) (r : MemoryResponse) : Type 0 where
     pub below : r.hop < hop_count frame.world.platform
+    pub leads : LeadsTo frame.world.platform r.hop (Memory memory)
     pub can : CanRespond frame tokens r.hop r.leg r.cargo r.due known
 
   -- The state of a memory behind these hops, by what it knows: all that waits may be served, and the response that it holds may be sent.
@@ -44,7 +48,7 @@ module _ (frame : Frame Plan) (tokens : TableId) where
     pub accepts : t.accepts ≡ is_accepting frame.world.platform (Memory t.memory)
     pub latency : t.latency ≡ latency_of frame.world.platform (Memory t.memory)
     pub queue : AllByRecursion (IsQueued t.memory t.latency known) t.queue.entries
-    pub held : IfSome t.held (IsToSend known)
+    pub held : IfSome t.held (IsToSend t.memory known)
 
 -- the look of an END_REQ that is owed
 abbrev pub end_looks : Plan → ℕ → Bool → List (ℕ × ℕ)
@@ -146,6 +150,47 @@ module _ (frame : Frame Plan) (tokens : TableId) where
     pub not_sent : SendsNot old tried was then
     pub none : FindsNone tried new then is
     pub why : IsSome new.held ⊎ ((new.held ≡ None) × (new.queue.entries ≡ []))
+
+  -- requests were taken in, so many, each where no response was sent and where it is no entry
+  abbrev pub TakesSome : ℕ → TargetNode → TargetNode → View Content Plan → View Content Plan → Type 0
+  TakesSome zero old new was is = (new ≡ old) × (is ≡ was)
+  TakesSome (suc n) old new was is = (first : TargetNode) × (then : View Content Plan) × TakesSome n old first was then × (first.accepts ≡ false) × TakesOne first new then is
+
+  -- A step waits: requests were taken in, if any, and then there was nothing that it could do.
+  pub record HasWaited (old new : TargetNode) (was is : View Content Plan) : Type 0 where
+    pub taken : ℕ
+    pub last : TargetNode
+    pub then : View Content Plan
+    pub takes : TakesSome taken old last was then
+    pub nothing : DoesNothing last new then is
+
+  -- where no response is held and no request was taken in, the first of the queue was served
+  pub record ServesNext (old new : TargetNode) (was is : View Content Plan) : Type 0 where
+    pub looked : TargetNode
+    pub then : View Content Plan
+    pub free : old.held ≡ None
+    pub none : FindsNone old looked was then
+    pub serves : Serves looked new then is
+
+  -- One entry was made: the response that was held was sent; or else a request was taken in with its END_REQ; or else, where no response is held, the
+  -- first of the queue was served.
+  abbrev pub MakesOne : TargetNode → TargetNode → View Content Plan → View Content Plan → Type 0
+  MakesOne old new was is = Sends old new was is ⊎ ((old.accepts ≡ true) × TakesOne old new was is ⊎ ServesNext old new was is)
+
+  -- A step makes an entry: requests were taken in, if any, and then it was made.
+  pub record HasMade (old new : TargetNode) (was is : View Content Plan) : Type 0 where
+    pub taken : ℕ
+    pub last : TargetNode
+    pub then : View Content Plan
+    pub takes : TakesSome taken old last was then
+    pub makes : MakesOne last new then is
+
+  -- What a try of a step came to: an entry of the memory; nothing that it could do; or a request was taken in without an entry, and the step goes on.
+  abbrev pub HasTried : TargetNode → TargetNode → View Content Plan → View Content Plan → Option OneStep → Type 0
+  HasTried old new was is (Some Made) = MakesOne old new was is × HasNew (IsByNode frame.world (Memory old.memory)) was.known is.known
+  HasTried old new was is (Some Waits) = DoesNothing old new was is
+  HasTried old new was is (Some Finished) = ⊥
+  HasTried old new was is None = (old.accepts ≡ false) × TakesOne old new was is
 
   abbrev pub HasPumped : TargetNode → TargetNode → View Content Plan → View Content Plan → Pumped → Type 0
   HasPumped old new was is Did = Sends old new was is ⊎ (TakesOne old new was is ⊎ ServesOne old new was is)

@@ -3,6 +3,8 @@
 //! - `TargetNode` is such a memory: its hops in order, its event queue, and the response that it holds. `new` makes
 //!   it by the plan of a net. `pump`, of `node_hops::Node`, is a loop's turn of it, over the moves `send`, `take_in`
 //!   and `serve_first`, each of which makes one entry at most.
+//! - `TargetNode::step` makes the next entry by the same moves, or waits. `laws` says that a memory keeps what it knows while
+//!   others move.
 //! - `MemoryRequest` is what was fetched from a hop and waits to be served, `MemoryResponse` what was served and waits to be
 //!   sent. `specs/Items` says what is known of each, `specs/Node` what a memory keeps and what a pump does.
 //! - `fetch`, `end`, `serve` and `respond` are the calls of which the moves consist.
@@ -16,9 +18,11 @@
 #![tactic(auto)]
 
 mod items;
+pub mod laws;
 mod making;
 mod moves;
 mod node;
+mod step;
 
 pub use items::{FromHop, MemoryRequest, MemoryResponse};
 pub use moves::{end, fetch, respond, serve};

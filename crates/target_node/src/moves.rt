@@ -1,5 +1,5 @@
 // The moves of a memory at its hops.
-ghost use Rattle.std.specs.Prelude.{◌≡◌, ◌<◌, [], ◌∷◌, ◌++◌, length, IfSome, Option, Some, None};
+ghost use Rattle.std.specs.Prelude.{◌≡◌, ◌<◌, [], ◌∷◌, ◌++◌, length, IfNone, IfSome};
 ghost use Rattle.view_lists.specs.Lists.{Within};
 ghost use Rattle.one_history.specs.Lists.{StandBelow};
 ghost use Rattle.shared_object.specs.Steps.{IsNote};
@@ -8,6 +8,7 @@ ghost use Rattle.tlm_model.specs.declared.platform.Target.TheVariants.{Memory};
 ghost use Rattle.route_plan.specs.Valid.{hop_count};
 ghost use Rattle.plat_net.specs.HopCalls.{CanRespond};
 ghost use Rattle.plat_net.specs.Places.{LeadsTo, hop_place, memory_place};
+ghost use Rattle.node_hops.specs.Steps.{AddsAt, AddsOf};
 ghost use Rattle.node_hops.specs.Traits.{hop_latency, is_accepting};
 ghost use Rattle.target_node.specs.Items.{HasResponded, HasServedAt, IsFetchedAs, IsOwedEnd, IsWaiting, fetch_look};
 
@@ -105,6 +106,7 @@ pub fn end<N: Naming<Plan, TlmLaw>, R: Wait>(
     ensures look { result.1.knows.looks ≡ note.knows.looks ++ (hop_place N.frame.world request.hop, 0) ∷ [] }
     ensures same { (result.0.hop ≡ request.hop) × (result.0.at ≡ request.at) × (result.0.cargo ≡ request.cargo) }
     ensures waits { IsWaiting N.frame N.tokens memory result.1.knows.known result.0 }
+    ensures adds { AddsAt (hop_place N.frame.world request.hop) note.knows result.1.knows }
 {
     let _ = memory;
     let _ = net.plan().platform();
@@ -143,6 +145,7 @@ pub fn serve<N: Naming<Plan, TlmLaw>, R: Wait>(
     ensures below { StandBelow result.1.knows.known result.1.knows.seen }
     ensures look { result.1.knows.looks ≡ note.knows.looks ++ (memory_place N.frame.world memory, 0) ∷ [] }
     ensures served { HasServedAt N.frame N.tokens latency request result.1.knows.known result.0 }
+    ensures adds { AddsOf (memory_place N.frame.world memory) request.cargo.baton.txn note.knows result.1.knows }
 {
     let MemoryRequest {
         hop,
@@ -175,6 +178,7 @@ pub fn respond<N: Naming<Plan, TlmLaw>, R: Wait>(
     ensures knew { Within note.knows.known result.1.knows.known }
     ensures below { StandBelow result.1.knows.known result.1.knows.seen }
     ensures responded { HasResponded N.frame N.tokens response note.knows result.1.knows result.0 }
+    ensures adds { IfNone result.0 (AddsAt (hop_place N.frame.world response.hop) note.knows result.1.knows) }
 {
     let MemoryResponse {
         hop,

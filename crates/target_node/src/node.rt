@@ -1,12 +1,14 @@
 // A memory behind hops.
-ghost use Rattle.std.specs.Prelude.{◌≡◌, ◌<◌, ◌++◌, length, None};
+ghost use Rattle.std.specs.Prelude.{◌≡◌, ◌<◌, ◌++◌, true, length, None};
 ghost use Rattle.std.specs.List.{AllByRecursion};
 ghost use Rattle.view_lists.specs.Lists.{Within};
 ghost use Rattle.one_history.specs.Lists.{StandBelow};
 ghost use Rattle.shared_object.specs.Steps.{IsNote};
 ghost use Rattle.tlm_model.specs.declared.platform.Target.TheVariants.{Memory};
 ghost use Rattle.route_plan.specs.Valid.{hop_count};
+ghost use Rattle.plat_net.specs.Places.{hop_place};
 ghost use Rattle.node_hops.specs.Hops.{IsHopTo};
+ghost use Rattle.node_hops.specs.Steps.{AddsAt, HasNew, IsByNode};
 ghost use Rattle.node_hops.specs.Traits.{is_accepting};
 ghost use Rattle.target_node.specs.Items.{IsFetchedWith, IsWaiting};
 ghost use Rattle.target_node.specs.Node.{HasLooked, HasPumped, HasSent, HasServedFirst, HasTakenIn, IsTarget, end_looks};
@@ -98,6 +100,7 @@ fn end_owed<N: Naming<Plan, TlmLaw>, R: Wait>(
     ensures looks { result.1.knows.looks ≡ note.knows.looks ++ end_looks N.frame.world request.hop accepts }
     ensures hop { result.0.hop ≡ request.hop }
     ensures waits { IsWaiting N.frame N.tokens memory result.1.knows.known result.0 }
+    ensures adds { accepts ≡ true → AddsAt (hop_place N.frame.world request.hop) note.knows result.1.knows }
 {
     let _ = accepts;
     let Some(ticket) = ticket else {
@@ -133,6 +136,7 @@ impl TargetNode {
         ensures knew { Within note.knows.known result.1.knows.known }
         ensures below { StandBelow result.1.knows.known result.1.knows.seen }
         ensures sent { HasSent N.frame N.tokens self.old self.new note.knows result.1.knows result.0 }
+        ensures adds { result.0 ≡ true → HasNew (IsByNode N.frame.world (Memory self.old.memory)) note.knows.known result.1.knows.known }
     {
         let Some(response) = self.held.take() else {
             return (false, note);
@@ -161,6 +165,7 @@ impl TargetNode {
         ensures knew { Within note.knows.known result.1.knows.known }
         ensures below { StandBelow result.1.knows.known result.1.knows.seen }
         ensures taken { HasTakenIn N.frame N.tokens self.old self.new note.knows result.1.knows result.0 }
+        ensures adds { result.0 ≡ true → self.old.accepts ≡ true → HasNew (IsByNode N.frame.world (Memory self.old.memory)) note.knows.known result.1.knows.known }
     {
         if self.queue.len() >= self.queue.room() {
             return (false, note);
@@ -199,6 +204,7 @@ impl TargetNode {
         ensures knew { Within note.knows.known result.1.knows.known }
         ensures below { StandBelow result.1.knows.known result.1.knows.seen }
         ensures served { HasServedFirst N.frame N.tokens self.old self.new note.knows result.1.knows result.0 }
+        ensures adds { result.0 ≡ true → HasNew (IsByNode N.frame.world (Memory self.old.memory)) note.knows.known result.1.knows.known }
     {
         let Some(now) = self.queue.next_time() else {
             return (false, note);

@@ -1,6 +1,10 @@
 use Rattle.plat_net.proofs.Given.{shape_of}
 use Rattle.target_node.proofs.Served.{can_end, waits_then}
 use Rattle.std.proofs.Common.{refl}
+use Rattle.hop_object.specs.declared.call.HopCall.TheVariants.{EndReq}
+use Rattle.hop_object.specs.declared.call.HopReply.TheVariants.{EndedReq}
+use Rattle.plat_net.specs.Places.{hop_place}
+use Rattle.node_hops.proofs.Adds.{hop_adds}
 use Rattle.target_node.proofs.moves.end.Goals as goal
 
 pub end_req-leg-requires-clause-can : goal.end_req-leg-requires-clause-can
@@ -36,3 +40,7 @@ returns-clause-look g c = c.end_req-leg.ensures.look
 
 pub returns-clause-same : goal.returns-clause-same
 returns-clause-same g c = (refl, refl, refl)
+
+pub returns-clause-adds : goal.returns-clause-adds
+returns-clause-adds g c =
+    hop_adds g.N.Naming.frame g.N.Naming.tokens (hop_place g.N.Naming.frame.world c.args.request.hop) c.args.request.hop c.args.note.knows c.end_req-leg.result.2.knows (EndReq c.args.request.leg c.args.request.at) (EndedReq c.end_req-leg.result.0 c.end_req-leg.result.1) c.end_req-leg.ensures.answer tt

@@ -4,6 +4,12 @@ use Rattle.flow_model.specs.Events.{FindsAt, IsCall}
 use Rattle.cargo_model.specs.declared.cargo.Cargo.{Cargo}
 use Rattle.cargo_model.specs.Known.{Known}
 use Rattle.target_node.proofs.Served.{may_again}
+use Rattle.hop_object.specs.declared.call.HopCall.TheVariants as Calls
+use Rattle.cargo_net.specs.Answered.{responded_reply}
+use Rattle.cargo_net.specs.Wallets.{item_given}
+use Rattle.cargo_net.specs.declared.responses.Answered.TheVariants.{Sent}
+use Rattle.plat_net.specs.Places.{hop_place}
+use Rattle.node_hops.proofs.Adds.{hop_adds}
 use Rattle.target_node.proofs.moves.respond.Goals as goal
 
 pub returns-in-Sent-clause-responded : goal.returns-in-Sent-clause-responded
@@ -44,3 +50,13 @@ returns-in-Busy-clause-knew g c = c.in-Busy.ensures.knew
 
 pub returns-in-Busy-clause-below : goal.returns-in-Busy-clause-below
 returns-in-Busy-clause-below g c = c.in-Busy.ensures.below
+
+pub returns-in-Sent-clause-adds : goal.returns-in-Sent-clause-adds
+returns-in-Sent-clause-adds g c =
+    let r = c.args.response in
+    let number = hop_place g.N.Naming.frame.world r.hop in
+    let item : Cargo = item_given g.N.Naming.tokens number r.cargo in
+    hop_adds g.N.Naming.frame g.N.Naming.tokens number r.hop c.args.note.knows c.in-Sent.note.knows (Calls.BeginResp r.leg r.due item) (responded_reply item (Sent c.in-Sent.answer c.in-Sent.at c.in-Sent.note)) c.in-Sent.ensures.answer tt
+
+pub returns-in-Busy-clause-adds : goal.returns-in-Busy-clause-adds
+returns-in-Busy-clause-adds g c = tt

@@ -1,4 +1,8 @@
 use Rattle.target_node.proofs.Served.{can_serve, has_served}
+use Rattle.region_object.specs.declared.call.RegionReply.TheVariants.{Accessed}
+use Rattle.cargo_net.specs.Serves.{access_call}
+use Rattle.plat_net.specs.Places.{memory_place}
+use Rattle.node_hops.proofs.Adds.{serve_adds}
 use Rattle.target_node.proofs.moves.serve.Goals as goal
 
 pub serve-cargo-requires-clause-can : goal.serve-cargo-requires-clause-can
@@ -26,3 +30,7 @@ returns-clause-below g c = c.serve-cargo.ensures.below
 
 pub returns-clause-look : goal.returns-clause-look
 returns-clause-look g c = c.serve-cargo.ensures.look
+
+pub returns-clause-adds : goal.returns-clause-adds
+returns-clause-adds g c =
+    serve_adds g.N.Naming.frame g.N.Naming.tokens (memory_place g.N.Naming.frame.world c.args.memory) c.args.memory c.args.note.knows c.serve-cargo.result.1.knows (access_call c.args.request.cargo c.args.request.at) (Accessed c.serve-cargo.result.0.baton.payload) c.serve-cargo.ensures.answer

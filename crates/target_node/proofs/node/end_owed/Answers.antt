@@ -1,8 +1,9 @@
-use Rattle.std.proofs.Common.{◌≡◌, ◌++◌, Bool, Option, refl, sym, subst}
+use Rattle.std.proofs.Common.{◌≡◌, ◌++◌, Bool, Option, refl, sym, subst, ◌∙◌}
 use Rattle.token_book.specs.declared.ticket.Ticket.{Ticket}
 use Rattle.target_node.specs.Items.{IsFetchedWith}
 use Rattle.target_node.specs.Node.{end_looks}
 use Rattle.node_hops.proofs.Looks.{none_yet}
+use Rattle.target_node.proofs.Adds.{not_both}
 use Rattle.target_node.proofs.Fetches.{with_none, with_ticket}
 use Rattle.target_node.proofs.node.end_owed.Goals as goal
 
@@ -66,3 +67,11 @@ returns-clause-hop g c = let same = c.end.ensures.same in same.0
 
 pub returns-clause-waits : goal.returns-clause-waits
 returns-clause-waits g c = c.end.ensures.waits
+
+pub returns-in_default-clause-adds : goal.returns-in_default-clause-adds
+returns-in_default-clause-adds g c =
+    let f = with_none g.N.Naming.frame g.N.Naming.tokens c.args.memory c.args.note.knows.known c.args.request.hop c.args.accepts c.args.request (subst (λ (o : Option Ticket). IsFetchedWith g.N.Naming.frame g.N.Naming.tokens c.args.memory c.args.note.knows.known c.args.request.hop c.args.accepts c.args.request o) c.in_default.is c.requires.fetched) in
+    λ mode. absurd (not_both (sym f.0 ∙ mode))
+
+pub returns-clause-adds : goal.returns-clause-adds
+returns-clause-adds g c = λ mode. c.end.ensures.adds

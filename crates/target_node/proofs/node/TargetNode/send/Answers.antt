@@ -1,6 +1,12 @@
 use Rattle.std.proofs.Common.{Option, refl, sym, subst, ◌∙◌}
+use Rattle.std.specs.Prelude.{IfNone}
+use Rattle.plat_net.specs.Places.{hop_place}
+use Rattle.node_hops.specs.Steps.{AddsAt}
+use Rattle.node_hops.proofs.Looks.{of_some}
 use Rattle.target_node.specs.Items.{HasResponded}
+use Rattle.target_node.specs.Node.{IsToSend}
 use Rattle.target_node.specs.declared.items.MemoryResponse.{MemoryResponse}
+use Rattle.target_node.proofs.Adds.{not_both, on_hop}
 use Rattle.target_node.proofs.Steps.{gone_keeps, refused_keeps, sends_gone, sends_not}
 use Rattle.target_node.proofs.node.TargetNode.send.Goals as goal
 
@@ -58,3 +64,21 @@ returns-clause-knew g c = c.respond-back.ensures.knew
 
 pub returns-clause-below : goal.returns-clause-below
 returns-clause-below g c = c.respond-back.ensures.below
+
+pub returns-in_default-clause-adds : goal.returns-in_default-clause-adds
+returns-in_default-clause-adds g c = λ sent. absurd (not_both sent)
+
+pub returns-in_default-back-clause-adds : goal.returns-in_default-back-clause-adds
+returns-in_default-back-clause-adds g c =
+    let frame = g.N.Naming.frame in
+    let t = c.args.self.now in
+    let r = c.in-Some.response in
+    let known = c.args.note.knows.known in
+    let s = of_some (IsToSend frame g.N.Naming.tokens t.memory known) t.held r (sym c.take.ensures.value ∙ c.in-Some.is) c.requires.target.held in
+    λ sent. (
+    on_hop frame.world t.memory c.args.note.knows c.respond-back.result.1.knows c.requires.below r.hop s.leads
+    (subst (λ (o : Option MemoryResponse). IfNone o (AddsAt (hop_place frame.world r.hop) c.args.note.knows c.respond-back.result.1.knows)) c.in_default-back.is c.respond-back.ensures.adds)
+    )
+
+pub returns-clause-adds : goal.returns-clause-adds
+returns-clause-adds g c = λ sent. absurd (not_both sent)

@@ -2,6 +2,7 @@ use Rattle.std.proofs.Common.{◌≡◌, ℕ, ◌∷◌, Option, sym, ap, ◌∙
 use Rattle.std.specs.Prelude.{is_some}
 use Rattle.target_node.specs.declared.items.MemoryRequest.{MemoryRequest}
 use Rattle.node_hops.proofs.Looks.{of_some}
+use Rattle.target_node.proofs.Adds.{not_both, on_memory}
 use Rattle.target_node.proofs.Keeps.{latency_there}
 use Rattle.target_node.proofs.Steps.{first_of, gives_first, served_keeps, serves_first}
 use Rattle.target_node.proofs.node.TargetNode.serve_first.Goals as goal
@@ -54,3 +55,16 @@ returns-clause-knew g c = c.serve-response.ensures.knew
 
 pub returns-clause-below : goal.returns-clause-below
 returns-clause-below g c = c.serve-response.ensures.below
+
+pub returns-in_default-clause-adds : goal.returns-in_default-clause-adds
+returns-in_default-clause-adds g c = λ served. absurd (not_both served)
+
+pub returns-clause-adds : goal.returns-clause-adds
+returns-clause-adds g c =
+    let t = c.args.self.now in
+    let known = c.args.note.knows.known in
+    let r = c.in-Some-pop.request in
+    let first = of_some (λ (e : ℕ × MemoryRequest). t.queue.entries ≡ e ∷ c.pop.new.self.entries) c.pop.result (c.in-Some-pop.field-0-0, r) c.in-Some-pop.is c.pop.ensures.first in
+    let waits = (first_of g.N.Naming.frame g.N.Naming.tokens t known known (λ x has. has) c.requires.target (c.in-Some-pop.field-0-0, r) c.pop.new.self.entries first).0.waits in
+    let q = waits.request in
+    λ served. on_memory g.N.Naming.frame.world t.memory c.args.note.knows c.serve-response.result.1.knows c.requires.below r.cargo.baton.txn waits.pass q.fetched.down.asked.passes c.serve-response.ensures.adds

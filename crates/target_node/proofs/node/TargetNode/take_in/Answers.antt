@@ -5,6 +5,10 @@ use Rattle.node_hops.specs.Hops.{IsHopTo}
 use Rattle.node_hops.specs.Looks.{vain_looks}
 use Rattle.target_node.specs.Node.{FindsFirst, HasLooked}
 use Rattle.target_node.specs.declared.items.FromHop.{FromHop}
+use Rattle.plat_net.specs.Places.{LeadsTo}
+use Rattle.node_hops.specs.Steps.{IsByNode}
+use Rattle.node_hops.proofs.News.{new_after}
+use Rattle.target_node.proofs.Adds.{not_both, on_hop}
 use Rattle.target_node.proofs.Keeps.{target_more}
 use Rattle.node_hops.proofs.Looks.{within_on}
 use Rattle.target_node.proofs.Steps.{taken_keeps, takes_in}
@@ -111,3 +115,25 @@ returns-clause-knew g c = within_on c.args.note.knows.known c.fetch_first-fetche
 
 pub returns-clause-below : goal.returns-clause-below
 returns-clause-below g c = c.end_owed-request.ensures.below
+
+pub returns-then-len-room-clause-adds : goal.returns-then-len-room-clause-adds
+returns-then-len-room-clause-adds g c = λ taken. absurd (not_both taken)
+
+pub returns-in_default-clause-adds : goal.returns-in_default-clause-adds
+returns-in_default-clause-adds g c = λ taken. absurd (not_both taken)
+
+pub returns-clause-adds : goal.returns-clause-adds
+returns-clause-adds g c =
+    let p = g.N.Naming.frame.world in
+    let m = c.args.self.now.memory in
+    let e = c.end_owed-request.ensures in
+    let q = e.waits.request in
+    let was = c.args.note.knows in
+    let then = c.fetch_first-fetched.result.1.knows in
+    let is = c.end_owed-request.result.1.knows in
+    let here : c.end_owed-request.result.0.hop ≡ c.in-Some.field-0.request.hop = e.hop in
+    let leads = subst (λ (h : ℕ). LeadsTo p.platform h (Memory m)) here q.leads in
+    λ taken mode. (
+    new_after (IsByNode p (Memory m)) was.known then.known is.known c.fetch_first-fetched.ensures.knew
+    (on_hop p m then is c.fetch_first-fetched.ensures.below c.in-Some.field-0.request.hop leads (e.adds mode))
+    )
