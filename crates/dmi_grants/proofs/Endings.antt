@@ -148,17 +148,19 @@ module _ (frame : Frame Plan) (m : ℕ) (txn : TxnId) (time low high told : ℕ)
         omega (arith, one);
   }
 
-  -- nothing was ended
-  pub ended_none : (note : View Content Plan) (w : Purse) → HasEnded frame m txn time low high told [] note note w w
-  ended_none note w = record {
+  -- nothing was ended, while others may have made entries
+  pub ended_none : (note back : View Content Plan) (w : Purse) → Within note.known back.known → HasEnded frame m txn time low high told [] note back w w
+  ended_none note back w knew = record {
     each = λ x has. absurd (has_none x has);
     past = λ x y has known. absurd (has_none x has);
     above = λ x e has known. absurd (has_none x has);
     rising = tt;
-    keeps = λ e has. has;
+    keeps = knew;
     knows = λ x has. absurd (has_none x has);
     wallet = spent_none m w;
-    fewer = omega arith;
+    fewer =
+        let less = fewer (is_closed_in (written_at m note.known)) (is_closed_in (written_at m back.known)) (first_gate frame.world.platform m) (dmi_gates frame.world m) (λ k is. closed_more (written_at m note.known) (written_at m back.known) k (known_more m note.known back.known knew) is) in
+        omega (arith, less);
   }
 
   rising_both : (xs ys : List Written) → IsRising position_in xs → IsRising position_in ys → ((x y : Written) → Has xs x → Has ys y → x.position < y.position) → IsRising position_in (xs ++ ys)

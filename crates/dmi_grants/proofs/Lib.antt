@@ -11,3 +11,4 @@ pub mod OnlyWay
 pub mod Asks
 pub mod Telling
 pub mod Points
+pub mod Revoking

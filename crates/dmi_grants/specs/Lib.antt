@@ -6,3 +6,4 @@ pub mod Table
 pub mod Using
 pub mod Known
 pub mod Telling
+pub mod Revoking

@@ -1,4 +1,5 @@
 // What stays as a note learns more, and what an invalidation adds.
+ghost use Rattle.dmi_grants.specs.Revoking.{RevokingCanPay, RevokingGoesOn, RevokingIsTold};
 ghost use Rattle.dmi_grants.specs.Table.{StayKnown, StaysUsable};
 ghost use Rattle.dmi_grants.specs.Telling.{InvalidationAdds, InvalidationKeepsPoints};
 
@@ -15,4 +16,12 @@ pub fn grants_stay_known()
 pub fn invalidations_add_own_entries()
     ensures adds { InvalidationAdds }
     ensures keeps { InvalidationKeepsPoints }
+{}
+
+/// An invalidation that is under way stays so as its note learns more, since others may make entries between two of its own. Its
+/// note knows that it was told, and where its tickets sufficed at its beginning, they suffice for what is left to close.
+pub fn invalidations_go_on()
+    ensures more { RevokingGoesOn }
+    ensures told { RevokingIsTold }
+    ensures pays { RevokingCanPay }
 {}
