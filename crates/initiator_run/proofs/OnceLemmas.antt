@@ -1,13 +1,15 @@
 -- Moves take at most one step of a script.
-use Rattle.std.proofs.Common.{◌≡◌, ℕ, inl, inr, List, [], Bool, false, cond, refl, ap, sym, subst, ◌∙◌}
+use Rattle.std.proofs.Common.{◌≡◌, ℕ, suc, inl, inr, List, [], Bool, false, cond, refl, ap, sym, subst, ◌∙◌}
 use Rattle.script_engine.specs.declared.part.Part.TheVariants.{Pauses}
 use Rattle.script_engine.specs.declared.part.Pause.{Pause}
 use Rattle.script_engine.specs.declared.part.Transfer.{Transfer}
 use Rattle.script_engine.specs.Part.{is_fenced_part}
 use Rattle.script_engine.specs.State.{State, next_of, op_of, is_fenced, passed_by, told_by}
+use Rattle.tlm_model.specs.Plan.{Plan}
+use Rattle.initiator_run.specs.Moves.{Keeps}
 use Rattle.initiator_run.specs.Run.{Run, accessed, passed, with_refusal}
-use Rattle.initiator_run.specs.Steps.{StepsOnce}
-use Rattle.initiator_run.proofs.RunLemmas.{accessed_step, passed_step}
+use Rattle.initiator_run.specs.Steps.{HasMoved, StepsOnce}
+use Rattle.initiator_run.proofs.RunLemmas.{Keeps-round, accessed_step, passed_step}
 
 pub StepsOnce-same : (e : State) → StepsOnce e e
 StepsOnce-same e = record { got = []; step = inl refl }
@@ -31,3 +33,11 @@ StepsOnce-by_refusal r new x by got run = record { got = got; step = inr (ap (λ
 -- before it and after it nothing is done
 pub StepsOnce-between : (a b c d : State) → b ≡ a → StepsOnce b c → d ≡ c → StepsOnce a d
 StepsOnce-between a b c d before once after = subst (λ (x : State). StepsOnce x d) before (subst (StepsOnce b) (sym after) once)
+
+-- one move more
+pub HasMoved-then : (p : Plan) (a b c : Run) → HasMoved p a b → Keeps p b c → StepsOnce b.engine c.engine → HasMoved p a c
+HasMoved-then p a b c moved keeps once = record { count = suc moved.count; moves = (b, moved.moves, keeps, once) }
+
+-- into another round
+pub HasMoved-let : (p : Plan) (a b c : Run) → HasMoved p a b → c ≡ record b { round = c.round } → HasMoved p a c
+HasMoved-let p a b c moved same = HasMoved-then p a b c moved (Keeps-round p b c c.round same) (StepsOnce-between b.engine b.engine b.engine c.engine refl (StepsOnce-same b.engine) (ap (λ (r : Run). r.engine) same))

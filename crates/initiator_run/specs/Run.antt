@@ -1,5 +1,5 @@
 -- What is seen of an initiator's run, and its moves.
-use Rattle.std.specs.Prelude.{ℕ, ◌+◌, ◌-◌, ◌^◌, min, Bool, false, ◌&&◌, ◌||◌, List, [], ◌∷◌, ◌++◌, if◌then◌else◌}
+use Rattle.std.specs.Prelude.{ℕ, ◌≡◌, ◌+◌, ◌-◌, ◌^◌, min, Bool, false, ◌&&◌, ◌||◌, List, [], ◌∷◌, ◌++◌, if◌then◌else◌}
 use Rattle.tlm_types.specs.declared.ends.EndOf.{EndOf}
 use Rattle.tlm_types.specs.declared.ends.RefusedItem.{RefusedItem}
 use Rattle.tlm_types.specs.Refused.{Refusals}
@@ -88,3 +88,10 @@ with_refusal x r = record r { refused = record r.refused { items = r.refused.ite
 -- how far a run has come
 abbrev pub end_at : Run → EndOf
 end_at r = record { transactions = r.engine.seq; syncs = r.syncs; end = current_time r.keeper; refused = r.refused }
+
+-- an end tells how far a run has come
+pub record IsSoFar (r : Run) (end : EndOf) : Type 0 where
+  pub transactions : end.transactions ≡ r.engine.seq
+  pub syncs : end.syncs ≡ r.syncs
+  pub time : end.end ≡ current_time r.keeper
+  pub refused : end.refused.items ≡ r.refused.items

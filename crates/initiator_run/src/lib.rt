@@ -4,7 +4,8 @@
 //!   the round that it has been let into. `step` makes a `Move` without an entry: an access or debug read
 //!   that has no route is noted as refused, one that has is a `NextAccess`, and `complete` goes on after it. An
 //!   invalidation that has a route is a `NextInvalidation`, and `pass_invalidation` goes on after it; one that
-//!   has none is passed over.
+//!   has none is passed over. `advance` makes such moves as long as there are any and the rounds let it; a `Stop` tells
+//!   where they have led to. `end_so_far` tells how far a run has come.
 //! - `take_turn` makes its moves up to and with its next entry at a memory, as far as the rounds let it; a
 //!   `Turn` tells how that ended.
 //!
@@ -18,5 +19,5 @@
 mod run;
 mod turn;
 
-pub use run::{InitiatorRun, Move, NextAccess, NextInvalidation};
+pub use run::{InitiatorRun, Move, NextAccess, NextInvalidation, Stop};
 pub use turn::{Turn, take_turn};

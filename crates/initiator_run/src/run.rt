@@ -12,8 +12,8 @@ ghost use Rattle.time_board.specs.Rounds.{AreClose};
 ghost use Rattle.initiator_run.specs.Access.{bytes_back, call_at, cost_next, entry_made, payload_back};
 ghost use Rattle.initiator_run.specs.Board.{HasGoneOn, IsInRound, IsLet, SyncsOnce};
 ghost use Rattle.initiator_run.specs.Moves.{Advances, IsInvalidation, IsMove, IsUnderWay, Keeps, last_byte, steps_left};
-ghost use Rattle.initiator_run.specs.Steps.{StepsOnce};
-ghost use Rattle.initiator_run.specs.Run.{accessed, fresh_run, end_at, engine_after, invalidated, passed, refused_as, with_refusal, with_sync};
+ghost use Rattle.initiator_run.specs.Steps.{HasMoved, StepsOnce};
+ghost use Rattle.initiator_run.specs.Run.{IsSoFar, accessed, fresh_run, end_at, engine_after, invalidated, passed, refused_as, with_refusal, with_sync};
 
 use generic_payload::Payload;
 use outside::Pace;
@@ -82,7 +82,7 @@ pub enum Move {
 }
 
 /// Where the moves of a run have led to.
-pub(crate) enum Stop {
+pub enum Stop {
     /// The access or debug read that is next has a route.
     Reached(NextAccess),
     /// The invalidation that is next has a route.
@@ -180,6 +180,19 @@ impl InitiatorRun {
         }
     }
 
+    /// How far it has come, told while it may go on. Its only error is want of memory.
+    pub fn end_so_far(&self, alloc: Global) -> Result<EndOf, Memory>
+        ensures { IfOk result (IsSoFar self.now) }
+    {
+        let refused = copied(alloc, &self.refused)?;
+        Ok(EndOf {
+            transactions: self.engine.transactions(),
+            syncs: self.syncs,
+            end: self.keeper.current(),
+            refused,
+        })
+    }
+
     /// Whether a step of it has found its script at the end.
     pub fn has_finished(&self) -> bool
         ensures { result ≡ self.now.finished }
@@ -190,7 +203,7 @@ impl InitiatorRun {
     /// Makes all moves without an entry, up to the next access, debug read or invalidation that has a route, which
     /// is answered, to the end of the script, or to a sync that the rounds don't let through. The pace is
     /// told of each access and debug read.
-    pub(crate) fn advance<P: Pace>(
+    pub fn advance<P: Pace>(
         &mut self,
         plan: &Plan,
         rounds: &mut Rounds,
@@ -203,6 +216,7 @@ impl InitiatorRun {
         requires close { AreClose rounds.old }
         requires roomy { payload.old.room ≡ 4096 }
         ensures keeps { Keeps plan.now self.old self.new }
+        ensures moved { HasMoved plan.now self.old self.new }
         ensures cases { Advances plan.now self.old self.new rounds.new result }
         ensures rounds { HasGoneOn self.old self.new rounds.old rounds.new }
         ensures roomy { payload.new.room ≡ payload.old.room }
@@ -480,6 +494,18 @@ impl InitiatorRun {
             seq: self.engine.transactions(),
         }
     }
+}
+
+// A list of the same items. Its only error is want of memory.
+fn copied(alloc: Global, refused: &RefusedList) -> Result<RefusedList, Memory>
+    ensures { IfOk result (λ l. l.items ≡ refused.now.items) }
+{
+    let count = refused.len();
+    let mut copy = RefusedList::with_room(alloc, count)?;
+    for at in 0..count {
+        copy.push(refused.item(at));
+    }
+    Ok(copy)
 }
 
 // The last of so many bytes from this one on. It is the last that there can be where there are more.

@@ -1,6 +1,7 @@
 use Rattle.std.proofs.Common.{◌≡◌, ap, sym, ◌∙◌}
 use Rattle.initiator_run.specs.Run.{Run}
 use Rattle.initiator_run.proofs.AdvanceLemmas.{Goes-ended, Goes-let, Goes-moved}
+use Rattle.initiator_run.proofs.OnceLemmas.{HasMoved-let, HasMoved-then}
 use Rattle.initiator_run.proofs.RunLemmas.{Keeps-then}
 use Rattle.initiator_run.proofs.run.InitiatorRun.advance.Goals as goal
 
@@ -12,8 +13,12 @@ step-requires-clause-way g c =
 pub loop-self-preserved : goal.loop-self-preserved
 loop-self-preserved g c =
     let goes = Goes-let c.args.plan.now c.args.self.now c.loop-self.self c.is_let_through.new.self c.args.rounds.now c.loop-self.rounds c.is_let_through.new.rounds c.loop-self.invariant.0 c.loop-self.invariant.1 c.is_let_through.ensures.run c.is_let_through.ensures.rounds in
-    let moved = Goes-moved c.args.plan.now c.args.self.now c.is_let_through.new.self c.step.new.self c.args.rounds.now c.is_let_through.new.rounds goes c.loop-self-test.ensures.through c.step.ensures.keeps c.step.ensures.syncs c.in-Went.ensures.cases.1 in
-    (moved.advanced, moved.gone, c.step.ensures.roomy ∙ c.loop-self.invariant.2)
+    let moved = Goes-moved c.args.plan.now c.args.self.now c.is_let_through.new.self c.step.new.self c.args.rounds.now c.is_let_through.new.rounds goes c.loop-self-test.ensures.through c.step.ensures.keeps c.step.ensures.syncs c.in-Went.ensures.cases.1 in (
+      moved.advanced,
+      moved.gone,
+      c.step.ensures.roomy ∙ c.loop-self.invariant.2,
+      HasMoved-then c.args.plan.now c.args.self.now c.is_let_through.new.self c.step.new.self (HasMoved-let c.args.plan.now c.args.self.now c.loop-self.self c.is_let_through.new.self c.loop-self.invariant.3 c.is_let_through.ensures.run) c.step.ensures.keeps c.step.ensures.once,
+    )
 
 pub returns-in-Reached-clause-keeps : goal.returns-in-Reached-clause-keeps
 returns-in-Reached-clause-keeps g c =
@@ -76,3 +81,18 @@ returns-in-Ended-clause-rounds g c =
 pub returns-clause-rounds : goal.returns-clause-rounds
 returns-clause-rounds g c =
     (Goes-let c.args.plan.now c.args.self.now c.loop-self.self c.is_let_through.new.self c.args.rounds.now c.loop-self.rounds c.is_let_through.new.rounds c.loop-self.invariant.0 c.loop-self.invariant.1 c.is_let_through.ensures.run c.is_let_through.ensures.rounds).gone
+
+pub returns-in-Reached-clause-moved : goal.returns-in-Reached-clause-moved
+returns-in-Reached-clause-moved g c =
+    HasMoved-then c.args.plan.now c.args.self.now c.is_let_through.new.self c.step.new.self (HasMoved-let c.args.plan.now c.args.self.now c.loop-self.self c.is_let_through.new.self c.loop-self.invariant.3 c.is_let_through.ensures.run) c.step.ensures.keeps c.step.ensures.once
+
+pub returns-in-Invalidates-clause-moved : goal.returns-in-Invalidates-clause-moved
+returns-in-Invalidates-clause-moved g c =
+    HasMoved-then c.args.plan.now c.args.self.now c.is_let_through.new.self c.step.new.self (HasMoved-let c.args.plan.now c.args.self.now c.loop-self.self c.is_let_through.new.self c.loop-self.invariant.3 c.is_let_through.ensures.run) c.step.ensures.keeps c.step.ensures.once
+
+pub returns-in-Ended-clause-moved : goal.returns-in-Ended-clause-moved
+returns-in-Ended-clause-moved g c =
+    HasMoved-then c.args.plan.now c.args.self.now c.is_let_through.new.self c.step.new.self (HasMoved-let c.args.plan.now c.args.self.now c.loop-self.self c.is_let_through.new.self c.loop-self.invariant.3 c.is_let_through.ensures.run) c.step.ensures.keeps c.step.ensures.once
+
+pub returns-clause-moved : goal.returns-clause-moved
+returns-clause-moved g c = HasMoved-let c.args.plan.now c.args.self.now c.loop-self.self c.is_let_through.new.self c.loop-self.invariant.3 c.is_let_through.ensures.run
