@@ -61,14 +61,16 @@ use Rattle.initiator_run.proofs.RouteLemmas.{routed, unrouted, walk_memory}
 use Rattle.initiator_run.proofs.SendLemmas.{bytes_come_back, entry_is_made, whole_comes_back}
 use Rattle.run_outcome.proofs.ListLemmas.{is_within}
 use Rattle.plat_net.specs.Calls.{IsCalled, OneTicketLess, route_at}
+use Rattle.node_hops.specs.Steps.{HasNew}
 use Rattle.dmi_grants.specs.declared.table.Held.{Held}
 use Rattle.dmi_grants.specs.Table.{TableView, covers}
 use Rattle.decoupled_run.specs.Job.{AsksNothing, HasAllOf, IsAsking, IsInitiator}
-use Rattle.decoupled_run.specs.Moves.{IsLeft, txn_next}
+use Rattle.decoupled_run.specs.Moves.{IsEntryOfRun, IsLeft, txn_next}
 use Rattle.decoupled_run.specs.Known.{known_to}
 use Rattle.decoupled_run.proofs.EntryLemmas.{IsDoneFor, IsFor, done_by_way, keeps_more, next_is_asked, next_is_for, request_next, way_allowed}
 use Rattle.decoupled_run.proofs.JobLemmas.{number, own_number, sent}
 use Rattle.decoupled_run.proofs.KnownLemmas.{HasEntered, read_placed}
+use Rattle.decoupled_run.proofs.RunEntries.{entered_new, entry_of_run, round_next}
 use Rattle.decoupled_run.proofs.ScriptLemmas.{plain_has_bytes, plain_moves, plain_next}
 use Rattle.decoupled_run.proofs.TellLemmas.{tells_access}
 
@@ -329,6 +331,13 @@ module _ (frame : Frame Plan) (r : Run) (x : Transfer) (route : Route) (note : V
     access_sent =
         sent frame r note back old t job (accessed x route.latency payload.bytes r) route.memory e entered own x route payload.bytes new refl reached route_of_next whole paid ticket refl
         (HasCome-turn p i job.mine r x m route called.position payload.bytes job.made.come reached.next route_of_next called.number told) keeps tt refl refl tells
+
+    -- the entry is new to the note
+    pub access_new : HasNew (IsEntryOfRun p r (accessed x route.latency payload.bytes r)) note.known back.known
+    access_new =
+        entered_new frame route.memory e note back entered job.below (IsEntryOfRun p r (accessed x route.latency payload.bytes r))
+        (λ y same place. entry_of_run p r (accessed x route.latency payload.bytes r) route.memory e i y job.is memory_below refl (round_next p.platform i job.mine r x reached.next job.made.come)
+        (λ h come. HasCome-turn p i h r x m route called.position payload.bytes come reached.next route_of_next called.number told) same place)
 
     last_is : last_of (i).number (job.mine ++ e ∷ []) ≡ Some e
     last_is = last_push (i).number job.mine e own

@@ -30,7 +30,7 @@ use Rattle.tlm_model.specs.History.{is_object}
 use Rattle.tlm_model.specs.Plan.{Plan, Initiator, initiators_of}
 use Rattle.tlm_model.specs.Requests.{requests_of}
 use Rattle.tlm_model.specs.Route.{route_of}
-use Rattle.tlm_model.specs.Scripts.{IsGrantee, first_gate, has_gate}
+use Rattle.tlm_model.specs.Scripts.{IsGrantee, first_gate, has_gate, is_answer}
 use Rattle.tlm_model.specs.Times.{HasTime, decoupled_time}
 use Rattle.tlm_model.specs.Store.{is_allowed}
 use Rattle.good_history.specs.Plain.{is_direct}
@@ -54,6 +54,7 @@ use Rattle.initiator_run.specs.Run.{Run}
 use Rattle.plat_net.specs.Calls.{entries_of}
 use Rattle.plat_net.proofs.ObjectLemmas.{more_objects}
 use Rattle.plat_net.proofs.WalkLemmas.{leads_to_memory}
+use Rattle.node_hops.specs.Steps.{HasNew}
 use Rattle.dmi_grants.specs.declared.table.Held.{Held}
 use Rattle.dmi_grants.specs.Asking.{AreGiven, IsCause, IsDenied, IsTaken, MayAsk}
 use Rattle.dmi_grants.specs.Made.{HasSpent, IsRoomyFor, count_without, dmi_gates, dmi_gates_of, is_given_in}
@@ -66,10 +67,12 @@ use Rattle.dmi_grants.proofs.GateNumbers.{first_is, gates_are}
 use Rattle.dmi_grants.proofs.Known.{given_more, granted_in, known_more, log_given}
 use Rattle.decoupled_run.specs.Job.{AreBelow, AsksNothing, HasAllOf, HasTickets, HoldsGrants, IsAsking, IsAtEase, IsHeldGrant, IsInitiator}
 use Rattle.decoupled_run.specs.Known.{known_to, ungiven}
+use Rattle.decoupled_run.specs.Stepped.{IsOfRound, IsStepEntry}
 use Rattle.decoupled_run.proofs.AccessLemmas.{last_push, no_and}
 use Rattle.decoupled_run.proofs.EntryLemmas.{IsDoneFor, IsFor, come_granted, keeps_more}
-use Rattle.decoupled_run.proofs.JobLemmas.{entries_here, entries_there, learns_more, made_more, own_more, own_number, returned_more, still_held, still_nothing}
+use Rattle.decoupled_run.proofs.JobLemmas.{entries_here, entries_there, learns_more, made_more, number, own_more, own_number, returned_more, still_held, still_nothing}
 use Rattle.decoupled_run.proofs.KnownLemmas.{HasEntered, all_given, all_of, all_ungiven_one, below_of, entry_by, made_enters, read_at, read_more}
+use Rattle.decoupled_run.proofs.RunEntries.{entered_new, unanswered_entry}
 use Rattle.decoupled_run.proofs.TellLemmas.{led_to, tells_grant}
 use Rattle.decoupled_run.proofs.TicketLemmas.{gates_left_given, gates_left_less, granted, may_be_granted, routed_path, some_ungiven}
 
@@ -392,6 +395,12 @@ module _ (frame : Frame Plan) (r : Run) (note : View Content Plan) (old : Purse)
     granted_nothing =
         subst (λ (o : Option Entry). MatchOption o (Unit {0}) (λ a. IsTrue (asks p a) → KnowsAllGiven p (known_to p back) back.seen a.object)) (sym (last_push (i).number job.mine g own))
         (λ ask. absurd (let wrong : false ≡ true = sym (no_and (plain_of (slice_get (initiators_of p) (g).txn.initiator) (g).txn.seq)) ∙ ask in cc (wrong)))
+
+    -- its entry is new to the note
+    pub granted_new : IsOfRound p r txn → HasNew (IsStepEntry p r r) note.known back.known
+    granted_new round =
+        entered_new frame route.memory g note back entered job.below (IsStepEntry p r r)
+        (λ y same place. unanswered_entry p r route.memory txn y there place (ap (λ (z : Entry). z.txn) same ∙ taken.told.0) (asking.own ∙ number frame r note note old t job) round (ap (λ (z : Entry). is_answer z.what) same))
 
     pub granted_ease : IsAtEase frame r back new new_t
     granted_ease = subst (IsAtEase frame r back new) (sym taken.table) (record { is = granted_on; answered = granted_nothing })

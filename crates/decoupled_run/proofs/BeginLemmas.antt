@@ -48,6 +48,8 @@ use Rattle.plat_net.proofs.ObjectLemmas.{more_objects}
 use Rattle.dmi_grants.specs.Made.{IsRoomyFor, dmi_gates, is_given_in}
 use Rattle.dmi_grants.specs.Table.{TableView}
 use Rattle.shared_object.specs.Written.{written_at}
+use Rattle.decoupled_run.specs.declared.steps.Owes.TheVariants.{Nothing}
+use Rattle.decoupled_run.specs.Stepped.{HasBegun}
 use Rattle.decoupled_run.specs.Job.{HasTickets, IsAtEase, IsJob, goes_direct, is_direct_row}
 use Rattle.decoupled_run.specs.Known.{all_ungiven}
 use Rattle.decoupled_run.proofs.AskLemmas.{dmi_below, gates_at, row_at}
@@ -105,6 +107,14 @@ has_to (suc n) k less = by (cases_eq k n) (λ below. has_to n k below)
     by (inl same) rest = (0, ap some (sym same))
     by (inr other) rest = has_later n (numbers_to n) k (rest (omega arith))
 
+-- a fresh run has come to the beginning of its script
+pub come_begun : (frame : Frame Plan) (n : ℕ) (i : Initiator) → IsValid frame.world → slice_get (initiators_of frame.world) n ≡ Some i → HasCome frame.world.platform i [] (fresh_run n i.script frame.world.platform.quantum (2 * length i.script))
+come_begun frame n i valid at =
+    let p : Plan = frame.world in
+    let script = proper_at p valid n i at in
+    subst (λ (k : ℕ). HasCome p.platform i [] (fresh_run k i.script p.platform.quantum (2 * length i.script))) (initiator_number p n i at)
+    (HasCome-begun begins p.platform i (2 * length i.script) (omega (arith, syncs_bound p.platform i 0 0 i.script, script.few)) (few_numbers i.script) script.each)
+
 module _ (frame : Frame Plan) (valid : IsValid frame.world) (n : ℕ) (i : Initiator) (at : slice_get (initiators_of frame.world) n ≡ Some i) (decoupled : i.row.style ≢ FourPhase) (v : View Content Plan) (blank : v.known ≡ []) (w : Purse) (tokens : TableId) (shares : HasShares tokens frame.world n w) where
   abbrev p : Plan
   p = frame.world
@@ -158,8 +168,7 @@ module _ (frame : Frame Plan) (valid : IsValid frame.world) (n : ℕ) (i : Initi
             rising = tt;
             known = λ e has. absurd (has_none e has);
             own = λ e has. absurd (has_none e has);
-            come = subst (λ (k : ℕ). HasCome p.platform i [] (fresh_run k i.script p.platform.quantum (2 * length i.script))) number
-                (HasCome-begun begins p.platform i (2 * length i.script) (omega (arith, syncs_bound p.platform i 0 0 i.script, script.few)) (few_numbers i.script) script.each);
+            come = come_begun frame n i valid at;
             stands = begins_in_script i n;
             keeps = record { scripts = record { replies = tt; ways = tt; order = tt; places = tt }; times = tt };
             decoupled = tt;
@@ -196,6 +205,18 @@ same_script a b q = cc
 style_at : (P : Style → Type 0) (o : Option InitiatorRow) (row : InitiatorRow) → o ≡ Some row → IsSomeAnd o (λ (y : InitiatorRow). P y.style) → P row.style
 style_at P o row is holds = subst (λ (y : Option InitiatorRow). IsSomeAnd y (λ (z : InitiatorRow). P z.style)) is holds
 
+-- its run is fresh
+pub run_begun : (frame : Frame Plan) (table tokens : TableId) (n : ℕ) (s : Start) (run : Run) (quantum room : ℕ) (script : List Operation) (i : Initiator) → slice_get (initiators_of frame.world) n ≡ Some i → IsStart table tokens frame.world n s → slice_get frame.world.scripts n ≡ Some script
+    → quantum ≡ frame.world.platform.quantum → room ≡ 2 * length script → run ≡ record (fresh_run 0 [] quantum room) { engine = s.engine } → run ≡ fresh_run n i.script frame.world.platform.quantum (2 * length i.script)
+run_begun frame table tokens n s made quantum room script i is start at quantum_is room_is run_is =
+    let p : Plan = frame.world in
+    let mine : i.script ≡ script = same_script i.script script (sym (script_from 0 n p.platform.initiators p.scripts i is) ∙ at) in
+    let engine : s.engine ≡ begun_engine n i.script = subst (λ (o : Option (List Operation)). IsSomeAnd o (λ (x : List Operation). s.engine ≡ begun_engine n x)) at start.engine ∙ ap (begun_engine n) (sym mine) in
+    run_is
+    ∙ (ap (λ (q : ℕ). record (fresh_run 0 [] q room) { engine = s.engine }) quantum_is
+    ∙ (ap (λ (k : ℕ). record (fresh_run 0 [] p.platform.quantum k) { engine = s.engine }) (room_is ∙ ap (λ (x : List Operation). 2 * length x) (sym mine))
+    ∙ ap (λ (e : State). record (fresh_run 0 [] p.platform.quantum (2 * length i.script)) { engine = e }) engine))
+
 -- a job before its first turn
 pub job_begun : (frame : Frame Plan) (table tokens : TableId) (d : Bool) (n : ℕ) (s : Start) (run : Run) (quantum room : ℕ) (script : List Operation) (gates : ℕ) (t : TableView) → IsValid frame.world → n < length frame.world.platform.initiators → IsSomeAnd (slice_get frame.world.platform.initiators n) (λ (row : InitiatorRow). row.style ≢ FourPhase)
     → d ≡ goes_direct frame.world n → (d ≡ true → gates ≡ 2048) → IsStart table tokens frame.world n s → slice_get frame.world.scripts n ≡ Some script → quantum ≡ frame.world.platform.quantum → room ≡ 2 * length script
@@ -204,16 +225,10 @@ job_begun frame table tokens d n s run quantum room script gates t valid below d
     let p : Plan = frame.world in
     let found = has_element (initiators_of p) n (omega (arith, count_initiators 0 p.platform.initiators p.scripts valid.scripts)) in
     let i = found.element in
-    let mine : i.script ≡ script = same_script i.script script (sym (script_from 0 n p.platform.initiators p.scripts i found.at) ∙ at) in
     let row = (initiator_from 0 p.platform.initiators p.scripts n i found.at).1 in
     let style : i.row.style ≢ FourPhase = style_at (λ (x : Style). x ≢ FourPhase) (slice_get p.platform.initiators n) i.row row decoupled in
     let room_for : is_direct_style i.row.style ≡ true → gates ≡ 2048 = λ goes. enough (styled ∙ (ap is_direct_row row ∙ goes)) in
-    let engine : s.engine ≡ begun_engine n i.script = subst (λ (o : Option (List Operation)). IsSomeAnd o (λ (x : List Operation). s.engine ≡ begun_engine n x)) at start.engine ∙ ap (begun_engine n) (sym mine) in
-    let first : run ≡ fresh_run n i.script p.platform.quantum (2 * length i.script) =
-    run_is
-    ∙ (ap (λ (q : ℕ). record (fresh_run 0 [] q room) { engine = s.engine }) quantum_is
-    ∙ (ap (λ (k : ℕ). record (fresh_run 0 [] p.platform.quantum k) { engine = s.engine }) (room_is ∙ ap (λ (x : List Operation). 2 * length x) (sym mine))
-    ∙ ap (λ (e : State). record (fresh_run 0 [] p.platform.quantum (2 * length i.script)) { engine = e }) engine)) in
+    let first = run_begun frame table tokens n s run quantum room script i found.at start at quantum_is room_is run_is in
     record {
       note_of = start.note.is_note;
       wallet_of = start.wallet.of;
@@ -222,3 +237,26 @@ job_begun frame table tokens d n s run quantum room script gates t valid below d
       is = subst (λ (r : Run). IsAtEase frame r s.note.knows s.wallet t) (sym first) (subst (IsAtEase frame (fresh_run n i.script p.platform.quantum (2 * length i.script)) s.note.knows s.wallet) (sym table_is)
           (initiator_begun frame valid n i found.at style s.note.knows start.note.known s.wallet tokens start.wallet gates room_for));
     }
+
+-- so does one that is stepped
+pub stepped_begun : (frame : Frame Plan) (table tokens : TableId) (d : Bool) (n : ℕ) (s : Start) (run : Run) (quantum room : ℕ) (script : List Operation) (t : TableView) → IsValid frame.world → IsStart table tokens frame.world n s → slice_get frame.world.scripts n ≡ Some script → quantum ≡ frame.world.platform.quantum → room ≡ 2 * length script
+    → run ≡ record (fresh_run 0 [] quantum room) { engine = s.engine } → IsJob table tokens frame d run s.payload s.note s.wallet t → HasBegun table tokens frame n (record { run = run; payload = Some s.payload; wallet = s.wallet; grants = t; is_direct = d; owes = Nothing }) s.note
+stepped_begun frame table tokens d n s run quantum room script t valid start at quantum_is room_is run_is job = record {
+  stepped = record {
+    payload = s.payload;
+    has_payload = refl;
+    roomy = job.roomy;
+    note_of = job.note_of;
+    below = job.is.is.below;
+    wallet_of = job.wallet_of;
+    styled = job.styled;
+    is = job.is;
+    settled = λ finished. refl;
+  };
+  blank = start.note;
+  number_is =
+      ap (λ (r : Run). r.engine.initiator) run_is
+      ∙ ap (λ (e : State). e.initiator) (subst (λ (o : Option (List Operation)). IsSomeAnd o (λ (x : List Operation). s.engine ≡ begun_engine n x)) at start.engine);
+  fresh = (ap (λ (r : Run). r.syncs) run_is, ap (λ (r : Run). r.round) run_is, ap (λ (r : Run). r.finished) run_is);
+  come = λ i is. subst (HasCome frame.world.platform i []) (sym (run_begun frame table tokens n s run quantum room script i is start at quantum_is room_is run_is)) (come_begun frame n i valid is);
+}

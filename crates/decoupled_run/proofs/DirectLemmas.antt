@@ -53,16 +53,19 @@ use Rattle.initiator_run.proofs.LeftLemmas.{bytes_after, cost_at, leads_there, l
 use Rattle.initiator_run.proofs.NextLemmas.{seq_of_next}
 use Rattle.initiator_run.proofs.ReplyLemmas.{length-got}
 use Rattle.plat_net.specs.Calls.{CanPay, OneTicketLess, route_at}
+use Rattle.node_hops.specs.Steps.{HasNew}
 use Rattle.dmi_grants.specs.declared.table.Held.{Held}
 use Rattle.dmi_grants.specs.Table.{TableView, covers}
 use Rattle.dmi_grants.specs.Using.{HasGoneDirect, MayUse, at_offset}
 use Rattle.dmi_grants.proofs.Uses.{covered}
 use Rattle.decoupled_run.specs.Job.{AsksNothing, HasAllOf, IsAtEase, IsInitiator}
 use Rattle.decoupled_run.specs.Known.{known_to}
+use Rattle.decoupled_run.specs.Moves.{IsEntryOfRun}
 use Rattle.decoupled_run.proofs.AccessLemmas.{direct_by, last_push, may_go_next, memory_below, no_and, plain_asked, route_found, route_of_next}
 use Rattle.decoupled_run.proofs.EntryLemmas.{Answers, IsDoneFor, IsFor, come_answered, done_by_way, entry_by_way, keeps_more, next_is_for, request_next}
 use Rattle.decoupled_run.proofs.JobLemmas.{number, own_number, sent}
 use Rattle.decoupled_run.proofs.KnownLemmas.{HasEntered, entry_by, made_enters}
+use Rattle.decoupled_run.proofs.RunEntries.{entered_new, entry_of_run, round_next}
 use Rattle.decoupled_run.proofs.ScriptLemmas.{plain_has_bytes, plain_moves}
 use Rattle.decoupled_run.proofs.TellLemmas.{tells_direct}
 
@@ -249,6 +252,14 @@ module _ (frame : Frame Plan) (r : Run) (x : Transfer) (route : Route) (note : V
         reads = λ reads. ap (λ (l : List ℕ). Some l) (sym (ap (λ (y : PayloadView). y.bytes) back_is ∙ ap (λ (c : Command). buffer_after c got payload.bytes) (commanded ∙ reads)));
         whole = direct_whole;
       }
+
+      -- the entry is new to the note
+      pub gone_new : HasNew (IsEntryOfRun p r (accessed x route.latency back.bytes r)) note.known known.known
+      gone_new =
+          let leads = route_of_next frame r x route note old t job reached in
+          entered_new frame h.memory e note known entered job.below (IsEntryOfRun p r (accessed x route.latency back.bytes r))
+          (λ y same place. entry_of_run p r (accessed x route.latency back.bytes r) h.memory e i y job.is (job.holds.held h has).memory txn_is (round_next p.platform i job.mine r x reached.next job.made.come)
+          (λ l come. come_answered p i l r x route e back.bytes reached.next leads answers come) same place)
 
       ok : status_of (m).traits (by_grant h.gate) a ≡ Ok
       ok = sym (ap (λ (y : PayloadView). y.status) back_is) ∙ gone.ok

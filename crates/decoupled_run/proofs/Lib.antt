@@ -13,3 +13,6 @@ pub mod EndLemmas
 pub mod PassLemmas
 pub mod BeginLemmas
 pub mod InvalidateLemmas
+pub mod MoreLemmas
+pub mod RunEntries
+pub mod StepLemmas

@@ -3,7 +3,8 @@ use Rattle.std.proofs.Common.{◌≡◌, ℕ, ◌<◌, ◌&&◌, Bool, true, fal
 use Rattle.std.specs.Prelude.{IsTrue, IsSomeAnd, position}
 use Rattle.std.specs.Option.{ForSome}
 use Rattle.atomic_table.specs.Seated.{TableId}
-use Rattle.view_lists.specs.Lists.{Has}
+use Rattle.view_lists.specs.Lists.{Has, Within}
+use Rattle.one_history.specs.declared.entry.Entry.{Entry as HistoryEntry}
 use Rattle.one_history.specs.declared.view.Frame.{Frame}
 use Rattle.one_history.specs.declared.view.View.{View}
 use Rattle.one_history.specs.Held.{Held as Noted}
@@ -46,12 +47,13 @@ use Rattle.dmi_grants.specs.Asking.{HasAsked, MayAsk}
 use Rattle.dmi_grants.specs.Made.{IsRoomyFor}
 use Rattle.dmi_grants.specs.Table.{TableView, covers}
 use Rattle.dmi_grants.specs.Using.{HasUsed, IsFoundStale, MayUse, note_of}
+use Rattle.dmi_grants.proofs.Revoking.{new_before}
 use Rattle.decoupled_run.specs.Job.{IsAtEase, IsAtRest, IsInitiator, IsToAsk, goes_direct, is_direct_row}
-use Rattle.decoupled_run.specs.Moves.{ComesOf, HasMadeNext, IsLeft, IsToMake, txn_next}
+use Rattle.decoupled_run.specs.Moves.{ComesOf, HasMadeNext, IsEntryOfRun, IsLeft, IsToMake, txn_next}
 use Rattle.decoupled_run.specs.Sent.{IsSentBy}
-use Rattle.decoupled_run.proofs.AccessLemmas.{left_by, route_found, whole}
+use Rattle.decoupled_run.proofs.AccessLemmas.{access_new, left_by, route_found, whole}
 use Rattle.decoupled_run.proofs.AskLemmas.{denied_ease, dropped_ease, granted_ease, has_at, may_ask}
-use Rattle.decoupled_run.proofs.DirectLemmas.{can_pay_next, direct_room, direct_whole, gone_ease, may_use}
+use Rattle.decoupled_run.proofs.DirectLemmas.{can_pay_next, direct_room, direct_whole, gone_ease, gone_new, may_use}
 use Rattle.decoupled_run.proofs.EntryLemmas.{decoupled_style}
 use Rattle.decoupled_run.proofs.Finding.{none_passes}
 use Rattle.decoupled_run.proofs.JobLemmas.{number}
@@ -105,7 +107,7 @@ module _ (table tokens : TableId) (frame : Frame Plan) (r : Run) (x : Transfer) 
   -- what transport has made of it
   pub made_by_transport : (d : Bool) (id : TxnId) (at : ℕ) (back : PayloadView) (noted : Noted Content Plan) (new : Purse) (wants : Bool) → d ≡ goes_direct p r.engine.initiator → (is_plain_kind x.kind ≡ true → position (covers x.address x.length (command_in x.kind)) t.held ≡ None) → id ≡ txn_next r → at ≡ current_time r.keeper
       → IsCalled p route.memory (call_at x.kind id at route.before (record payload { address = route.offset })) note.knows noted.knows back → OneTicketLess route.memory (payload_cost payload) w new → IsNote table noted → IsOf tokens new → back.room ≡ payload.room → wants ≡ ((d && is_plain_kind x.kind) && back.hint)
-      → HasMadeNext table tokens frame r x route wants back noted new t
+      → HasMadeNext table tokens frame note.knows.known r x route wants back noted new t
   made_by_transport d id at back noted new wants styled none id_is at_is entry ticket note_of wallet_of room wants_is =
       let same : call_at x.kind id at route.before (record payload { address = route.offset }) ≡ next_call r x route =
       ap (λ (y : TxnId). call_at x.kind y at route.before (record payload { address = route.offset })) id_is
@@ -120,6 +122,8 @@ module _ (table tokens : TableId) (frame : Frame Plan) (r : Run) (x : Transfer) 
         wallet_of = wallet_of;
         room = room ∙ (ap (λ (y : PayloadView). y.room) ready.filled ∙ room_of_payload 4096 r.engine);
         whole = whole frame r x route note.knows w t job ready.reached noted.knows new back called paid left ready.is.answered uncovered;
+        knew = called.keeps;
+        new = access_new frame r x route note.knows w t job ready.reached noted.knows new back called paid left ready.is.answered uncovered;
         left = left_by frame r x route note.knows w t job ready.reached noted.knows new back called paid left ready.is.answered uncovered wants (sym (wants_is ∙ ap (λ (b : Bool). (b && is_plain_kind x.kind) && back.hint) (styled ∙ style_of_job frame r note.knows w t job)));
       }
 
@@ -143,7 +147,7 @@ module _ (table tokens : TableId) (frame : Frame Plan) (r : Run) (x : Transfer) 
         by (Some h) at is = may_use frame r x route note.knows w t job ready.reached h (has_at t.held which h at) payload ready.filled plain (covers_same h ∙ is)
 
     module _ (id : TxnId) (at : ℕ) (new_t : TableView) (new : Purse) (id_is : id ≡ txn_next r) (at_is : at ≡ current_time r.keeper) (wallet_of : IsOf tokens new) (h : Held) (here : slice_get t.held which ≡ Some h) where
-      outcome : (o : UseOf) → HasUsed frame h which payload id at t new_t note.knows w new o → IsNote table (note_of o) → ComesOf table tokens frame r x route new new_t o
+      outcome : (o : UseOf) → HasUsed frame h which payload id at t new_t note.knows w new o → IsNote table (note_of o) → ComesOf table tokens frame note.knows.known r x route new new_t o
       outcome (Used back noted time) came note_of =
           let held = has_at t.held which h here in
           let by_it = covered_at h here in
@@ -153,25 +157,29 @@ module _ (table tokens : TableId) (frame : Frame Plan) (r : Run) (x : Transfer) 
             room = direct_room frame r x route note.knows w t job ready.reached h held payload ready.filled plain by_it back id at noted.knows new came.0 id_is at_is ready.is.answered
                 ∙ (ap (λ (y : PayloadView). y.room) ready.filled ∙ room_of_payload 4096 r.engine);
             whole = direct_whole frame r x route note.knows w t job ready.reached h held payload ready.filled plain by_it back id at noted.knows new came.0 id_is at_is ready.is.answered;
+            knew = subst (λ (l : List (HistoryEntry Content)). Within l noted.knows.known) came.0.same came.0.made.enters.knew;
+            new = gone_new frame r x route note.knows w t job ready.reached h held payload ready.filled plain by_it back id at noted.knows new came.0 id_is at_is ready.is.answered;
             left = subst (IsAtEase frame (accessed x route.latency back.bytes r) noted.knows new) (sym came.2)
                 (gone_ease frame r x route note.knows w t job ready.reached h held payload ready.filled plain by_it back id at noted.knows new came.0 id_is at_is ready.is.answered);
           }
       outcome (Stale back noted) came note_of =
-          let stale : IsFoundStale h which t new_t note.knows w w noted.knows = subst (λ (u : Purse). IsFoundStale h which t new_t note.knows w u noted.knows) came.0.wallet came.0 in
-          record {
-            note_of = note_of;
-            wallet_of = wallet_of;
-            is = subst (λ (u : Purse). IsAtEase frame r noted.knows u new_t) (sym came.0.wallet) (dropped_ease frame r note.knows noted.knows w t new_t job which h here stale ready.is.answered);
-            reached = ready.reached;
-            filled = came.1 ∙ ready.filled;
-          }
+          let stale : IsFoundStale h which t new_t note.knows w w noted.knows = subst (λ (u : Purse). IsFoundStale h which t new_t note.knows w u noted.knows) came.0.wallet came.0 in (
+            record {
+              note_of = note_of;
+              wallet_of = wallet_of;
+              is = subst (λ (u : Purse). IsAtEase frame r noted.knows u new_t) (sym came.0.wallet) (dropped_ease frame r note.knows noted.knows w t new_t job which h here stale ready.is.answered);
+              reached = ready.reached;
+              filled = came.1 ∙ ready.filled;
+            },
+            came.0.keeps,
+          )
 
     -- what came of its use
     pub comes_of : (id : TxnId) (at : ℕ) (new_t : TableView) (new : Purse) (result : UseOf) → id ≡ txn_next r → at ≡ current_time r.keeper → ForSome (slice_get t.held which) (λ h. HasUsed frame h which payload id at t new_t note.knows w new result) → IsNote table (note_of result) → IsOf tokens new
-        → ComesOf table tokens frame r x route new new_t result
+        → ComesOf table tokens frame note.knows.known r x route new new_t result
     comes_of id at new_t new result id_is at_is used note_is wallet_of = by (slice_get t.held which) refl covered
       where
-        by : (o : Option Held) → slice_get t.held which ≡ o → IsSomeAnd o (λ h. IsTrue (covers x.address x.length (command_in x.kind) h)) → ComesOf table tokens frame r x route new new_t result
+        by : (o : Option Held) → slice_get t.held which ≡ o → IsSomeAnd o (λ h. IsTrue (covers x.address x.length (command_in x.kind) h)) → ComesOf table tokens frame note.knows.known r x route new new_t result
         by None here is = absurd is
         by (Some h) here is = outcome id at new_t new id_is at_is wallet_of h here result (used h here) note_is
 
@@ -221,3 +229,16 @@ left_as wants frame x route r run id at got v w t left id_is at_is run_is =
     subst (λ (y : Run). IsLeft wants frame x route id at y v w t) (sym run_is)
     (subst (λ (n : ℕ). IsLeft wants frame x route id n (accessed x route.latency got r) v w t) (sym at_is)
     (subst (λ (y : TxnId). IsLeft wants frame x route y (later (current_time r.keeper) route.latency) (accessed x route.latency got r) v w t) (sym id_is) left))
+
+-- an access that was made past what its note knew later was made past what it knew before
+pub made_before : (table tokens : TableId) (frame : Frame Plan) (first later : List (HistoryEntry Content)) (r : Run) (x : Transfer) (route : Route) (wants : Bool) (payload : PayloadView) (note : Noted Content Plan) (w : Purse) (t : TableView) → Within first later → HasMadeNext table tokens frame later r x route wants payload note w t
+    → HasMadeNext table tokens frame first r x route wants payload note w t
+made_before table tokens frame first later r x route wants payload note w t more made = record {
+  note_of = made.note_of;
+  wallet_of = made.wallet_of;
+  room = made.room;
+  whole = made.whole;
+  knew = λ e has. made.knew e (more e has);
+  new = new_before (IsEntryOfRun frame.world r (accessed x route.latency payload.bytes r)) first later note.knows.known more made.new;
+  left = made.left;
+}

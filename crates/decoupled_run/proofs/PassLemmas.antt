@@ -1,5 +1,5 @@
 -- An initiator after moves without an entry.
-use Rattle.std.proofs.Common.{◌≡◌, ◌⊎◌, ℕ, ◌+◌, ◌*◌, ◌<◌, inl, inr, Bool, true, List, length, Option, Some, refl, ap, sym, subst, ◌∙◌, arith}
+use Rattle.std.proofs.Common.{◌≡◌, ◌⊎◌, ℕ, zero, suc, ◌+◌, ◌*◌, ◌<◌, inl, inr, Bool, true, List, length, Option, Some, refl, ap, sym, subst, ◌∙◌, arith}
 use Rattle.std.specs.Prelude.{slice_get}
 use Rattle.std.proofs.lemmas.Grind.{common_steps}
 use Rattle.atomic_table.specs.Seated.{TableId}
@@ -8,21 +8,24 @@ use Rattle.one_history.specs.declared.view.View.{View}
 use Rattle.one_history.specs.Held.{Held as Noted}
 use Rattle.token_book.specs.Purse.{Purse}
 use Rattle.tlm_types.specs.declared.entry.Content.{Content}
+use Rattle.tlm_types.specs.declared.entry.Entry.{Entry}
 use Rattle.tlm_model.specs.declared.operation.Operation.{Operation}
-use Rattle.tlm_model.specs.Plan.{Plan, initiators_of}
+use Rattle.tlm_model.specs.Plan.{Plan, Initiator, initiators_of}
 use Rattle.generic_payload.specs.Payload.{PayloadView}
 use Rattle.script_engine.specs.declared.op.Op.TheVariants as next
 use Rattle.script_engine.specs.State.{Due, State, op_at, op_of}
 use Rattle.script_engine.specs.Asking.{numbers_due}
 use Rattle.initiator_run.specs.declared.run.Move.{Move}
 use Rattle.initiator_run.specs.declared.run.Move.TheVariants.{Ended, Went}
+use Rattle.initiator_run.specs.Come.{HasCome}
 use Rattle.initiator_run.specs.Moves.{IsMove, IsUnderWay, Keeps, steps_left}
 use Rattle.initiator_run.specs.Run.{Run}
-use Rattle.initiator_run.specs.Steps.{StepsOnce}
+use Rattle.initiator_run.specs.Steps.{HasMoved, MovesIn, StepsOnce}
 use Rattle.initiator_run.proofs.OnceLemmas.{StepsOnce-same}
 use Rattle.initiator_run.proofs.RunLemmas.{Keeps-round}
 use Rattle.dmi_grants.specs.Table.{TableView}
 use Rattle.decoupled_run.specs.Job.{IsAtEase, IsInitiator, IsJob, goes_direct}
+use Rattle.decoupled_run.specs.Script.{IsInScript}
 use Rattle.decoupled_run.proofs.ScriptLemmas.{stands_on}
 
 no_steps_at : (s : ℕ) (due : Option Due) (ops : List Operation) → op_at s due ops ≡ next.Done → 2 * length ops + numbers_due due ≡ 0
@@ -36,11 +39,10 @@ no_steps e done = no_steps_at e.seq e.due e.remaining done
 pub under_way : (frame : Frame Plan) (r : Run) (v : View Content Plan) (w : Purse) (t : TableView) → IsInitiator frame r v w t → IsUnderWay frame.world r
 under_way frame r v w t job = record { initiator = job.initiator; history = job.mine; mine = job.is; come = job.made.come }
 
--- what moves without an entry keep, it keeps
-pub moved : (frame : Frame Plan) (old new : Run) (v : View Content Plan) (w : Purse) (t : TableView) → IsAtEase frame old v w t → Keeps frame.world old new → StepsOnce old.engine new.engine → (new.finished ≡ true → op_of new.engine ≡ next.Done) → IsAtEase frame new v w t
-moved frame old new v w t ease keeps once finished =
+-- what moves without an entry keep, it keeps, where it stands in its script
+pub moved_to : (frame : Frame Plan) (old new : Run) (v : View Content Plan) (w : Purse) (t : TableView) (ease : IsAtEase frame old v w t) → Keeps frame.world old new → IsInScript ease.is.initiator new.engine → (new.finished ≡ true → op_of new.engine ≡ next.Done) → IsAtEase frame new v w t
+moved_to frame old new v w t ease keeps stands finished =
     let job = ease.is in
-    let come = keeps.come job.initiator job.mine job.is job.made.come in
     record {
       is = record {
         valid = job.valid;
@@ -53,8 +55,8 @@ moved frame old new v w t ease keeps once finished =
           rising = job.made.rising;
           known = job.made.known;
           own = job.made.own;
-          come = come;
-          stands = stands_on frame.world.platform job.initiator job.mine old new job.made.come come once job.made.stands;
+          come = keeps.come job.initiator job.mine job.is job.made.come;
+          stands = stands;
           keeps = job.made.keeps;
           decoupled = job.made.decoupled;
         };
@@ -76,6 +78,40 @@ moved frame old new v w t ease keeps once finished =
       };
       answered = ease.answered;
     }
+
+-- by one of them
+pub moved : (frame : Frame Plan) (old new : Run) (v : View Content Plan) (w : Purse) (t : TableView) → IsAtEase frame old v w t → Keeps frame.world old new → StepsOnce old.engine new.engine → (new.finished ≡ true → op_of new.engine ≡ next.Done) → IsAtEase frame new v w t
+moved frame old new v w t ease keeps once finished =
+    let job = ease.is in
+    moved_to frame old new v w t ease keeps (stands_on frame.world.platform job.initiator job.mine old new job.made.come (keeps.come job.initiator job.mine job.is job.made.come) once job.made.stands) finished
+
+-- where so many moves have led to
+record StandsAfter (p : Plan) (i : Initiator) (h : List Entry) (old new : Run) : Type 0 where
+  number : new.engine.initiator ≡ old.engine.initiator
+  come : HasCome p.platform i h new
+  stands : IsInScript i new.engine
+
+stands_after_moves : (p : Plan) (i : Initiator) (h : List Entry) (n : ℕ) (old new : Run) → slice_get (initiators_of p) old.engine.initiator ≡ Some i → MovesIn n p old new → HasCome p.platform i h old → IsInScript i old.engine → StandsAfter p i h old new
+stands_after_moves p i h zero old new is same come stands = record {
+  number = ap (λ (r : Run). r.engine.initiator) same;
+  come = subst (HasCome p.platform i h) (sym same) come;
+  stands = subst (λ (r : Run). IsInScript i r.engine) (sym same) stands;
+}
+stands_after_moves p i h (suc n) old new is moves come stands =
+    let middle = moves.0 in
+    let before = stands_after_moves p i h n old middle is moves.1 come stands in
+    let on = moves.2.come i h (ap (slice_get (initiators_of p)) before.number ∙ is) before.come in
+    record {
+      number = moves.2.initiator ∙ before.number;
+      come = on;
+      stands = stands_on p.platform i h middle new before.come on moves.3 before.stands;
+    }
+
+-- by as many as may be
+pub moved_along : (frame : Frame Plan) (old new : Run) (v : View Content Plan) (w : Purse) (t : TableView) → IsAtEase frame old v w t → Keeps frame.world old new → HasMoved frame.world old new → (new.finished ≡ true → op_of new.engine ≡ next.Done) → IsAtEase frame new v w t
+moved_along frame old new v w t ease keeps moves finished =
+    let job = ease.is in
+    moved_to frame old new v w t ease keeps (stands_after_moves frame.world job.initiator job.mine moves.count old new job.is moves.moves job.made.come job.made.stands).stands finished
 
 -- a move that goes on leaves a script that had not ended, so that it is none of a job that has finished
 moved_on : (frame : Frame Plan) (old new : Run) (v : View Content Plan) (w : Purse) (t : TableView) → IsAtEase frame old v w t → Keeps frame.world old new → StepsOnce old.engine new.engine → steps_left new.engine < steps_left old.engine → new.finished ≡ old.finished → IsAtEase frame new v w t

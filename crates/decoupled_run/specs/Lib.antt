@@ -4,3 +4,5 @@ pub mod Job
 pub mod Sent
 pub mod Moves
 pub mod End
+pub mod More
+pub mod Stepped

@@ -34,8 +34,8 @@ fn is_plain(kind: TransferKind) -> bool
     matches!(kind, TransferKind::Access { plain: true, .. })
 }
 
-// The command of a transfer: a debug read reads.
-fn command_of(kind: TransferKind) -> Command
+/// The command of a transfer: a debug read reads.
+pub(crate) fn command_of(kind: TransferKind) -> Command
     ensures { result ≡ command_in kind }
 {
     match kind {
@@ -68,7 +68,7 @@ fn transport<N: Naming<Plan, TlmLaw>, B: Reach<N>, R: Wait>(
     requires ready { IsToMake N.table N.tokens N.frame run.now next.now.transfer next.now.route payload note wallet.old grants.now }
     requires styled { is_direct ≡ goes_direct N.frame.world run.now.engine.initiator }
     requires none { let x = next.now.transfer in is_plain_kind x.kind ≡ true → position (covers x.address x.length (command_in x.kind)) grants.now.held ≡ None }
-    ensures { HasMadeNext N.table N.tokens N.frame run.now next.now.transfer next.now.route result.wants result.payload result.note wallet.new grants.now }
+    ensures { HasMadeNext N.table N.tokens N.frame note.knows.known run.now next.now.transfer next.now.route result.wants result.payload result.note wallet.new grants.now }
 {
     let who = run.initiator();
     let txn = run.next_txn();
@@ -103,7 +103,7 @@ fn use_held<N: Naming<Plan, TlmLaw>, R: Wait>(
     requires ready { IsToMake N.table N.tokens N.frame run.now next.now.transfer next.now.route payload note wallet.old grants.old }
     requires plain { is_plain_kind next.now.transfer.kind ≡ true }
     requires which { let x = next.now.transfer in IsSomeAnd (slice_get grants.old.held which) (λ h. IsTrue (covers x.address x.length (command_in x.kind) h)) }
-    ensures { ComesOf N.table N.tokens N.frame run.now next.now.transfer next.now.route wallet.new grants.new result }
+    ensures { ComesOf N.table N.tokens N.frame note.knows.known run.now next.now.transfer next.now.route wallet.new grants.new result }
 {
     let txn = run.next_txn();
     let at = run.current();
@@ -124,7 +124,7 @@ fn make_plain<N: Naming<Plan, TlmLaw>, B: Reach<N>, R: Wait>(
     requires ready { IsToMake N.table N.tokens N.frame run.now next.transfer next.route payload note wallet.old grants.old }
     requires plain { is_plain_kind next.transfer.kind ≡ true }
     requires direct { goes_direct N.frame.world run.now.engine.initiator ≡ true }
-    ensures { HasMadeNext N.table N.tokens N.frame run.now next.transfer next.route result.wants result.payload result.note wallet.new grants.new }
+    ensures { HasMadeNext N.table N.tokens N.frame note.knows.known run.now next.transfer next.route result.wants result.payload result.note wallet.new grants.new }
 {
     let Transfer {
         seq: _,
@@ -187,7 +187,7 @@ pub(crate) fn make<N: Naming<Plan, TlmLaw>, B: Reach<N>, R: Wait>(
 ) -> MadeNext
     requires styled { is_direct ≡ goes_direct N.frame.world run.now.engine.initiator }
     requires ready { IsToMake N.table N.tokens N.frame run.now next.now.transfer next.now.route payload note wallet.old grants.old }
-    ensures { HasMadeNext N.table N.tokens N.frame run.now next.now.transfer next.now.route result.wants result.payload result.note wallet.new grants.new }
+    ensures { HasMadeNext N.table N.tokens N.frame note.knows.known run.now next.now.transfer next.now.route result.wants result.payload result.note wallet.new grants.new }
 {
     if is_direct && is_plain(next.transfer.kind) {
         let next = NextAccess {

@@ -73,15 +73,15 @@ pub struct RunParts {
     pub wallet: Wallet,
 }
 
-// For how many grants an initiator has room.
-fn grants_for(is_direct: bool) -> u32
+/// For how many grants an initiator has room.
+pub(crate) fn grants_for(is_direct: bool) -> u32
     ensures { is_direct ≡ true → result ≡ 2048 }
 {
     if is_direct { MOST_GRANTS } else { 0 }
 }
 
-// Whether the initiator with this number is a direct one.
-fn is_direct<N: Naming<Plan, TlmLaw>>(net: &Net<N>, number: u32) -> bool
+/// Whether the initiator with this number is a direct one.
+pub(crate) fn is_direct<N: Naming<Plan, TlmLaw>>(net: &Net<N>, number: u32) -> bool
     requires { number < length net.now.platform.initiators }
     ensures { result ≡ goes_direct net.now number }
 {

@@ -5,6 +5,9 @@
 //!   a direct initiator goes direct by the first grant that covers it and isn't stale, and anything else goes by
 //!   transport. After a plain access by transport that was OK and has the DMI hint a direct initiator asks for a grant
 //!   at once. An invalidation ends each grant that it overlaps, whoever holds it, before the script goes on.
+//! - `SteppedInitiator` is the same for who steps it an entry at a time: `step` makes its moves up to and with its next entry,
+//!   as far as the rounds let it. A grant that is asked for after an access, and each closing of an invalidation, is a step of
+//!   its own. `initiators_stay` is the law that what an initiator keeps, it keeps as its note learns more.
 //! - `finish` hands in how it ended, its wallet and its note; `into_parts` gives up what it has, wherever it has come.
 //!
 //! Promises: `specs/Job` says what such an initiator knows at any time: its own entries run its script, with
@@ -17,6 +20,10 @@
 
 mod access;
 mod initiator;
+mod laws;
 mod send;
+mod steps;
 
 pub use initiator::{DecoupledInitiator, RunParts};
+pub use laws::initiators_stay;
+pub use steps::SteppedInitiator;

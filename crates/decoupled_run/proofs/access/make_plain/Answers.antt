@@ -1,8 +1,9 @@
-use Rattle.std.proofs.Common.{slice_get, sym, subst, ◌∙◌}
+use Rattle.std.proofs.Common.{false, slice_get, sym, subst, ◌∙◌}
 use Rattle.std.specs.Prelude.{IsSomeAnd, IsTrue}
 use Rattle.tlm_types.specs.declared.words.Command.{Command}
 use Rattle.dmi_grants.specs.Table.{covers}
 use Rattle.decoupled_run.proofs.Finding.{found_passes}
+use Rattle.decoupled_run.proofs.MoveLemmas.{made_before}
 use Rattle.decoupled_run.proofs.access.make_plain.Goals as goal
 
 pub use_held-requires-clause-which : goal.use_held-requires-clause-which
@@ -24,4 +25,13 @@ pub transport-requires-clause-styled : goal.transport-requires-clause-styled
 transport-requires-clause-styled g c = sym c.requires.direct
 
 pub returns-in-Used : goal.returns-in-Used
-returns-in-Used g c = c.in-Used.ensures
+returns-in-Used g c =
+    let n = g.N.Naming in
+    let x = c.args.next.transfer in
+    made_before n.table n.tokens n.frame c.args.note.knows.known c.loop.note.knows.known c.args.run.now x c.args.next.route false c.in-Used.payload c.in-Used.note c.use_held.new.wallet c.use_held.new.grants c.loop.invariant.knew c.in-Used.ensures
+
+pub returns-in_default : goal.returns-in_default
+returns-in_default g c =
+    let n = g.N.Naming in
+    let sent = c.transport in
+    made_before n.table n.tokens n.frame c.args.note.knows.known c.loop.note.knows.known c.args.run.now c.args.next.transfer c.args.next.route sent.result.wants sent.result.payload sent.result.note sent.new.wallet c.loop.grants c.loop.invariant.knew sent.ensures
