@@ -12,3 +12,6 @@ mod Shares
 mod Starting
 mod Pumping
 mod Waiting
+mod Adding
+mod Closings
+mod Stepping

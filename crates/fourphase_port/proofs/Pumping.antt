@@ -272,7 +272,7 @@ module _ (frame : Frame Plan) (n : ℕ) (i : Initiator) (its : slice_get (initia
   number_on None old new m g is = number_so (next_of old.port.engine) old new m (goes_so frame (next_of old.port.engine) old new m g) is
   number_on (Some c) old new m g is = number_tried c Nothing (with_note (unheld old.state) old.note) new m g is
 
-  number_of : (hand : Hand) (fetched : Bool) (old new : PortView) (m : Moved) → IsMoveOf frame hand fetched old new m → HasNumber old → HasNumber new
+  pub number_of : (hand : Hand) (fetched : Bool) (old new : PortView) (m : Moved) → IsMoveOf frame hand fetched old new m → HasNumber old → HasNumber new
   number_of Free false old new m g is = by g.0
     where
       by : Fetches frame old new ⊎ FindsNone frame old new → HasNumber new

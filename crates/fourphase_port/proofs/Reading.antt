@@ -82,6 +82,9 @@ use Rattle.port_moves.specs.declared.hand.Hand.{Hand}
 use Rattle.port_moves.specs.declared.hand.Hand.TheVariants.{Free}
 use Rattle.port_moves.specs.declared.hand.Moved.{Moved}
 use Rattle.port_moves.specs.declared.hand.Pumped.TheVariants.{Did}
+use Rattle.node_hops.specs.Steps.{HasNew, IsByPort}
+use Rattle.node_hops.proofs.Adds.{call_adds}
+use Rattle.port_moves.proofs.Adding.{at_memory as own_at_memory, memory_adds}
 use Rattle.port_moves.proofs.Backs.{its, stands}
 use Rattle.fourphase_port.proofs.NextIsAsked.{has_of, request}
 use Rattle.port_moves.proofs.Proper.{proper_passed}
@@ -395,6 +398,17 @@ module _ (table tokens : TableId) (frame : Frame Plan) (s : StateView) (note : H
         entry = λ j m q e. entry_by (route_at world n x.address) refl j m (who_is j q) e;
         no_entry = λ j q e. same_note (route_at world n x.address) refl j (who_is j q) e;
       })
+
+      -- with a route it has made an entry of its own
+      new_by_route : (o : Option Route) → route_at world n x.address ≡ o → is_some o ≡ true → HasNew (IsByPort world n) note.knows.known back.knows.known
+      new_by_route None q routed = cc
+      new_by_route (Some r) q routed =
+          let called = asked.called r (at_address (Some r) q) in
+          own_at_memory world n note.knows back.knows p.below r.memory (txn_of n seq) (low r q) refl
+          (memory_adds world r.memory (txn_of n seq) note.knows back.knows (low r q) (call_adds world r.memory (debug_call (txn_of n seq) s.port.time filled r) note.knows back.knows v called tt))
+
+      pub read_new : (m : Moved) → m ≡ read_moved world (with_note s note) x → m.entry ≡ true → HasNew (IsByPort world n) note.knows.known back.knows.known
+      read_new m is entry = new_by_route (route_at world n x.address) refl (sym (ap (λ (k : Moved). k.entry) is) ∙ entry)
 
   pub low_for : (q : Plan) (k : ℕ) → q ≡ world → k ≡ n → k < length q.platform.initiators
   low_for q k plan who = subst (λ (z : Plan). k < length z.platform.initiators) (sym plan) (subst (λ (j : ℕ). j < length world.platform.initiators) (sym who) (stands table tokens frame s note p))

@@ -53,6 +53,13 @@ use Rattle.plat_net.proofs.NumberLemmas.{memory_number}
 use Rattle.plat_net.proofs.ObjectLemmas.{memory_at, more_objects}
 use Rattle.plat_net.proofs.WalkLemmas.{leads_to_memory}
 use Rattle.dmi_grants.specs.Made.{IsRoomyFor}
+use Rattle.dmi_grants.specs.Revoking.{IsEntryFor as IsEntryOfMemory}
+use Rattle.dmi_grants.proofs.Revoking.{access_by, entry_made}
+use Rattle.node_hops.specs.Steps.{HasNew, IsByPort}
+use Rattle.node_hops.specs.Steps.IsByPort.{Accesses}
+use Rattle.node_hops.proofs.News.{new_by, new_more}
+use Rattle.region_object.specs.declared.call.RegionCall.TheVariants.{Invalidate}
+use Rattle.region_object.specs.declared.call.RegionReply.TheVariants.{Invalidated as InvalidatedReply}
 use Rattle.dmi_grants.specs.Known.{HasAllOf as HasAllKnown, position_of}
 use Rattle.dmi_grants.specs.Telling.{HasAdded}
 use Rattle.dmi_grants.proofs.Telling.{invalidation_adds}
@@ -519,3 +526,20 @@ module _ (table tokens : TableId) (frame : Frame Plan) (s : StateView) (note : H
         made = λ r e. (let d = revokes.called r e in (d.spent, d.called));
         none = revokes.none;
       })
+
+      -- with a route it has made an entry of its own
+      new_by_route : (o : Option Route) → route_at world n a ≡ o → is_some o ≡ true → HasNew (IsByPort world n) note.knows.known back.knows.known
+      new_by_route None q routed = cc
+      new_by_route (Some r) q routed =
+          let x = txn_of n seq in
+          let t = s.port.time in
+          let last = last_place r.offset c in
+          let d = (revokes.called r q).called in
+          let call = Invalidate x t r.offset last in
+          let made = entry_made frame r.memory (low r q) call note.knows d.told d.position InvalidatedReply note.knows.known d.made p.below in
+          new_more (IsByPort world n) note.knows.known d.told.known back.knows.known
+          (new_by (IsEntryOfMemory world r.memory x t (Invalidated r.offset last)) (IsByPort world n) note.knows.known d.told.known (λ e is. Accesses (access_by world r.memory x t (Invalidated r.offset last) e is)) made)
+          (λ e has. d.all.last_look.enters.knew e (d.all.ended.keeps e has))
+
+      pub revoked_new : (m : Moved) → m ≡ invalidation_moved world (with_note s note) a → m.entry ≡ true → HasNew (IsByPort world n) note.knows.known back.knows.known
+      revoked_new m is entry = new_by_route (route_at world n a) refl (sym (ap (λ (k : Moved). k.entry) is) ∙ entry)

@@ -131,5 +131,8 @@ module _ (table tokens : TableId) (frame : Frame Plan) (n : ℕ) (e : State) (b 
   }
 
   -- as the code has made it
+  pub begun_as : (room : ℕ) (s : StateView) → s ≡ begun_state e b room w → count_of i ≤ room → IsPort table tokens frame (with_note s note)
+  begun_as room s is all = subst (λ (x : StateView). IsPort table tokens frame (with_note x note)) (sym is) (fresh_port room all)
+
   pub begun_by : (room : ℕ) (s : StateView) → s ≡ begun_state e b room w → count_of i ≤ room → IsAtRest table tokens frame (record { state = s; note = Some note })
-  begun_by room s is all = record { its_note = note; has_note = refl; is_port = subst (λ (x : StateView). IsPort table tokens frame (with_note x note)) (sym is) (fresh_port room all) }
+  begun_by room s is all = record { its_note = note; has_note = refl; is_port = begun_as room s is all }

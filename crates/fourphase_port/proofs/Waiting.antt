@@ -27,7 +27,7 @@ use Rattle.fourphase_port.proofs.Pumping.{GoesSo, done_by, goes_so, nearer}
 use Rattle.fourphase_port.proofs.Pumping.GoesSo.{Takes, Waits, Does}
 
 -- it works on something
-abbrev IsBusy : Hand → Type 0
+abbrev pub IsBusy : Hand → Type 0
 IsBusy Free = ⊥
 IsBusy (Taken b) = Unit {0}
 IsBusy (Acquired c) = Unit {0}
@@ -107,7 +107,7 @@ module _ (frame : Frame Plan) where
   last_did (Ended c end) fetched old new m pumped busy g q = absurd (none_pumped pumped (comes_to m made (Some pumped) g.1 q))
   last_did (Released b ticket end) fetched old new m pumped busy g q = sym (same_pumped Did pumped (comes_to m (ends_made Did) (Some pumped) g.1 q))
 
-  busy_did : (n : ℕ) (fetched : Bool) (old new : PortView) (pumped : Pumped) → IsBusy old.hand → AreMoves frame n fetched old new pumped → pumped ≡ Did
+  pub busy_did : (n : ℕ) (fetched : Bool) (old new : PortView) (pumped : Pumped) → IsBusy old.hand → AreMoves frame n fetched old new pumped → pumped ≡ Did
   busy_did zero fetched old new pumped busy l = last_did old.hand fetched old new l.moved pumped busy l.is l.ends_it
   busy_did (suc n) fetched old new pumped busy l =
       let near = nearer frame fetched old l.0 l.1.moved l.1.is l.1.goes_on in

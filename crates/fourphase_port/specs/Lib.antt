@@ -4,3 +4,5 @@ pub mod Revoking
 pub mod Laws
 pub mod Pumps
 pub mod Fresh
+pub mod Closing
+pub mod Stepped

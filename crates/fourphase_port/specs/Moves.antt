@@ -15,6 +15,7 @@ use Rattle.payload_pool.specs.declared.baton.Baton.{Baton}
 use Rattle.flow_model.specs.Events.{Event, FindsAt, IsTake}
 use Rattle.cargo_model.specs.Known.{Known}
 use Rattle.joined_traffic.specs.Accesses.{txn_of}
+use Rattle.node_hops.specs.Steps.{HasNew, IsByPort}
 use Rattle.script_engine.specs.declared.part.Part.TheVariants.{Asks}
 use Rattle.script_engine.specs.declared.part.Transfer.{Transfer}
 use Rattle.script_engine.specs.declared.part.TransferKind.{TransferKind}
@@ -24,6 +25,7 @@ use Rattle.port_model.specs.Laws.{HasSettled}
 use Rattle.port_model.specs.Way.{Port}
 use Rattle.port_moves.specs.Reach.{own_pool}
 use Rattle.port_moves.specs.State.{PortView}
+use Rattle.port_moves.specs.declared.hand.Moved.{Moved}
 use Rattle.port_moves.specs.declared.hand.Hand.TheVariants.{Taken}
 use Rattle.port_moves.specs.Moves.{Entered, KeepsPort, LooksAt, port_read, port_taken}
 
@@ -92,6 +94,10 @@ pub record InvalidatesNext (frame : Frame Plan) (address count : ℕ) (old new :
   pub made : (r : PlanRoute) → route_at frame.world old.port.engine.initiator address ≡ Some r → (spent : Purse) ×
       HasInvalidated frame r.memory (txn_of old.port.engine.initiator old.port.engine.seq) old.port.time r.offset (last_place r.offset count) old.note.knows new.note.knows old.wallet spent
   pub none : route_at frame.world old.port.engine.initiator address ≡ None → (new.note ≡ old.note) × (new.wallet ≡ old.wallet)
+
+-- a move that has made an entry has made one of the port's own
+abbrev pub AddsOwn : Frame Plan → PortView → PortView → Moved → Type 0
+AddsOwn frame old new m = m.entry ≡ true → HasNew (IsByPort frame.world old.port.engine.initiator) old.note.knows.known new.note.knows.known
 
 -- DEBUG. A debug read was made at the current time and passed, as an entry of its memory where it has a route.
 pub record ReadsDebug (frame : Frame Plan) (old new : PortView) : Type 0 where

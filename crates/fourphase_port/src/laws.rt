@@ -1,6 +1,7 @@
 //! What a port has for the access that is next.
 ghost use Rattle.fourphase_port.specs.Pumps.{NothingHasLooked};
 ghost use Rattle.fourphase_port.specs.Laws.{NextIsPaid, NextMayBeRead, NextMayBeStocked, NextMayStart};
+ghost use Rattle.fourphase_port.specs.Stepped.{SteppedKnowsMore};
 
 /// A port has all tickets and bytes of the access that is next.
 pub fn next_may_be_stocked()
@@ -26,4 +27,9 @@ pub fn next_may_be_read()
 /// for what it waits.
 pub fn nothing_has_looked()
     ensures { NothingHasLooked }
+{}
+
+/// A port that is stepped is by any note of its history what it is by one that knows less.
+pub fn stepped_knows_more()
+    ensures { SteppedKnowsMore }
 {}

@@ -1,5 +1,7 @@
 // The next move of a port.
 ghost use Rattle.std.specs.Prelude.{◌≡◌};
+ghost use Rattle.view_lists.specs.Lists.{Within};
+ghost use Rattle.fourphase_port.specs.Moves.{AddsOwn};
 ghost use Rattle.fourphase_port.specs.Pumps.{IsMove};
 ghost use Rattle.port_moves.specs.State.{IsPort, with_note};
 
@@ -22,6 +24,8 @@ pub(crate) fn advance<N: Naming<Plan, TlmLaw>, R: Wait>(
 ) -> (Moved, PlatNote)
     requires port { IsPort N.table N.tokens N.frame (with_note state.old note) }
     ensures port { IsPort N.table N.tokens N.frame (with_note state.new result.1) }
+    ensures knew { Within note.knows.known result.1.knows.known }
+    ensures adds { AddsOwn N.frame (with_note state.old note) (with_note state.new result.1) result.0 }
     ensures moved { IsMove N.frame fetched (with_note state.old note) (with_note state.new result.1) result.0 }
 {
     match state.take_hand() {

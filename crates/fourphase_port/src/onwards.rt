@@ -1,5 +1,6 @@
 // How a port goes on in its script.
 ghost use Rattle.std.specs.Prelude.{◌≡◌, ◌⊎◌, IfNone, IfSome, length, None, Some};
+ghost use Rattle.view_lists.specs.Lists.{Within};
 ghost use Rattle.script_engine.specs.declared.part.Part.TheVariants.{Asks, Ends};
 ghost use Rattle.script_engine.specs.declared.part.Transfer.{Transfer as TransferView};
 ghost use Rattle.script_engine.specs.declared.part.TransferKind.TheVariants as kinds;
@@ -9,7 +10,7 @@ ghost use Rattle.port_model.specs.Laws.{HasSettled};
 ghost use Rattle.port_moves.specs.declared.hand.Hand.TheVariants as Hands;
 ghost use Rattle.port_moves.specs.declared.hand.Pumped.TheVariants as Pumps;
 ghost use Rattle.port_moves.specs.Moved.{ends};
-ghost use Rattle.fourphase_port.specs.Moves.{LooksLive, ReadsDebug};
+ghost use Rattle.fourphase_port.specs.Moves.{AddsOwn, LooksLive, ReadsDebug};
 ghost use Rattle.fourphase_port.specs.Pumps.{DoesKind, DoesNext, GoesOn, read_moved};
 ghost use Rattle.port_moves.specs.State.{IsPort, with_note};
 
@@ -65,6 +66,8 @@ pub(crate) fn go_on<N: Naming<Plan, TlmLaw>, R: Wait>(
     requires port { IsPort N.table N.tokens N.frame (with_note state.old note) }
     requires free { state.old.hand ≡ Hands.Free }
     ensures port { IsPort N.table N.tokens N.frame (with_note state.new result.1) }
+    ensures knew { Within note.knows.known result.1.knows.known }
+    ensures adds { AddsOwn N.frame (with_note state.old note) (with_note state.new result.1) result.0 }
     ensures moved { GoesOn N.frame state.old.held (with_note state.old note) (with_note state.new result.1) result.0 }
 {
     if let Some(cargo) = state.take_held() {
@@ -94,6 +97,8 @@ fn do_next<N: Naming<Plan, TlmLaw>, R: Wait>(
     requires other { IsPlainPart part → ⊥ }
     requires alone { length state.old.port.away ≡ 0 }
     ensures port { IsPort N.table N.tokens N.frame (with_note state.new result.1) }
+    ensures knew { Within note.knows.known result.1.knows.known }
+    ensures adds { AddsOwn N.frame (with_note state.old note) (with_note state.new result.1) result.0 }
     ensures does { DoesNext N.frame part (with_note state.old note) (with_note state.new result.1) result.0 }
 {
     match part {
@@ -132,6 +137,8 @@ fn do_alone<N: Naming<Plan, TlmLaw>, R: Wait>(
     requires next { next_of state.old.port.engine ≡ Asks transfer }
     requires other { IsPlainKind transfer.kind → ⊥ }
     ensures port { IsPort N.table N.tokens N.frame (with_note state.new result.1) }
+    ensures knew { Within note.knows.known result.1.knows.known }
+    ensures adds { AddsOwn N.frame (with_note state.old note) (with_note state.new result.1) result.0 }
     ensures does { DoesKind N.frame transfer.kind (with_note state.old note) (with_note state.new result.1) result.0 }
 {
     match transfer.kind {
@@ -155,6 +162,8 @@ fn read<N: Naming<Plan, TlmLaw>, R: Wait>(
     requires next { next_of state.old.port.engine ≡ Asks transfer }
     requires kind { transfer.kind ≡ kinds.DebugRead }
     ensures port { IsPort N.table N.tokens N.frame (with_note state.new result.1) }
+    ensures knew { Within note.knows.known result.1.knows.known }
+    ensures adds { AddsOwn N.frame (with_note state.old note) (with_note state.new result.1) result.0 }
     ensures read { ReadsDebug N.frame (with_note state.old note) (with_note state.new result.1) }
     ensures moved { (x : TransferView) → next_of state.old.port.engine ≡ Asks x → result.0 ≡ read_moved N.frame.world (with_note state.old note) x }
 {
@@ -187,6 +196,8 @@ fn finish<N: Naming<Plan, TlmLaw>, R: Wait>(
     requires done { next_of state.old.port.engine ≡ Ends }
     ensures same { state.new ≡ state.old }
     ensures port { IsPort N.table N.tokens N.frame (with_note state.new result.1) }
+    ensures knew { Within note.knows.known result.1.knows.known }
+    ensures adds { AddsOwn N.frame (with_note state.old note) (with_note state.new result.1) result.0 }
     ensures ended { (LooksLive N.frame 0 (with_note state.old note) (with_note state.new result.1) × (result.0 ≡ ends Pumps.Finished))
         ⊎ (LooksLive N.frame 7 (with_note state.old note) (with_note state.new result.1) × (result.0 ≡ ends Pumps.Nothing)) }
 {

@@ -74,7 +74,7 @@ pub struct PortParts {
 }
 
 // Room for all that a script may have outstanding or refused.
-fn room_for<N: Naming<Plan, TlmLaw>>(net: &Net<N>, initiator: u32) -> u32
+pub(crate) fn room_for<N: Naming<Plan, TlmLaw>>(net: &Net<N>, initiator: u32) -> u32
     requires { initiator < length N.frame.world.platform.initiators }
     ensures { (i : Initiator) → slice_get (initiators_of N.frame.world) initiator ≡ Some i → count_of i ≤ result }
 {

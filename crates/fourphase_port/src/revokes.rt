@@ -1,5 +1,6 @@
 // What a port does where it invalidates.
 ghost use Rattle.std.specs.Prelude.{◌≡◌, ◌<◌, is_some, length, None};
+ghost use Rattle.view_lists.specs.Lists.{Within};
 ghost use Rattle.shared_object.specs.Steps.{IsNote};
 ghost use Rattle.shared_object.specs.Written.{written_at};
 ghost use Rattle.token_book.specs.Purse.{IsOf, left_of};
@@ -9,7 +10,7 @@ ghost use Rattle.plat_net.specs.Calls.{HasNoPassage, route_at};
 ghost use Rattle.port_model.specs.Laws.{HasSettled};
 ghost use Rattle.dmi_grants.specs.Made.{IsRoomyFor, unclosed};
 ghost use Rattle.port_moves.specs.declared.hand.Hand.TheVariants as Hands;
-ghost use Rattle.fourphase_port.specs.Moves.{InvalidatesNext};
+ghost use Rattle.fourphase_port.specs.Moves.{AddsOwn, InvalidatesNext};
 ghost use Rattle.fourphase_port.specs.Pumps.{invalidation_moved};
 ghost use Rattle.fourphase_port.specs.Revoking.{HasRevoked, MayRevoke, Revokes};
 ghost use Rattle.port_moves.specs.State.{IsPort, with_note};
@@ -40,6 +41,7 @@ fn tell<N: Naming<Plan, TlmLaw>, R: Wait>(
     requires tickets { unclosed N.frame.world route.memory (written_at route.memory note.knows.known) < left_of state.old.wallet route.memory }
     ensures state { state.new ≡ (let wallet = state.new.wallet in record state.old { wallet = wallet }) }
     ensures note { IsNote N.table result }
+    ensures knew { Within note.knows.known result.knows.known }
     ensures revoked { HasRevoked N.tokens N.frame route txn state.old.port.time count note result state.old.wallet state.new.wallet }
 {
     let at = state.time();
@@ -76,6 +78,7 @@ fn revoke<N: Naming<Plan, TlmLaw>, R: Wait>(
     requires note { IsNote N.table note }
     ensures state { state.new ≡ (let wallet = state.new.wallet in record state.old { wallet = wallet }) }
     ensures note { IsNote N.table result.1 }
+    ensures knew { Within note.knows.known result.1.knows.known }
     ensures revoked { Revokes N.tokens N.frame who txn state.old.port.time address count note result.1 state.old.wallet state.new.wallet }
     ensures routed { result.0 ≡ is_some (route_at N.frame.world who address) }
 {
@@ -102,6 +105,8 @@ pub(crate) fn invalidate<N: Naming<Plan, TlmLaw>, R: Wait>(
     requires settled { HasSettled state.old.port }
     requires next { next_of state.old.port.engine ≡ Invalidates seq address count }
     ensures port { IsPort N.table N.tokens N.frame (with_note state.new result.1) }
+    ensures knew { Within note.knows.known result.1.knows.known }
+    ensures adds { AddsOwn N.frame (with_note state.old note) (with_note state.new result.1) result.0 }
     ensures invalidated { InvalidatesNext N.frame address count (with_note state.old note) (with_note state.new result.1) }
     ensures moved { result.0 ≡ invalidation_moved N.frame.world (with_note state.old note) address }
 {

@@ -1,11 +1,12 @@
 // The move that takes a payload for the access that is next.
 ghost use Rattle.std.specs.Prelude.{◌≡◌, ◌⊎◌, None};
+ghost use Rattle.view_lists.specs.Lists.{Within};
 ghost use Rattle.script_engine.specs.declared.part.Part.TheVariants.{Asks};
 ghost use Rattle.script_engine.specs.Part.{is_fenced_kind};
 ghost use Rattle.script_engine.specs.State.{next_of};
 ghost use Rattle.port_moves.specs.declared.hand.Hand.TheVariants as Hands;
 ghost use Rattle.port_moves.specs.declared.hand.Pumped.TheVariants as Pumps;
-ghost use Rattle.fourphase_port.specs.Moves.{FindsFull, MayTakeNext, Takes};
+ghost use Rattle.fourphase_port.specs.Moves.{AddsOwn, FindsFull, MayTakeNext, Takes};
 ghost use Rattle.port_moves.specs.Moved.{ends, made};
 ghost use Rattle.port_moves.specs.State.{IsPort, with_note};
 
@@ -33,6 +34,8 @@ pub(crate) fn take<N: Naming<Plan, TlmLaw>, R: Wait>(
     requires next { next_of state.old.port.engine ≡ Asks transfer }
     requires may { MayTakeNext state.old.port transfer }
     ensures port { IsPort N.table N.tokens N.frame (with_note state.new result.1) }
+    ensures knew { Within note.knows.known result.1.knows.known }
+    ensures adds { AddsOwn N.frame (with_note state.old note) (with_note state.new result.1) result.0 }
     ensures taken { (Takes N.frame (is_fenced_kind transfer.kind) (with_note state.old note) (with_note state.new result.1) × (result.0 ≡ made))
         ⊎ (FindsFull N.frame (with_note state.old note) (with_note state.new result.1) × (result.0 ≡ ends Pumps.Nothing)) }
 {

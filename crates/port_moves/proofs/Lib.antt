@@ -4,6 +4,7 @@ pub mod PortFacts
 mod HandsMore
 pub mod Proper
 pub mod Goes
+pub mod KnowsMore
 pub mod FirstHop
 pub mod Backs
 mod Downs
@@ -17,3 +18,4 @@ mod Stocked
 pub mod Loads
 mod TakeBack
 pub mod Asking
+pub mod Adding

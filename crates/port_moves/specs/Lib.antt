@@ -9,3 +9,4 @@ pub mod Returned
 pub mod Stocks
 pub mod Loaded
 pub mod Reads
+pub mod Laws

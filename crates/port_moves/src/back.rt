@@ -1,5 +1,6 @@
 // The moves of an access that is back from the first hop.
 ghost use Rattle.std.specs.Prelude.{◌≡◌, ◌⊎◌};
+ghost use Rattle.node_hops.specs.Steps.{HasNew, IsByPort};
 ghost use Rattle.port_moves.specs.declared.hand.Hand.TheVariants as Hands;
 ghost use Rattle.port_moves.specs.declared.hand.Pumped.TheVariants as Pumps;
 ghost use Rattle.port_moves.specs.Moves.{Ends, Fetches, FindsNone, Stows};
@@ -63,6 +64,7 @@ impl PortState {
         requires owed { IsHandOf N.frame N.tokens (with_note self.old note) (Hands.Owed cargo leg at) }
         ensures port { IsPort N.table N.tokens N.frame (with_note self.new result.1) }
         ensures ended { Ends N.frame cargo at (with_note self.old note) (with_note self.new result.1) }
+        ensures adds { HasNew (IsByPort N.frame.world self.old.port.engine.initiator) note.knows.known result.1.knows.known }
         ensures moved { result.0 ≡ made }
     {
         let mut cargo = cargo;
@@ -89,6 +91,7 @@ impl PortState {
         requires released { IsHandOf N.frame N.tokens (with_note self.old note) (Hands.Released baton ticket end) }
         ensures port { IsPort N.table N.tokens N.frame (with_note self.new result.1) }
         ensures stowed { Stows N.frame baton end (with_note self.old note) (with_note self.new result.1) }
+        ensures adds { HasNew (IsByPort N.frame.world self.old.port.engine.initiator) note.knows.known result.1.knows.known }
         ensures moved { result.0 ≡ ends_made Pumps.Did }
     {
         let initiator = self.engine.initiator();

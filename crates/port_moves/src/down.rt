@@ -1,5 +1,6 @@
 // The moves of an access on its way down to the first hop.
-ghost use Rattle.std.specs.Prelude.{◌≡◌, ◌⊎◌, None};
+ghost use Rattle.std.specs.Prelude.{◌≡◌, ◌⊎◌, true, None};
+ghost use Rattle.node_hops.specs.Steps.{HasNew, IsByPort};
 ghost use Rattle.port_moves.specs.declared.hand.Hand.TheVariants as Hands;
 ghost use Rattle.port_moves.specs.Moves.{Acquires, Begins, FindsBusy};
 ghost use Rattle.port_moves.specs.Moved.{after_begin, ends, made};
@@ -29,6 +30,7 @@ impl PortState {
         requires taken { IsHandOf N.frame N.tokens (with_note self.old note) (Hands.Taken baton) }
         ensures port { IsPort N.table N.tokens N.frame (with_note self.new result.1) }
         ensures acquired { Acquires N.frame baton (with_note self.old note) (with_note self.new result.1) }
+        ensures adds { HasNew (IsByPort N.frame.world self.old.port.engine.initiator) note.knows.known result.1.knows.known }
         ensures moved { result.0 ≡ made }
     {
         let initiator = self.engine.initiator();
@@ -52,6 +54,7 @@ impl PortState {
         requires free { (self.old.hand ≡ Hands.Free) × (self.old.held ≡ None) }
         requires ready { IsHandOf N.frame N.tokens (with_note self.old note) (Hands.Acquired cargo) }
         ensures port { IsPort N.table N.tokens N.frame (with_note self.new result.1) }
+        ensures adds { result.0.entry ≡ true → HasNew (IsByPort N.frame.world self.old.port.engine.initiator) note.knows.known result.1.knows.known }
         ensures begun { (Begins N.frame cargo (with_note self.old note) (with_note self.new result.1) × (result.0 ≡ after_begin self.new.hand))
             ⊎ (FindsBusy N.frame cargo (with_note self.old note) (with_note self.new result.1) × (result.0 ≡ ends busy)) }
     {

@@ -10,14 +10,16 @@
 //!   the call of a debug read (`reads`), `settle` and `pass` (`script`).
 //!
 //! Promises: `IsPort` says what the end of a run needs of a port (`port_model`'s `IsUnderWay`), and what is known of
-//! what it works on. Each move keeps it, and is one of the moves of `specs/Moves`; what is no move says exactly what it
-//! changes. No call but `new` takes memory.
+//! what it works on. Each move keeps it, is one of the moves of `specs/Moves`, and tells that its entry is the initiator's own;
+//! what is no move says exactly what it changes. What a port is by one note it is by any that knows more (`laws`). No call
+//! but `new` takes memory.
 #![tactic(auto)]
 
 mod away;
 mod back;
 mod down;
 mod hand;
+pub mod laws;
 mod places;
 mod reads;
 mod returns;

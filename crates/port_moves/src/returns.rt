@@ -1,8 +1,10 @@
 // The move by which a port takes an access back.
 ghost use Rattle.std.specs.Prelude.{◌≡◌, ◌⊎◌, true, length};
+ghost use Rattle.view_lists.specs.Lists.{Within};
 ghost use Rattle.token_book.specs.Purse.{HasRoomForAll, IsOf, empty_purse};
 ghost use Rattle.script_engine.specs.Part.{IsRead};
 ghost use Rattle.script_engine.specs.State.{is_fenced, length_of, op_of};
+ghost use Rattle.node_hops.specs.Steps.{HasNew, IsByPort};
 ghost use Rattle.port_moves.specs.declared.hand.Hand.TheVariants as Hands;
 ghost use Rattle.port_moves.specs.Moves.{PutsStray, TakesBack};
 ghost use Rattle.port_moves.specs.Moved.{made};
@@ -39,7 +41,9 @@ impl PortState {
         requires free { self.old.hand ≡ Hands.Free }
         requires ended { IsHandOf N.frame N.tokens (with_note self.old note) (Hands.Ended cargo end) }
         ensures port { IsPort N.table N.tokens N.frame (with_note self.new result.1) }
+        ensures knew { Within note.knows.known result.1.knows.known }
         ensures back { TakesBack N.frame cargo end (with_note self.old note) (with_note self.new result.1) ⊎ PutsStray N.frame cargo end (with_note self.old note) (with_note self.new result.1) }
+        ensures adds { HasNew (IsByPort N.frame.world self.old.port.engine.initiator) note.knows.known result.1.knows.known }
         ensures moved { result.0 ≡ made }
     {
         let Cargo { baton, hold } = cargo;

@@ -1,5 +1,6 @@
 // The access at a memory that gives the response by return.
 ghost use Rattle.std.specs.Prelude.{◌≡◌};
+ghost use Rattle.node_hops.specs.Steps.{HasNew, IsByPort};
 ghost use Rattle.port_moves.specs.declared.hand.Hand.TheVariants as Hands;
 ghost use Rattle.port_moves.specs.Moves.{Serves};
 ghost use Rattle.port_moves.specs.Moved.{made};
@@ -34,6 +35,7 @@ impl PortState {
         requires begun { IsHandOf N.frame N.tokens (with_note self.old note) (Hands.Begun cargo at leg) }
         ensures port { IsPort N.table N.tokens N.frame (with_note self.new result.1) }
         ensures served { Serves N.frame cargo at (with_note self.old note) (with_note self.new result.1) }
+        ensures adds { HasNew (IsByPort N.frame.world self.old.port.engine.initiator) note.knows.known result.1.knows.known }
         ensures moved { result.0 ≡ made }
     {
         let initiator = self.engine.initiator();

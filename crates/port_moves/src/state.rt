@@ -174,6 +174,13 @@ impl PortState {
         self.away.is_empty()
     }
 
+    /// Whether it works on nothing.
+    pub fn is_free(&self) -> bool
+        ensures { IsTrue result ↔ (self.now.hand ≡ Hands.Free) }
+    {
+        matches!(self.hand, Hand::Free)
+    }
+
     /// Whether a request is held that was refused.
     pub fn holds(&self) -> bool
         ensures { IsTrue result ↔ IsSome self.now.held }

@@ -1,7 +1,9 @@
-use Rattle.std.proofs.Common.{sym, ap}
+use Rattle.std.proofs.Common.{refl, sym, ap}
 use Rattle.port_moves.specs.State.{with_note, StateView}
 use Rattle.fourphase_port.proofs.GoesOnward.{emptied_port, free_move, hand_of, none_behind, hand_move, fetch_move}
 use Rattle.port_moves.specs.declared.hand.Hand.TheVariants.{Taken, Acquired, Begun, Owed, Ended, Released}
+use Rattle.port_moves.specs.Moved.{went}
+use Rattle.fourphase_port.proofs.Adding.{adds_from, adds_none}
 use Rattle.fourphase_port.proofs.moves.advance.Goals as goal
 
 pub acquire-requires-clause-port : goal.acquire-requires-clause-port
@@ -117,3 +119,27 @@ returns-else-fetched-clause-port g c = c.fetch.ensures.port
 
 pub returns-else-fetched-clause-moved : goal.returns-else-fetched-clause-moved
 returns-else-fetched-clause-moved g c = fetch_move g.N.Naming.frame c.args.state.now c.take_hand.new.self c.args.note c.args.fetched (with_note c.fetch.new.self c.fetch.result.1) c.fetch.result.0 c.if-fetched.false (sym c.in-Free.ensures.hand) c.take_hand.ensures.state c.fetch.ensures.fetched c.fetch.ensures.moved
+
+pub returns-in-Taken-clause-adds : goal.returns-in-Taken-clause-adds
+returns-in-Taken-clause-adds g c = adds_from g.N.Naming.frame c.args.state.now c.take_hand.new.self c.args.note (with_note c.acquire.new.self c.acquire.result.1) c.acquire.result.0 (ap (λ (u : StateView). u.port.engine.initiator) c.take_hand.ensures.state) (λ entry. c.acquire.ensures.adds)
+
+pub returns-in-Acquired-clause-adds : goal.returns-in-Acquired-clause-adds
+returns-in-Acquired-clause-adds g c = adds_from g.N.Naming.frame c.args.state.now c.take_hand.new.self c.args.note (with_note c.begin.new.self c.begin.result.1) c.begin.result.0 (ap (λ (u : StateView). u.port.engine.initiator) c.take_hand.ensures.state) c.begin.ensures.adds
+
+pub returns-in-Begun-clause-adds : goal.returns-in-Begun-clause-adds
+returns-in-Begun-clause-adds g c = adds_from g.N.Naming.frame c.args.state.now c.take_hand.new.self c.args.note (with_note c.serve.new.self c.serve.result.1) c.serve.result.0 (ap (λ (u : StateView). u.port.engine.initiator) c.take_hand.ensures.state) (λ entry. c.serve.ensures.adds)
+
+pub returns-in-Owed-clause-adds : goal.returns-in-Owed-clause-adds
+returns-in-Owed-clause-adds g c = adds_from g.N.Naming.frame c.args.state.now c.take_hand.new.self c.args.note (with_note c.end.new.self c.end.result.1) c.end.result.0 (ap (λ (u : StateView). u.port.engine.initiator) c.take_hand.ensures.state) (λ entry. c.end.ensures.adds)
+
+pub returns-in-Ended-clause-adds : goal.returns-in-Ended-clause-adds
+returns-in-Ended-clause-adds g c = adds_from g.N.Naming.frame c.args.state.now c.take_hand.new.self c.args.note (with_note c.take_back.new.self c.take_back.result.1) c.take_back.result.0 (ap (λ (u : StateView). u.port.engine.initiator) c.take_hand.ensures.state) (λ entry. c.take_back.ensures.adds)
+
+pub returns-in-Released-clause-adds : goal.returns-in-Released-clause-adds
+returns-in-Released-clause-adds g c = adds_from g.N.Naming.frame c.args.state.now c.take_hand.new.self c.args.note (with_note c.stow.new.self c.stow.result.1) c.stow.result.0 (ap (λ (u : StateView). u.port.engine.initiator) c.take_hand.ensures.state) (λ entry. c.stow.ensures.adds)
+
+pub returns-then-fetched-clause-adds : goal.returns-then-fetched-clause-adds
+returns-then-fetched-clause-adds g c = adds_from g.N.Naming.frame c.args.state.now c.take_hand.new.self c.args.note (with_note c.go_on.new.state c.go_on.result.1) c.go_on.result.0 (ap (λ (u : StateView). u.port.engine.initiator) c.take_hand.ensures.state) c.go_on.ensures.adds
+
+pub returns-else-fetched-clause-adds : goal.returns-else-fetched-clause-adds
+returns-else-fetched-clause-adds g c = adds_none g.N.Naming.frame (with_note c.args.state.now c.args.note) (with_note c.fetch.new.self c.fetch.result.1) c.fetch.result.0 went c.fetch.ensures.moved refl

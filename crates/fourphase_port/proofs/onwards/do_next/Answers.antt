@@ -1,8 +1,10 @@
-use Rattle.std.proofs.Common.{refl, sym, subst}
+use Rattle.std.proofs.Common.{refl, sym, ap, subst}
 use Rattle.script_engine.specs.declared.part.Part.{Part}
 use Rattle.fourphase_port.specs.Pumps.{DoesNext}
 use Rattle.port_moves.specs.State.{with_note}
 use Rattle.port_moves.proofs.Scripts.{has_settled}
+use Rattle.port_model.specs.Way.{Port}
+use Rattle.fourphase_port.proofs.Adding.{adds_from}
 use Rattle.fourphase_port.proofs.onwards.do_next.Goals as goal
 
 pub do_alone-requires-clause-settled : goal.do_alone-requires-clause-settled
@@ -67,3 +69,9 @@ returns-in-Asks-clause-port g c = c.do_alone.ensures.port
 
 pub returns-in-Invalidates-clause-port : goal.returns-in-Invalidates-clause-port
 returns-in-Invalidates-clause-port g c = c.invalidate.ensures.port
+
+pub returns-in-Asks-clause-adds : goal.returns-in-Asks-clause-adds
+returns-in-Asks-clause-adds g c = adds_from g.N.Naming.frame c.args.state.now c.settle-in-Asks.new.self c.args.note (with_note c.do_alone.new.state c.do_alone.result.1) c.do_alone.result.0 (ap (λ (q : Port). q.engine.initiator) c.settle-in-Asks.ensures.settled.port) c.do_alone.ensures.adds
+
+pub returns-in-Invalidates-clause-adds : goal.returns-in-Invalidates-clause-adds
+returns-in-Invalidates-clause-adds g c = adds_from g.N.Naming.frame c.args.state.now c.settle-in-Invalidates.new.self c.args.note (with_note c.invalidate.new.state c.invalidate.result.1) c.invalidate.result.0 (ap (λ (q : Port). q.engine.initiator) c.settle-in-Invalidates.ensures.settled.port) c.invalidate.ensures.adds

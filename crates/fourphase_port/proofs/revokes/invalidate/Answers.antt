@@ -1,6 +1,6 @@
 use Rattle.std.proofs.Common.{refl}
 use Rattle.joined_traffic.specs.Accesses.{txn_of}
-use Rattle.fourphase_port.proofs.Revoked.{free_then, invalidates_as, may_as, moved_as, revoked_as, revokes_as, state_as, txn_is, who_stands}
+use Rattle.fourphase_port.proofs.Revoked.{free_then, invalidates_as, may_as, moved_as, revoked_as, revoked_new, revokes_as, state_as, txn_is, who_stands}
 use Rattle.fourphase_port.proofs.revokes.invalidate.Goals as goal
 
 pub revoke-routed-requires-clause-who : goal.revoke-routed-requires-clause-who
@@ -20,3 +20,6 @@ returns-clause-invalidated g c = invalidates_as g.N.Naming.table g.N.Naming.toke
 
 pub returns-clause-moved : goal.returns-clause-moved
 returns-clause-moved g c = moved_as g.N.Naming.table g.N.Naming.tokens g.N.Naming.frame c.args.state.now c.args.note c.requires.port c.requires.settled c.args.seq c.args.address c.args.count c.requires.next c.initiator-initiator.result c.revoke-routed.result.0 c.ends.result c.initiator-initiator.ensures c.revoke-routed.ensures.routed c.ends.ensures
+
+pub returns-clause-adds : goal.returns-clause-adds
+returns-clause-adds g c = λ entry. revoked_new g.N.Naming.table g.N.Naming.tokens g.N.Naming.frame c.args.state.now c.args.note c.requires.port c.requires.settled c.args.seq c.args.address c.args.count c.requires.next c.revoke-routed.result.1 c.revoke-routed.ensures.note c.revoke-routed.new.state.wallet (revokes_as g.N.Naming.table g.N.Naming.tokens g.N.Naming.frame c.args.state.now c.args.note c.requires.port c.requires.settled c.args.seq c.args.address c.args.count c.requires.next c.initiator-initiator.result (txn_of c.initiator-initiator.result c.args.seq) c.args.state.now.port.time c.args.state.now.wallet c.revoke-routed.new.state.wallet c.revoke-routed.result.1 c.initiator-initiator.ensures (txn_is g.N.Naming.table g.N.Naming.tokens g.N.Naming.frame c.args.state.now c.args.note c.requires.port c.requires.settled c.args.seq c.args.address c.args.count c.requires.next c.initiator-initiator.result c.initiator-initiator.ensures) refl refl c.revoke-routed.ensures.revoked) c.requires.free.0 c.ends.result (moved_as g.N.Naming.table g.N.Naming.tokens g.N.Naming.frame c.args.state.now c.args.note c.requires.port c.requires.settled c.args.seq c.args.address c.args.count c.requires.next c.initiator-initiator.result c.revoke-routed.result.0 c.ends.result c.initiator-initiator.ensures c.revoke-routed.ensures.routed c.ends.ensures) entry

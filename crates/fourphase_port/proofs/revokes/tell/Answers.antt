@@ -22,3 +22,6 @@ returns-clause-revoked g c =
           (subst (λ (k : ℕ). HasInvalidated g.N.Naming.frame r.memory c.args.txn c.time-at.result r.offset k c.args.note.knows c.invalidate-note.result.knows c.wallet_mut-wallet.result.now spent) last c.invalidate-note.ensures.invalidated));
       takes = subst (λ (t : TableId). TakesAll t spent (empty_purse 1) c.tidy.new.self.wallet) c.tickets.ensures c.tidy.ensures.takes;
     }
+
+pub returns-clause-knew : goal.returns-clause-knew
+returns-clause-knew g c = let d = c.invalidate-note.ensures.invalidated in λ e has. d.all.last_look.enters.knew e (d.all.ended.keeps e (d.made.enters.knew e has))

@@ -20,6 +20,7 @@ use Rattle.port_moves.specs.Stocks.{MayStock}
 use Rattle.port_moves.specs.Wallets.{Gets}
 use Rattle.port_moves.proofs.Backs.{pool_is_there}
 use Rattle.fourphase_port.proofs.TakesNext.{can_take, full_port, has_ticket, is_new, low_initiator, may_give, none_in, room_away, room_back, room_refused, taken_port, takes}
+use Rattle.fourphase_port.proofs.Adding.{took_adds}
 use Rattle.fourphase_port.proofs.takes.take.Goals as goal
 
 pub pool_place-pool-requires : goal.pool_place-pool-requires
@@ -76,3 +77,6 @@ returns-in-Took-clause-taken g c =
           (c.in-Took.ensures.taken.1 ∙ ap (λ (k : ℕ). c.args.note.knows.looks ++ (own_pool g.N.Naming.frame.world k, 0) ∷ []) c.initiator-initiator.ensures),
       c.made.ensures,
     )
+
+pub returns-in-Took-clause-adds : goal.returns-in-Took-clause-adds
+returns-in-Took-clause-adds g c = λ entry. took_adds g.N.Naming.frame g.N.Naming.tokens c.initiator-initiator.result c.args.state.now.port.engine.initiator c.initiator-initiator.ensures c.args.note.knows c.in-Took.note.knows c.requires.port.below _ c.in-Took.baton c.in-Took.ensures.answer

@@ -4,6 +4,7 @@ use Rattle.port_moves.specs.Moved.{after_begin}
 use Rattle.port_moves.specs.State.{StateView}
 use Rattle.port_moves.proofs.Backs.{goes_free, hop_stands}
 use Rattle.port_moves.proofs.Downs.{begins_left, begins_now, busy_port, finds_busy, can_begin_at, now_port, tried_here}
+use Rattle.port_moves.proofs.Adding.{call_on_hop_adds, never_made}
 use Rattle.port_moves.proofs.state.PortState.begin.Goals as goal
 
 pub begin_req-requires-clause-can : goal.begin_req-requires-clause-can
@@ -44,3 +45,12 @@ returns-in-Busy-clause-begun g c = inr (
 
 pub begin_req-requires-clause-hop : goal.begin_req-requires-clause-hop
 begin_req-requires-clause-hop g c = hop_stands g.N.Naming.table g.N.Naming.tokens g.N.Naming.frame c.args.self.now c.args.note c.requires.port c.initiator-initiator.result (c.initiator-initiator.ensures ∙ ap (λ (t : StateView). t.port.engine.initiator) c.self.view_is)
+
+pub returns-in-Left-clause-adds : goal.returns-in-Left-clause-adds
+returns-in-Left-clause-adds g c = λ entry. call_on_hop_adds g.N.Naming.frame g.N.Naming.tokens c.initiator-initiator.result c.args.self.now.port.engine.initiator (c.initiator-initiator.ensures ∙ ap (λ (t : StateView). t.port.engine.initiator) c.self.view_is) c.args.note.knows c.in-Left.note.knows c.requires.port.below _ _ c.in-Left.ensures.answer tt
+
+pub returns-in-Now-clause-adds : goal.returns-in-Now-clause-adds
+returns-in-Now-clause-adds g c = λ entry. call_on_hop_adds g.N.Naming.frame g.N.Naming.tokens c.initiator-initiator.result c.args.self.now.port.engine.initiator (c.initiator-initiator.ensures ∙ ap (λ (t : StateView). t.port.engine.initiator) c.self.view_is) c.args.note.knows c.in-Now.note.knows c.requires.port.below _ _ c.in-Now.ensures.answer tt
+
+pub returns-in-Busy-clause-adds : goal.returns-in-Busy-clause-adds
+returns-in-Busy-clause-adds g c = λ entry. absurd (never_made c.ends-in-Busy.result c.args.busy c.ends-in-Busy.ensures entry)

@@ -11,6 +11,7 @@ use Rattle.port_moves.specs.Reach.{first_hop}
 use Rattle.port_moves.specs.State.{IsPort, StateView, with_note}
 use Rattle.port_moves.specs.declared.hand.Hand.TheVariants as Hands
 use Rattle.port_moves.proofs.Backs.{end_made, end_of, end_paid, ended, hop_stands, keeps, can_end}
+use Rattle.port_moves.proofs.Adding.{call_on_hop_adds}
 use Rattle.port_moves.proofs.state.PortState.end.Goals as goal
 
 pub hop_place-hop-requires : goal.hop_place-hop-requires
@@ -79,3 +80,6 @@ returns-clause-ended g c =
 
 pub end_resp-end-requires-clause-hop : goal.end_resp-end-requires-clause-hop
 end_resp-end-requires-clause-hop g c = hop_stands g.N.Naming.table g.N.Naming.tokens g.N.Naming.frame c.args.self.now c.args.note c.requires.port c.initiator-initiator.result (c.initiator-initiator.ensures ∙ ap (λ (t : StateView). t.port.engine.initiator) c.self.view_is)
+
+pub returns-clause-adds : goal.returns-clause-adds
+returns-clause-adds g c = call_on_hop_adds g.N.Naming.frame g.N.Naming.tokens c.initiator-initiator.result c.args.self.now.port.engine.initiator (c.initiator-initiator.ensures ∙ ap (λ (t : StateView). t.port.engine.initiator) c.self.view_is) c.args.note.knows c.end_resp-end.result.1.knows c.requires.port.below _ _ c.end_resp-end.ensures.answer tt

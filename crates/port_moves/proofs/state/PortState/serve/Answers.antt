@@ -8,6 +8,7 @@ use Rattle.port_moves.specs.State.{StateView}
 use Rattle.port_moves.specs.declared.hand.Hand.{Hand}
 use Rattle.port_moves.proofs.Backs.{hop_stands}
 use Rattle.port_moves.proofs.Served.{begun, by_memory, can_serve, leads_here, served_as, serves_as}
+use Rattle.port_moves.proofs.Adding.{access_adds}
 use Rattle.port_moves.proofs.state.PortState.serve.Goals as goal
 
 pub memory_behind-requires : goal.memory_behind-requires
@@ -41,3 +42,7 @@ returns-clause-served g c =
     let e = c.serve-cargo.ensures in
     serves_as g.N.Naming.table g.N.Naming.tokens g.N.Naming.frame c.args.self.now c.args.note c.requires.port c.args.cargo c.args.at c.args.leg c.requires.begun c.serve-cargo.result.1 e.note e.knew e.below c.in-Some.memory (leads g c) c.serve-cargo.result.0 (served g c) c.turn_to.new.self c.saturating_add.result (time g c)
     (c.turn_to.ensures ∙ ap (λ (h : Hand). let s = c.args.self.now in record s { hand = h }) c.of_response.ensures) e.look
+
+pub returns-clause-adds : goal.returns-clause-adds
+returns-clause-adds g c = access_adds g.N.Naming.frame g.N.Naming.tokens c.initiator-initiator.result c.args.self.now.port.engine.initiator (c.initiator-initiator.ensures ∙ ap (λ (t : StateView). t.port.engine.initiator) c.self.view_is) c.args.note.knows c.serve-cargo.result.1.knows c.requires.port.below c.in-Some.memory c.args.cargo c.args.at _ c.in-Some.ensures.there
+    ((begun g.N.Naming.table g.N.Naming.tokens g.N.Naming.frame c.args.self.now c.args.note c.requires.port c.args.cargo c.args.at c.args.leg c.requires.begun).own ∙ c.requires.port.number) c.serve-cargo.ensures.answer

@@ -14,6 +14,7 @@ use Rattle.port_moves.proofs.Backs.{pool_is_there}
 use Rattle.port_moves.proofs.TakesIn.{can_release, left_places, one_left, released_here, room_for, taken_of, two_left}
 use Rattle.port_moves.proofs.TakenBack.{back_move, back_port, may_tell}
 use Rattle.port_moves.proofs.WalletLemmas.{some_of}
+use Rattle.port_moves.proofs.Adding.{release_adds}
 use Rattle.port_moves.proofs.state.PortState.take_back.Goals as goal
 
 pub pool_place-pool-requires : goal.pool_place-pool-requires
@@ -83,3 +84,6 @@ returns-clause-back g c =
     (record a { wallet = c.take_all.new.from }) (spent g c) c.pull-last.result (ticket g c) c.tell.new.self c.turn_to.new.self (told g c) c.turn_to.ensures c.release-note.result.0
     (released_here g.N.Naming.table g.N.Naming.tokens g.N.Naming.frame c.args.self.now c.args.note c.requires.port c.args.cargo c.args.end c.requires.ended c.initiator-initiator.result (c.initiator-initiator.ensures ∙ ap (λ (t : StateView). t.port.engine.initiator) c.self.view_is) c.release-note.result.0 c.release-note.result.1.knows.known e.released)
     (e.look ∙ ap (λ (n : ℕ). c.args.note.knows.looks ++ (own_pool g.N.Naming.frame.world n, 0) ∷ []) (c.initiator-initiator.ensures ∙ ap (λ (t : StateView). t.port.engine.initiator) c.self.view_is))
+
+pub returns-clause-adds : goal.returns-clause-adds
+returns-clause-adds g c = release_adds g.N.Naming.frame g.N.Naming.tokens c.initiator-initiator.result c.args.self.now.port.engine.initiator (c.initiator-initiator.ensures ∙ ap (λ (t : StateView). t.port.engine.initiator) c.self.view_is) c.args.note.knows c.release-note.result.1.knows c.requires.port.below _ _ c.release-note.ensures.answer
