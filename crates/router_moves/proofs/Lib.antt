@@ -7,3 +7,4 @@ pub mod TurnsUp
 pub mod Sends
 pub mod Ended
 pub mod Hops
+pub mod Added

@@ -25,6 +25,7 @@ use Rattle.cargo_model.specs.Known.{Known}
 use Rattle.cargo_model.specs.Tickets.{Pulls}
 use Rattle.plat_net.specs.HopCalls.{CanRespond}
 use Rattle.plat_net.specs.Places.{hop_place}
+use Rattle.node_hops.specs.Steps.{AddsAt}
 use Rattle.router_moves.specs.declared.down.Passed.{Passed}
 use Rattle.router_moves.specs.declared.down.Passed.TheVariants.{Gone, Now, Busy}
 use Rattle.router_moves.specs.declared.items.Back.{Back}
@@ -70,6 +71,18 @@ abbrev pub sent_note : Sent → HeldNote Content Plan
 sent_note (Open at note) = note
 sent_note (Ended at note) = note
 sent_note (Refused response note) = note
+
+-- where BEGIN_REQ was made, an entry was added on the hop below
+abbrev pub PassAdds : Plan → ℕ → View Content Plan → Passed → Type 0
+PassAdds p hop was (Gone held at note) = AddsAt (hop_place p hop) was note.knows
+PassAdds p hop was (Now held begun note) = AddsAt (hop_place p hop) was note.knows
+PassAdds p hop was (Busy down note) = Unit {0}
+
+-- and where BEGIN_RESP was made, on the hop above
+abbrev pub SendAdds : Plan → ℕ → View Content Plan → Sent → Type 0
+SendAdds p hop was (Open at note) = AddsAt (hop_place p hop) was note.knows
+SendAdds p hop was (Ended at note) = AddsAt (hop_place p hop) was note.knows
+SendAdds p hop was (Refused response note) = Unit {0}
 
 -- the END_RESP below is still to be made; or it isn't
 abbrev pub IsOwing : End → Type 0

@@ -3,10 +3,12 @@ use Rattle.std.specs.Prelude.{ℕ, ◌≡◌, [], ◌∷◌, ◌++◌, Some, Non
 use Rattle.atomic_table.specs.Seated.{TableId}
 use Rattle.one_history.specs.Held.{Held as HeldNote}
 use Rattle.one_history.specs.declared.view.Frame.{Frame}
+use Rattle.one_history.specs.declared.view.View.{View}
 use Rattle.tlm_types.specs.declared.entry.Content.{Content}
 use Rattle.tlm_model.specs.Plan.{Plan}
 use Rattle.tlm_model.specs.Route.{later}
 use Rattle.plat_net.specs.Places.{own_pool}
+use Rattle.node_hops.specs.Steps.{AddsAt}
 use Rattle.router_moves.specs.Items.{IsDown, way_of}
 use Rattle.router_moves.specs.Moves.{IsRefused}
 use Rattle.router_moves.specs.declared.items.RouterRequest.{RouterRequest}
@@ -24,3 +26,8 @@ HasTurned frame tokens router latency r old new (Down d) =
 HasTurned frame tokens router latency r old new (Back answer) =
     (way_of frame.world router r.cargo.baton.payload.address ≡ None)
     × IsRefused frame tokens new.knows.known latency r answer × (new ≡ old)
+
+-- where it may go down, its reference was acquired by an entry of the pool of its initiator
+abbrev pub TurnAdds : Plan → ℕ → View Content Plan → View Content Plan → Turned → Type 0
+TurnAdds p initiator was is (Down d) = AddsAt (own_pool p initiator) was is
+TurnAdds p initiator was is (Back answer) = Unit {0}

@@ -7,7 +7,7 @@ ghost use Rattle.tlm_model.specs.declared.platform.Target.TheVariants.{Router};
 ghost use Rattle.tlm_model.specs.Route.{window_hop};
 ghost use Rattle.node_hops.specs.Traits.{hop_latency, is_accepting};
 ghost use Rattle.router_moves.specs.Items.{IsRequest};
-ghost use Rattle.router_moves.specs.Turns.{HasTurned};
+ghost use Rattle.router_moves.specs.Turns.{HasTurned, TurnAdds};
 
 use crate::down::{descend, way_behind};
 use crate::items::{Down, RouterRequest, RouterResponse};
@@ -48,6 +48,7 @@ pub fn turn<N: Naming<Plan, TlmLaw>, R: Wait>(
     ensures note { IsNote N.table result.1 }
     ensures knew { Within note.knows.known result.1.knows.known }
     ensures below { StandBelow note.knows.known note.knows.seen → StandBelow result.1.knows.known result.1.knows.seen }
+    ensures adds { TurnAdds N.frame.world request.cargo.baton.txn.initiator note.knows result.1.knows result.0 }
     ensures turned { HasTurned N.frame N.tokens router latency request note result.1 result.0 }
 {
     let _ = net.plan();

@@ -7,9 +7,10 @@ ghost use Rattle.tlm_model.specs.declared.platform.Target.TheVariants.{Memory, R
 ghost use Rattle.tlm_model.specs.Route.{later, window_hop};
 ghost use Rattle.route_plan.specs.Valid.{hop_count};
 ghost use Rattle.plat_net.specs.Places.{LeadsTo, hop_place, memory_place, own_pool};
+ghost use Rattle.node_hops.specs.Steps.{AddsAt, AddsOf};
 ghost use Rattle.node_hops.specs.Traits.{hop_latency, is_accepting};
 ghost use Rattle.router_moves.specs.Items.{HasGone, IsBegun, IsDown, IsRequest, way_of};
-ghost use Rattle.router_moves.specs.Moves.{EndsAbove, HasPassed, HasServedBelow, fetch_look, owed_above, passed_note};
+ghost use Rattle.router_moves.specs.Moves.{EndsAbove, HasPassed, HasServedBelow, PassAdds, fetch_look, owed_above, passed_note};
 
 use crate::items::{Back, BegunBelow, Down, PassedOn, RouterRequest, WayBehind};
 use cargo_net::{Descended, FetchedRequest, Tried};
@@ -115,6 +116,7 @@ pub fn descend<N: Naming<Plan, TlmLaw>, R: Wait>(
     ensures knew { Within note.knows.known result.1.knows.known }
     ensures below { StandBelow result.1.knows.known result.1.knows.seen }
     ensures look { result.1.knows.looks ≡ note.knows.looks ++ (own_pool N.frame.world request.cargo.baton.txn.initiator, 0) ∷ [] }
+    ensures adds { AddsAt (own_pool N.frame.world request.cargo.baton.txn.initiator) note.knows result.1.knows }
     ensures held { (result.0.held.txn ≡ request.cargo.baton.txn) × (result.0.held.above ≡ request.hop) × (result.0.held.below ≡ way.hop) }
     ensures due { result.0.due ≡ later request.at latency }
     ensures down { IsDown N.frame N.tokens result.1.knows.known result.0 }
@@ -181,6 +183,7 @@ pub fn pass_on<N: Naming<Plan, TlmLaw>, R: Wait>(
     ensures note { IsNote N.table (passed_note result) }
     ensures knew { Within note.knows.known (passed_note result).knows.known }
     ensures below { StandBelow (passed_note result).knows.known (passed_note result).knows.seen }
+    ensures adds { PassAdds N.frame.world down.held.below note.knows result }
     ensures passed { HasPassed N.frame N.tokens down note.knows result }
 {
     let Down { held, due, cargo } = down;
@@ -233,6 +236,7 @@ pub fn serve_below<N: Naming<Plan, TlmLaw>, R: Wait>(
     ensures knew { Within note.knows.known result.1.knows.known }
     ensures below { StandBelow result.1.knows.known result.1.knows.seen }
     ensures look { result.1.knows.looks ≡ note.knows.looks ++ (memory_place N.frame.world memory, 0) ∷ [] }
+    ensures adds { AddsOf (memory_place N.frame.world memory) held.now.txn note.knows result.1.knows }
     ensures served { HasServedBelow N.frame N.tokens latency held.now begun result.1.knows.known result.0 }
 {
     let _ = held;
@@ -261,6 +265,7 @@ pub fn end_above<N: Naming<Plan, TlmLaw>, R: Wait>(
     ensures knew { Within note.knows.known result.1.knows.known }
     ensures below { StandBelow result.1.knows.known result.1.knows.seen }
     ensures look { result.1.knows.looks ≡ note.knows.looks ++ (hop_place N.frame.world held.above, 0) ∷ [] }
+    ensures adds { AddsAt (hop_place N.frame.world held.above) note.knows result.1.knows }
     ensures ended { EndsAbove N.frame N.tokens note.knows.known result.1.knows.known held at result.0 }
 {
     let PassedOn {

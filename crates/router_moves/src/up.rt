@@ -10,9 +10,10 @@ ghost use Rattle.cargo_model.specs.Known.{Known};
 ghost use Rattle.route_plan.specs.Valid.{hop_count};
 ghost use Rattle.plat_net.specs.HopCalls.{CanRespond};
 ghost use Rattle.plat_net.specs.Places.{hop_place, own_pool};
+ghost use Rattle.node_hops.specs.Steps.{AddsAt};
 ghost use Rattle.node_hops.specs.Traits.{hop_latency};
 ghost use Rattle.router_moves.specs.Items.{IsRequest, way_of};
-ghost use Rattle.router_moves.specs.Moves.{EndsBelow, HasBegunOn, HasEndedAbove, HasFetchedUp, HasReleased, HasSent, IsBackFor, IsDone, IsOwing, IsEndOf, IsRefused, IsReleasing, PullsFor, TurnsUp, ended_look, sent_as, sent_note, up_look};
+ghost use Rattle.router_moves.specs.Moves.{EndsBelow, HasBegunOn, HasEndedAbove, HasFetchedUp, HasReleased, HasSent, IsBackFor, IsDone, IsOwing, IsEndOf, IsRefused, IsReleasing, PullsFor, SendAdds, TurnsUp, ended_look, sent_as, sent_note, up_look};
 
 use crate::items::{Back, End, PassedOn, Rest, RouterRequest, RouterResponse};
 use cargo_model::Cargo;
@@ -210,6 +211,7 @@ pub fn send_up<N: Naming<Plan, TlmLaw>, R: Wait>(
     ensures note { IsNote N.table (sent_note result) }
     ensures knew { Within note.knows.known (sent_note result).knows.known }
     ensures below { StandBelow (sent_note result).knows.known (sent_note result).knows.seen }
+    ensures adds { SendAdds N.frame.world response.hop note.knows result }
     ensures sent { HasSent N.frame N.tokens response note.knows result }
 {
     let RouterResponse {
@@ -275,6 +277,7 @@ pub fn end_below<N: Naming<Plan, TlmLaw>, R: Wait>(
     ensures knew { Within note.knows.known result.1.knows.known }
     ensures below { StandBelow result.1.knows.known result.1.knows.seen }
     ensures look { result.1.knows.looks ≡ note.knows.looks ++ (hop_place N.frame.world rest.below, 0) ∷ [] }
+    ensures adds { AddsAt (hop_place N.frame.world rest.below) note.knows result.1.knows }
     ensures ended { EndsBelow N.frame N.tokens result.1.knows.known rest at result.0 }
 {
     let Rest {
@@ -313,6 +316,7 @@ pub fn release<N: Naming<Plan, TlmLaw>, R: Wait>(
     ensures knew { Within note.knows.known result.knows.known }
     ensures below { StandBelow result.knows.known result.knows.seen }
     ensures look { result.knows.looks ≡ note.knows.looks ++ (own_pool N.frame.world rest.txn.initiator, 0) ∷ [] }
+    ensures adds { AddsAt (own_pool N.frame.world rest.txn.initiator) note.knows result.knows }
     ensures released { HasReleased N.frame result.knows.known rest }
 {
     let Rest {

@@ -10,3 +10,4 @@ pub mod JoinsOne
 pub mod Pumps
 pub mod ByReturn
 pub mod HopLists
+pub mod Adding

@@ -41,7 +41,7 @@ pub set_again : {A : Type 0} (xs : List A) (i : ℕ) (x y z : A) (s : StandsAt x
 set_again xs i x y z s = set_here (set xs i y) i y z (record { before = s.before; rest = s.rest; line = set_here xs i x y s; place = s.place })
 
 -- none there
-take_at : {A : Type 0} (before rest : List A) → take (length before) (before ++ rest) ≡ before
+pub take_at : {A : Type 0} (before rest : List A) → take (length before) (before ++ rest) ≡ before
 take_at [] rest = refl
 take_at (b ∷ before) rest = ap (λ (l : List _). b ∷ l) (take_at before rest)
 
@@ -86,7 +86,7 @@ pub all_behind : {A : Type 0} (P : A → Type 0) (xs ys : List A) → AllByRecur
 all_behind P [] ys all = all
 all_behind P (x ∷ xs) ys all = all_behind P xs ys all.1
 
-all_joined : {A : Type 0} (P : A → Type 0) (xs ys : List A) → AllByRecursion P xs → AllByRecursion P ys → AllByRecursion P (xs ++ ys)
+pub all_joined : {A : Type 0} (P : A → Type 0) (xs ys : List A) → AllByRecursion P xs → AllByRecursion P ys → AllByRecursion P (xs ++ ys)
 all_joined P [] ys all more = more
 all_joined P (x ∷ xs) ys all more = (all.0, all_joined P xs ys all.1 more)
 

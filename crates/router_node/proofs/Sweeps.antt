@@ -51,7 +51,7 @@ take_past [] (suc i) past = refl
 take_past (x ∷ xs) zero past = absurd (past (omega arith))
 take_past (x ∷ xs) (suc i) past = ap (λ (l : List _). x ∷ l) (take_past xs i (λ l. past (omega (arith, l))))
 
-few_left : (o : Option Stage) → length (left o) ≤ 1
+pub few_left : (o : Option Stage) → length (left o) ≤ 1
 few_left None = omega arith
 few_left (Some s) = omega arith
 

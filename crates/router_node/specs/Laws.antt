@@ -1,4 +1,4 @@
--- What a router knows of the transactions that it holds stays known while it makes moves for others.
+-- What a router knows of the transactions that it holds stays known while it makes moves for others, and while others make theirs.
 use Rattle.std.specs.Prelude.{ℕ, List}
 use Rattle.atomic_table.specs.Seated.{TableId}
 use Rattle.view_lists.specs.Lists.{Within}
@@ -17,6 +17,8 @@ use Rattle.router_moves.specs.declared.items.RouterResponse.{RouterResponse}
 use Rattle.router_moves.specs.declared.items.Rest.{Rest}
 use Rattle.router_moves.specs.Items.{HasGone, IsBegun, IsDown, IsHolding, IsRest}
 use Rattle.router_moves.specs.Moves.{EndsAbove, HasBegunOn, HasEndedAbove, IsBackFor}
+use Rattle.router_node.specs.Node.{IsRouter}
+use Rattle.router_node.specs.declared.node.RouterNode.{RouterNode}
 
 -- Who knows more knows no less of what a router holds.
 pub record StaysKnown (frame : Frame Plan) (tokens : TableId) (known more : List (Entry Content)) : Type 0 where
@@ -32,6 +34,10 @@ pub record StaysKnown (frame : Frame Plan) (tokens : TableId) (known more : List
 
 abbrev pub MoreIsKnown : Type 0
 MoreIsKnown = (frame : Frame Plan) (tokens : TableId) (known more : List (Entry Content)) → Within known more → StaysKnown frame tokens known more
+
+-- What a router keeps by what is known it keeps by more.
+abbrev pub RoutersKeep : Type 0
+RoutersKeep = (frame : Frame Plan) (tokens : TableId) (r : RouterNode) (known more : List (Entry Content)) → Within known more → IsRouter frame tokens r known → IsRouter frame tokens r more
 
 -- After END_REQ above the transaction is the one that it was below: its request may have gone, be called by return, or be back.
 pub record HoldsOn (frame : Frame Plan) (tokens : TableId) (known later : List (Entry Content)) (h : PassedOn) (new : PassedOn) : Type 0 where

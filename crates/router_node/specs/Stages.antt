@@ -1,5 +1,5 @@
 -- A transaction that a router holds, and what a step of a pump does with it.
-use Rattle.std.specs.Prelude.{ℕ, ◌≡◌, ◌<◌, ◌≤◌, ◌==◌, ◌⊎◌, Bool, true, false, IsTrue, List, [], ◌∷◌, ◌++◌, Option, Some, None, IfSome, IsSomeAnd, if◌then◌else◌}
+use Rattle.std.specs.Prelude.{ℕ, ◌≡◌, ◌<◌, ◌≤◌, ◌==◌, ◌⊎◌, Bool, true, false, IsTrue, List, [], ◌∷◌, ◌++◌, length, Option, Some, None, IfSome, IsSomeAnd, if◌then◌else◌}
 use Rattle.atomic_table.specs.Seated.{TableId}
 use Rattle.one_history.specs.declared.entry.Entry.{Entry}
 use Rattle.one_history.specs.declared.view.Frame.{Frame}
@@ -15,7 +15,9 @@ use Rattle.flow_model.specs.Numbers.{IsEnder}
 use Rattle.cargo_model.specs.Known.{Known}
 use Rattle.route_plan.specs.Valid.{hop_count}
 use Rattle.plat_net.specs.HopCalls.{CanRespond}
-use Rattle.plat_net.specs.Places.{hop_place}
+use Rattle.plat_net.specs.Places.{hop_place, memory_place}
+use Rattle.tlm_model.specs.declared.platform.Target.TheVariants.{Router}
+use Rattle.node_hops.specs.Steps.{AddsAt, AddsOf, IsByNode}
 use Rattle.node_hops.specs.Traits.{hop_latency}
 use Rattle.router_moves.specs.Items.{IsBegun, IsDown, IsHolding, IsRest}
 use Rattle.router_moves.specs.Moves.{HasBegunOn}
@@ -168,3 +170,26 @@ IsServed frame known h b s = ⊥
 abbrev pub HasLookedForEnd : Frame Plan → SentUp → View Content Plan → View Content Plan → Bool → Type 0
 HasLookedForEnd frame a old new true = Finds (Known frame.world.platform new.known) (IsEnder a.txn a.above)
 HasLookedForEnd frame a old new false = new.looks ≡ old.looks ++ (hop_place frame.world a.above, 5) ∷ []
+
+-- An entry of a hop was added.
+pub record AddsOnHop (p : Plan) (was is : View Content Plan) : Type 0 where
+  pub hop : ℕ
+  pub there : hop < hop_count p.platform
+  pub added : AddsAt (hop_place p hop) was is
+
+-- An access of x at a memory was added.
+pub record AddsAccess (p : Plan) (x : TxnId) (was is : View Content Plan) : Type 0 where
+  pub memory : ℕ
+  pub there : memory < length p.platform.memories
+  pub added : AddsOf (memory_place p memory) x was is
+
+-- An entry is one of a router, whichever it is.
+abbrev pub IsByRouter : Plan → Entry Content → Type 0
+IsByRouter p e = (router : ℕ) → IsByNode p (Router router) e
+
+-- a request that is to go down
+abbrev pub is_down : Stage → Bool
+is_down (Down d) = true
+is_down (Below h) = false
+is_down (Up r rest) = false
+is_down (Sent a) = false

@@ -30,10 +30,10 @@ mod stage;
 
 pub use finds::{Found, find_back, find_request};
 pub use joins::join;
-pub use node::RouterNode;
+pub use node::{RouterNode, take_sent, try_at};
 pub use router_moves::{
     Back, BegunBelow, Down, End, FromBelow, Passed, PassedOn, Rest, RouterRequest, RouterResponse,
     Sent, Turned, WayBehind, descend, end_above, end_below, fetch_down, fetch_up, has_ended_above,
     pass_on, refuse, release, send_up, serve_below, turn, turn_up, way_behind,
 };
-pub use stage::{SentUp, Stage, Step, end_away, move_on, send, settle};
+pub use stage::{SentUp, Stage, Step, end_away, look_for_end, move_on, send, serve, settle};

@@ -1,5 +1,5 @@
 // A router.
-ghost use Rattle.std.specs.Prelude.{◌≡◌, ◌≢◌, ◌<◌, [], ◌||◌, length, None, IfSome, false, slice_set};
+ghost use Rattle.std.specs.Prelude.{◌≡◌, ◌≢◌, ◌<◌, List, [], ◌∷◌, ◌++◌, ◌||◌, length, None, IfSome, true, false, slice_set};
 ghost use Rattle.std.specs.List.{AllByRecursion, remove};
 ghost use Rattle.std.specs.VecDeque.{deque_capacity};
 ghost use Rattle.view_lists.specs.Lists.{Within};
@@ -9,7 +9,9 @@ ghost use Rattle.router_node.specs.Finds.{IsFound};
 ghost use Rattle.router_node.specs.Joins.{HasJoinedOne, IsPlaceOf};
 ghost use Rattle.router_node.specs.Node.{GoesOn, GoesThrough, HasPumped, HasSwept, HasTakenBack, HasTakenIn, IsRouter, IsSentAt, MovesAt, Sweeps, gap, pumped_by, stage_of};
 ghost use Rattle.router_node.specs.Places.{StandsAt};
-ghost use Rattle.router_node.specs.Stages.{IsStage};
+ghost use Rattle.router_node.specs.Stages.{AddsOnHop, IsByRouter, IsStage, is_down};
+ghost use Rattle.node_hops.specs.Steps.{HasNew};
+ghost use Rattle.router_node.specs.declared.stage.Stage.{Stage as StageOf};
 ghost use Rattle.router_node.specs.declared.stage.Stage.TheVariants as Stages;
 ghost use Rattle.router_node.specs.declared.stage.Step.TheVariants as Steps;
 
@@ -30,14 +32,16 @@ use tlm_types::{Ps, TxnId};
 /// A router with its hops above and those of its windows, in order, and with the transactions that it
 /// holds, in order of arrival.
 pub struct RouterNode {
-    pub(crate) router: u32,
+    /// Its number.
+    pub router: u32,
     /// The number of the hop of its first window.
     pub(crate) first: u32,
     pub(crate) accepts: bool,
     pub(crate) latency: Ps,
     pub(crate) above: Vec<u32>,
     pub(crate) below: Vec<u32>,
-    pub(crate) held: VecDeque<Stage>,
+    /// The transactions that it holds, in order of arrival.
+    pub held: VecDeque<Stage>,
     pub(crate) room: u32,
     /// A response of no transaction that it holds.
     pub(crate) stray: Option<Found>,
@@ -110,8 +114,8 @@ fn put_back(held: &mut VecDeque<Stage>, at: usize, stage: Stage)
     held[at] = stage;
 }
 
-// Takes out the response that was sent and stands at a place. What stands behind it closes up.
-fn take_sent(held: &mut VecDeque<Stage>, at: usize) -> SentUp
+/// Takes out the response that was sent and stands at a place. What stands behind it closes up.
+pub fn take_sent(held: &mut VecDeque<Stage>, at: usize) -> SentUp
     requires { IsSentAt held.old.items at }
     ensures was { StandsAt held.old.items at (Stages.Sent result) }
     ensures items { held.new.items ≡ remove held.old.items at }
@@ -155,9 +159,9 @@ fn end_at<N: Naming<Plan, TlmLaw>, R: Wait>(
     (at, true, note)
 }
 
-// Makes a step that is a try with the transaction at a place, if it is one for it. What it makes of it stands
-// there then. The place of the next transaction, and whether this one was moved.
-fn try_at<N: Naming<Plan, TlmLaw>, R: Wait>(
+/// Makes a step that is a try with the transaction at a place, if it is one for it. What it makes of it stands
+/// there then. The place of the next transaction, and whether this one was moved.
+pub fn try_at<N: Naming<Plan, TlmLaw>, R: Wait>(
     net: &Net<N>,
     rt: &R,
     what: Step,
@@ -175,6 +179,7 @@ fn try_at<N: Naming<Plan, TlmLaw>, R: Wait>(
     ensures below { StandBelow result.2.knows.known result.2.knows.seen }
     ensures held { AllByRecursion (IsStage N.frame N.tokens result.2.knows.known) held.new.items }
     ensures capacity { deque_capacity held.new ≡ deque_capacity held.old }
+    ensures adds { what ≡ Steps.Send → result.1 ≡ true → AddsOnHop N.frame.world note.knows result.2.knows }
     ensures moved { MovesAt N.frame false what at held.old.items held.new.items note.knows result.2.knows result.0 result.1 }
 {
     if !is_about(what, &held[at]) {
@@ -317,8 +322,8 @@ impl RouterNode {
         sweep(net, rt, hasty, what, note, &mut self.held)
     }
 
-    // Fetches a response from below, where no stray one is kept. In haste it looks at one hop alone. Whether it did.
-    fn take_back<N: Naming<Plan, TlmLaw>, R: Wait>(
+    /// Fetches a response from below, where no stray one is kept. In haste it looks at one hop alone. Whether it did.
+    pub fn take_back<N: Naming<Plan, TlmLaw>, R: Wait>(
         &mut self,
         net: &Net<N>,
         rt: &R,
@@ -346,9 +351,9 @@ impl RouterNode {
         (true, note)
     }
 
-    // Fetches a request from above, where there is room for it, and turns it down or back. In haste it looks at one hop
-    // alone. Whether it did.
-    fn take_in<N: Naming<Plan, TlmLaw>, R: Wait>(
+    /// Fetches a request from above, where there is room for it, and turns it down or back. In haste it looks at one hop
+    /// alone. Whether it did. One that is to go down has a reference of the hop below, by an entry.
+    pub fn take_in<N: Naming<Plan, TlmLaw>, R: Wait>(
         &mut self,
         net: &Net<N>,
         rt: &R,
@@ -362,6 +367,7 @@ impl RouterNode {
         ensures note { IsNote N.table result.1 }
         ensures knew { Within note.knows.known result.1.knows.known }
         ensures below { StandBelow result.1.knows.known result.1.knows.seen }
+        ensures adds { (before : List StageOf) (last : StageOf) → result.0 ≡ true → self.new.held.items ≡ before ++ last ∷ [] → is_down last ≡ true → HasNew (IsByRouter N.frame.world) note.knows.known result.1.knows.known }
         ensures taken { HasTakenIn N.frame N.tokens hasty self.old self.new note result.1 result.0 }
     {
         if self.held.len() >= self.room as usize {

@@ -1,5 +1,5 @@
 // A transaction that a router holds, and the steps that move it.
-ghost use Rattle.std.specs.Prelude.{◌≡◌, ◌<◌, IfSome, Some};
+ghost use Rattle.std.specs.Prelude.{◌≡◌, ◌<◌, IfSome, Some, true};
 ghost use Rattle.view_lists.specs.Lists.{Within};
 ghost use Rattle.one_history.specs.Lists.{StandBelow};
 ghost use Rattle.shared_object.specs.Steps.{IsNote};
@@ -9,7 +9,7 @@ ghost use Rattle.cargo_model.specs.Known.{Known};
 ghost use Rattle.route_plan.specs.Valid.{hop_count};
 ghost use Rattle.router_moves.specs.Items.{HasGone, IsBegun, IsDown};
 ghost use Rattle.router_moves.specs.Moves.{HasEndedAbove};
-ghost use Rattle.router_node.specs.Stages.{HasEnded, HasLookedForEnd, HasSettled, HasStepped, IsAway, IsServed, IsSettled, IsStage, IsUp, WasReleased, is_about};
+ghost use Rattle.router_node.specs.Stages.{AddsAccess, AddsOnHop, HasEnded, HasLookedForEnd, HasSettled, HasStepped, IsAway, IsServed, IsSettled, IsStage, IsUp, WasReleased, is_about};
 ghost use Rattle.router_node.specs.declared.stage.Stage.TheVariants as Stages;
 ghost use Rattle.router_node.specs.declared.stage.Step.TheVariants as Steps;
 
@@ -107,8 +107,8 @@ pub(crate) fn finish_away<N: Naming<Plan, TlmLaw>, R: Wait>(
     finish_below(net, rt, note, rest, at)
 }
 
-// Looks whether a response that was sent has ended above; by its answer it may have.
-pub(crate) fn look_for_end<N: Naming<Plan, TlmLaw>, R: Wait>(
+/// Looks whether a response that was sent has ended above; by its answer it may have. It makes no entry.
+pub fn look_for_end<N: Naming<Plan, TlmLaw>, R: Wait>(
     net: &Net<N>,
     rt: &R,
     note: PlatNote,
@@ -167,6 +167,7 @@ pub fn send<N: Naming<Plan, TlmLaw>, R: Wait>(
     ensures knew { Within note.knows.known result.2.knows.known }
     ensures below { StandBelow result.2.knows.known result.2.knows.seen }
     ensures stage { IfSome result.0 (IsStage N.frame N.tokens result.2.knows.known) }
+    ensures adds { result.1 ≡ true → AddsOnHop N.frame.world note.knows result.2.knows }
     ensures stepped { HasStepped N.frame Steps.Send (Stages.Up response rest) note.knows result.2.knows result.1 result.0 }
 {
     let txn = response.cargo.baton.txn();
@@ -219,8 +220,8 @@ pub fn settle<N: Naming<Plan, TlmLaw>, R: Wait>(
     end_above(net, rt, note, held, at)
 }
 
-// Calls the memory of a request whose response comes by return. The response is to go up.
-fn serve<N: Naming<Plan, TlmLaw>, R: Wait>(
+/// Calls the memory of a request whose response comes by return (IEEE 1666-2011, clause 14). The response is to go up.
+pub fn serve<N: Naming<Plan, TlmLaw>, R: Wait>(
     net: &Net<N>,
     rt: &R,
     note: PlatNote,
@@ -234,6 +235,7 @@ fn serve<N: Naming<Plan, TlmLaw>, R: Wait>(
     ensures knew { Within note.knows.known result.1.knows.known }
     ensures below { StandBelow result.1.knows.known result.1.knows.seen }
     ensures stage { IsStage N.frame N.tokens result.1.knows.known result.0 }
+    ensures adds { AddsAccess N.frame.world held.txn note.knows result.1.knows }
     ensures served { IsServed N.frame result.1.knows.known held begun result.0 }
 {
     let Some((memory, latency)) = memory_behind(net, held.below) else {
@@ -302,6 +304,7 @@ pub fn move_on<N: Naming<Plan, TlmLaw>, R: Wait>(
     ensures knew { Within note.knows.known result.2.knows.known }
     ensures below { StandBelow result.2.knows.known result.2.knows.seen }
     ensures stage { IfSome result.0 (IsStage N.frame N.tokens result.2.knows.known) }
+    ensures adds { what ≡ Steps.Send → result.1 ≡ true → AddsOnHop N.frame.world note.knows result.2.knows }
     ensures stepped { HasStepped N.frame what stage note.knows result.2.knows result.1 result.0 }
 {
     match stage {

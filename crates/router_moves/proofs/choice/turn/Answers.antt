@@ -71,3 +71,9 @@ returns-in-Some-clause-turned g c =
 
 pub returns-in-None-clause-turned : goal.returns-in-None-clause-turned
 returns-in-None-clause-turned g c = (way_there c.args.net.now g.N.Naming.frame.world c.args.router c.args.request.cargo.baton.payload.address c.address-address.result None c.plan.ensures.world c.address-address.ensures c.in-None.ensures, c.refuse-response.ensures.refused, refl)
+
+pub returns-in-Some-clause-adds : goal.returns-in-Some-clause-adds
+returns-in-Some-clause-adds g c = c.descend-down.ensures.adds
+
+pub returns-in-None-clause-adds : goal.returns-in-None-clause-adds
+returns-in-None-clause-adds g c = tt

@@ -4,6 +4,9 @@ use Rattle.cargo_net.specs.Wallets.{IsTicketAt}
 use Rattle.plat_net.specs.PoolCalls.{place_above}
 use Rattle.plat_net.proofs.Given.{shape_of}
 use Rattle.router_moves.proofs.Downs.{can_descend, down_is}
+use Rattle.node_hops.proofs.Adds.{pool_adds}
+use Rattle.plat_net.specs.Places.{own_pool}
+use Rattle.node_hops.specs.Steps.{AddsAt}
 use Rattle.router_moves.proofs.down.descend.Goals as goal
 
 pub descend-cargo-requires-clause-can : goal.descend-cargo-requires-clause-can
@@ -21,3 +24,8 @@ returns-clause-down g c =
     c.descend-cargo.result.ticket c.descend-cargo.result.cargo c.args.latency c.saturating_add-due.result c.txn-txn.ensures c.descend-cargo.ensures.kept
     (subst (λ (o : Option ℕ). IsTicketAt g.N.Naming.tokens (place_above g.N.Naming.frame.world o) c.descend-cargo.result.ticket) can.above_is c.descend-cargo.ensures.ticket)
     c.requires.latency c.saturating_add-due.ensures (c.descend-cargo.ensures.descended can)
+
+pub returns-clause-adds : goal.returns-clause-adds
+returns-clause-adds g c =
+    let a = c.descend-cargo.ensures.answer in
+    subst (λ (x : TxnId). AddsAt (own_pool g.N.Naming.frame.world x.initiator) c.args.note.knows c.descend-cargo.result.note.knows) c.txn-txn.ensures (pool_adds g.N.Naming.frame g.N.Naming.tokens _ _ _ _ _ _ a.pooled tt)

@@ -1,5 +1,6 @@
 use Rattle.router_moves.proofs.Hops.{on_plan, one_less}
 use Rattle.router_moves.proofs.Passes.{can_end, ends_above, ticket_is}
+use Rattle.node_hops.proofs.Adds.{hop_adds}
 use Rattle.router_moves.proofs.down.end_above.Goals as goal
 
 pub end_req-leg-requires-clause-ticket : goal.end_req-leg-requires-clause-ticket
@@ -33,3 +34,6 @@ returns-clause-below g c = c.end_req-leg.ensures.below
 
 pub returns-clause-look : goal.returns-clause-look
 returns-clause-look g c = c.end_req-leg.ensures.look
+
+pub returns-clause-adds : goal.returns-clause-adds
+returns-clause-adds g c = hop_adds g.N.Naming.frame g.N.Naming.tokens _ _ _ _ _ _ c.end_req-leg.ensures.answer tt

@@ -1,6 +1,7 @@
 use Rattle.std.proofs.Common.{◌+◌}
 use Rattle.router_moves.proofs.Hops.{on_plan}
 use Rattle.router_moves.proofs.Passes.{busy, can_begin, gone, now}
+use Rattle.node_hops.proofs.Adds.{hop_adds}
 use Rattle.router_moves.proofs.down.pass_on.Goals as goal
 
 pub returns-in-Left-clause-passed : goal.returns-in-Left-clause-passed
@@ -50,3 +51,12 @@ returns-in-Busy-clause-knew g c = c.in-Busy.ensures.knew
 
 pub returns-in-Busy-clause-below : goal.returns-in-Busy-clause-below
 returns-in-Busy-clause-below g c = c.in-Busy.ensures.below
+
+pub returns-in-Left-clause-adds : goal.returns-in-Left-clause-adds
+returns-in-Left-clause-adds g c = hop_adds g.N.Naming.frame g.N.Naming.tokens _ _ _ _ _ _ c.in-Left.ensures.answer tt
+
+pub returns-in-Now-clause-adds : goal.returns-in-Now-clause-adds
+returns-in-Now-clause-adds g c = hop_adds g.N.Naming.frame g.N.Naming.tokens _ _ _ _ _ _ c.in-Now.ensures.answer tt
+
+pub returns-in-Busy-clause-adds : goal.returns-in-Busy-clause-adds
+returns-in-Busy-clause-adds g c = tt

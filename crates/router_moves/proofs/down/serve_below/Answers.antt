@@ -1,4 +1,9 @@
 use Rattle.router_moves.proofs.Passes.{can_serve, served_below}
+use Rattle.node_hops.proofs.Adds.{serve_adds}
+use Rattle.std.proofs.Common.{subst}
+use Rattle.tlm_types.specs.declared.words.TxnId.{TxnId}
+use Rattle.plat_net.specs.Places.{memory_place}
+use Rattle.node_hops.specs.Steps.{AddsOf}
 use Rattle.router_moves.proofs.down.serve_below.Goals as goal
 
 pub serve-cargo-requires-clause-can : goal.serve-cargo-requires-clause-can
@@ -26,3 +31,10 @@ returns-clause-below g c = c.serve-cargo.ensures.below
 
 pub returns-clause-look : goal.returns-clause-look
 returns-clause-look g c = c.serve-cargo.ensures.look
+
+pub returns-clause-adds : goal.returns-clause-adds
+returns-clause-adds g c =
+    let b = c.requires.begun in
+    let d = b.down in
+    let h = d.held in
+    subst (λ (x : TxnId). AddsOf (memory_place g.N.Naming.frame.world c.args.memory) x c.args.note.knows c.serve-cargo.result.1.knows) h.txn (serve_adds g.N.Naming.frame g.N.Naming.tokens _ _ _ _ _ _ c.serve-cargo.ensures.answer)

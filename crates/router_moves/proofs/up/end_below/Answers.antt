@@ -1,6 +1,7 @@
 use Rattle.std.proofs.Common.{◌+◌}
 use Rattle.router_moves.proofs.Hops.{on_plan}
 use Rattle.router_moves.proofs.Sends.{can_end_below, ends_below, ticket_below}
+use Rattle.node_hops.proofs.Adds.{hop_adds}
 use Rattle.router_moves.proofs.up.end_below.Goals as goal
 
 pub end_resp-time-requires-clause-ticket : goal.end_resp-time-requires-clause-ticket
@@ -34,3 +35,6 @@ returns-clause-below g c = c.end_resp-time.ensures.below
 
 pub returns-clause-look : goal.returns-clause-look
 returns-clause-look g c = c.end_resp-time.ensures.look
+
+pub returns-clause-adds : goal.returns-clause-adds
+returns-clause-adds g c = hop_adds g.N.Naming.frame g.N.Naming.tokens _ _ _ _ _ _ c.end_resp-time.ensures.answer tt

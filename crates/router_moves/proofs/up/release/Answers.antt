@@ -1,4 +1,5 @@
 use Rattle.router_moves.proofs.Sends.{can_release, was_released}
+use Rattle.node_hops.proofs.Adds.{pool_adds}
 use Rattle.router_moves.proofs.up.release.Goals as goal
 
 pub release-note-requires-clause-can : goal.release-note-requires-clause-can
@@ -23,3 +24,6 @@ returns-clause-below g c = c.release-note.ensures.below
 
 pub returns-clause-look : goal.returns-clause-look
 returns-clause-look g c = c.release-note.ensures.look
+
+pub returns-clause-adds : goal.returns-clause-adds
+returns-clause-adds g c = pool_adds g.N.Naming.frame g.N.Naming.tokens _ _ _ _ _ _ c.release-note.ensures.answer tt

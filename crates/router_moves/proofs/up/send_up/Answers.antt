@@ -8,6 +8,9 @@ use Rattle.tlm_model.specs.Plan.{Plan}
 use Rattle.router_moves.specs.Moves.{HasSent, sent_note}
 use Rattle.router_moves.proofs.Hops.{on_plan}
 use Rattle.router_moves.proofs.Sends.{note_of, refused_up, sent_up}
+use Rattle.node_hops.proofs.Adds.{hop_adds}
+use Rattle.router_moves.specs.Moves.{SendAdds}
+use Rattle.router_moves.proofs.Added.{sent_adds}
 use Rattle.router_moves.proofs.up.send_up.Goals as goal
 
 same_note : (g : _) (c : goal.After-sent_by g) → c.in-Sent.note ≡ sent_note c.sent_by.result
@@ -52,3 +55,11 @@ returns-in-Busy-clause-knew g c = c.in-Busy.ensures.knew
 
 pub returns-in-Busy-clause-below : goal.returns-in-Busy-clause-below
 returns-in-Busy-clause-below g c = c.in-Busy.ensures.below
+
+pub returns-in-Sent-clause-adds : goal.returns-in-Sent-clause-adds
+returns-in-Sent-clause-adds g c =
+    subst (SendAdds g.N.Naming.frame.world c.args.response.hop c.args.note.knows) (sym c.sent_by.ensures)
+    (sent_adds g.N.Naming.frame.world c.args.response.hop c.args.note.knows c.in-Sent.answer c.in-Sent.at c.in-Sent.note (hop_adds g.N.Naming.frame g.N.Naming.tokens _ _ _ _ _ _ c.in-Sent.ensures.answer tt))
+
+pub returns-in-Busy-clause-adds : goal.returns-in-Busy-clause-adds
+returns-in-Busy-clause-adds g c = tt

@@ -77,3 +77,9 @@ returns-clause-below g c = c.move_on-stage.ensures.below
 
 pub returns-clause-capacity : goal.returns-clause-capacity
 returns-clause-capacity g c = c.put_back.ensures.capacity ∙ c.take_out-stage.ensures.capacity
+
+pub returns-then-not-is_about-clause-adds : goal.returns-then-not-is_about-clause-adds
+returns-then-not-is_about-clause-adds g c = λ send took. cc
+
+pub returns-clause-adds : goal.returns-clause-adds
+returns-clause-adds g c = c.move_on-stage.ensures.adds

@@ -149,6 +149,7 @@ returns-in_default g c =
       note = c.requires.note;
       knew = λ x has. has;
       below = c.requires.below;
+      adds = λ is took. cc;
       stage = subst (IsStage frame g.N.Naming.tokens c.args.note.knows.known) c.in-Sent.is c.requires.stage;
       stepped = quiet frame c.args.what c.args.stage (Sent c.in-Sent.away) c.args.note.knows c.in-Sent.is (vain_sent frame.world c.args.what c.in-Sent.away c.in_default.not-End);
     }
@@ -160,6 +161,7 @@ returns-in_default-what g c =
       note = c.requires.note;
       knew = λ x has. has;
       below = c.requires.below;
+      adds = λ is took. cc;
       stage = subst (IsStage frame g.N.Naming.tokens c.args.note.knows.known) c.in-Up.is c.requires.stage;
       stepped = quiet frame c.args.what c.args.stage (Up c.in-Up.response c.in-Up.rest) c.args.note.knows c.in-Up.is (vain_up frame.world c.args.what c.in-Up.response c.in-Up.rest c.in_default-what.not-Send);
     }
@@ -171,9 +173,22 @@ returns-in_default-what-2 g c =
       note = c.requires.note;
       knew = λ x has. has;
       below = c.requires.below;
+      adds = λ is took. cc;
       stage = subst (IsStage frame g.N.Naming.tokens c.args.note.knows.known) c.in-Down.is c.requires.stage;
       stepped = quiet frame c.args.what c.args.stage (Down c.in-Down.down) c.args.note.knows c.in-Down.is (vain_down frame.world c.args.what c.in-Down.down c.in_default-what-2.not-Pass);
     }
 
 pub returns-in-Below-clause-stepped : goal.returns-in-Below-clause-stepped
 returns-in-Below-clause-stepped g c = quiet g.N.Naming.frame c.args.what c.args.stage (Below c.in-Below.held) c.args.note.knows c.in-Below.is (vain_below g.N.Naming.frame.world c.args.what c.in-Below.held)
+
+pub returns-in-End-clause-adds : goal.returns-in-End-clause-adds
+returns-in-End-clause-adds g c = λ is took. let e : Send ≡ End = sym is ∙ c.in-End.is in cc
+
+pub returns-in-Send-clause-adds : goal.returns-in-Send-clause-adds
+returns-in-Send-clause-adds g c = λ is. c.send.ensures.adds
+
+pub returns-in-Pass-clause-adds : goal.returns-in-Pass-clause-adds
+returns-in-Pass-clause-adds g c = λ is took. let e : Send ≡ Pass = sym is ∙ c.in-Pass.is in cc
+
+pub returns-in-Below-clause-adds : goal.returns-in-Below-clause-adds
+returns-in-Below-clause-adds g c = λ is took. cc

@@ -63,3 +63,12 @@ returns-in-Open-clause-stepped g c = (c.txn-txn.ensures, refl, c.in-Open.ensures
 
 pub returns-in-Ended-clause-stepped : goal.returns-in-Ended-clause-stepped
 returns-in-Ended-clause-stepped g c = (c.txn-txn.ensures, refl, c.in-Ended.ensures.sent.0, refl)
+
+pub returns-in-Open-clause-adds : goal.returns-in-Open-clause-adds
+returns-in-Open-clause-adds g c = λ took. record { hop = c.args.response.hop; there = (let u = c.requires.up in u.there); added = c.in-Open.ensures.adds }
+
+pub returns-in-Ended-clause-adds : goal.returns-in-Ended-clause-adds
+returns-in-Ended-clause-adds g c = λ took. record { hop = c.args.response.hop; there = (let u = c.requires.up in u.there); added = c.in-Ended.ensures.adds }
+
+pub returns-in-Refused-clause-adds : goal.returns-in-Refused-clause-adds
+returns-in-Refused-clause-adds g c = λ took. cc

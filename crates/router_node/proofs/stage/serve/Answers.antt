@@ -34,3 +34,6 @@ turn_up-response-requires-clause-settled g c = c.requires.settled.owed
 
 pub turn_up-response-requires-clause-back : goal.turn_up-response-requires-clause-back
 turn_up-response-requires-clause-back g c = c.serve_below-back.ensures.served.back
+
+pub returns-clause-adds : goal.returns-clause-adds
+returns-clause-adds g c = record { memory = c.in-Some.memory; there = c.in-Some.ensures.there; added = c.serve_below-back.ensures.adds }

@@ -1,4 +1,4 @@
-use Rattle.std.proofs.Common.{◌≡◌, ℕ, ◌+◌, ◌≤◌, List, [], ◌∷◌, length, Option, Some, refl, ap, subst, ◌∙◌, length-append, arith}
+use Rattle.std.proofs.Common.{◌≡◌, ℕ, ◌+◌, ◌≤◌, List, [], ◌∷◌, length, Option, Some, refl, sym, ap, subst, ◌∙◌, length-append, arith}
 use Rattle.std.specs.VecDeque.{deque_capacity}
 use Rattle.tlm_model.specs.declared.platform.Target.TheVariants.{Router}
 use Rattle.node_hops.specs.Hops.{IsHopTo}
@@ -11,6 +11,9 @@ use Rattle.router_node.specs.declared.stage.Stage.{Stage}
 use Rattle.router_node.proofs.Hasty.{each_looked, full_in, not_in}
 use Rattle.router_node.proofs.Holds.{all_more, all_next, keeps, last_is, router_more, stray_more, turned_stage}
 use Rattle.node_hops.proofs.Looks.{within_on}
+use Rattle.router_node.proofs.Adding.{in_pool, last_same, turned_adds}
+use Rattle.node_hops.proofs.News.{new_after}
+use Rattle.router_node.specs.Stages.{IsByRouter, is_down}
 use Rattle.router_node.proofs.node.RouterNode.take_in.Goals as goal
 
 pub returns-in_default-clause-router : goal.returns-in_default-clause-router
@@ -136,3 +139,23 @@ pub turn-turned-requires-clause-request : goal.turn-turned-requires-clause-reque
 turn-turned-requires-clause-request g c =
     let f = subst (λ (o : Option RouterRequest). HasFoundRequest g.N.Naming.frame g.N.Naming.tokens c.args.self.now.router c.hops_at-hops.result.now c.args.note.knows c.find_request-request.result.1.knows o) c.in-Some.is c.find_request-request.ensures.found in
     f.2
+
+pub returns-then-len-self-clause-adds : goal.returns-then-len-self-clause-adds
+returns-then-len-self-clause-adds g c = λ before last took. cc
+
+pub returns-in_default-clause-adds : goal.returns-in_default-clause-adds
+returns-in_default-clause-adds g c = λ before last took. cc
+
+pub returns-clause-adds : goal.returns-clause-adds
+returns-clause-adds g c = λ before last took is down.
+    let p = g.N.Naming.frame.world in
+    let mid = c.find_request-request.result.1.knows in
+    let back = c.turn-turned.result.1.knows in
+    let stage = c.stage_of-stage.result in
+    let x = c.in-Some.request.cargo.baton.txn in
+    let same : stage ≡ last = last_same c.args.self.now.held.items before stage last (sym c.push_back_reserved.ensures.items ∙ is) in
+    let a = turned_adds p x.initiator mid back c.turn-turned.result.0 stage c.stage_of-stage.ensures (ap is_down same ∙ down) c.turn-turned.ensures.adds in
+    let r = (found g c).2 in
+    let d = r.down in
+    let k = d.asked in
+    new_after (IsByRouter p) c.args.note.knows.known mid.known back.known c.find_request-request.ensures.knew (in_pool p mid back c.find_request-request.ensures.below x r.pass k.passes a)
