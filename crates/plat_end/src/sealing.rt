@@ -1,5 +1,7 @@
 // The outcome of what is left.
 ghost use Rattle.std.specs.Prelude.{◌≡◌};
+ghost use Rattle.one_history.specs.Closing.{Numbered};
+ghost use Rattle.one_history.specs.Seats.{Tell};
 ghost use Rattle.plat_net.specs.Objects.{frame_of};
 ghost use Rattle.route_plan.specs.Valid.{IsValid};
 ghost use Rattle.run_outcome.specs.Outcome.{IsWhole};
@@ -35,6 +37,8 @@ pub fn seal<N: Naming<Plan, TlmLaw>>(
     ensures core { IsCoreRun N.frame.world result.0.history.entries }
     ensures sealed { entries_read N.frame.world.platform result.1.entries ≡ result.0.history.entries }
     ensures world { (result.1.table ≡ N.table) × (result.1.world ≡ N.frame.world) }
+    ensures numbered { Numbered result.1.entries }
+    ensures told { Tell notes.items 0 result.1.entries }
 {
     let Apart {
         logs,

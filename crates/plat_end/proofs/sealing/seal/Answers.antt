@@ -62,3 +62,9 @@ returns-clause-sealed g c =
     let a = c.args.apart in
     let l = c.requires.left in
     read_all n.table n.tokens n.frame c.args.ends.items l.kept a.logs.items a.stores.items a.seats.items c.in-Done.sealed.entries c.requires.valid c.requires.frame l.left c.args.history.frame c.requires.history.1 d.merge d.planned (tells l.kept c.args.notes.items c.in-Done.sealed.entries l.told d.tell) d.backed d.ended c.of_logs.result.entries c.of_logs.ensures.entries
+
+pub returns-clause-numbered : goal.returns-clause-numbered
+returns-clause-numbered g c = c.in-Done.ensures.merge.0
+
+pub returns-clause-told : goal.returns-clause-told
+returns-clause-told g c = c.in-Done.ensures.tell
