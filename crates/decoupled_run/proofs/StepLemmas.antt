@@ -38,7 +38,7 @@ use Rattle.initiator_run.specs.Moves.{HasNoMore, HasReached, HasToInvalidate, Is
 use Rattle.initiator_run.specs.Run.{Run, accessed, end_at, invalidated}
 use Rattle.initiator_run.specs.Steps.{HasMoved}
 use Rattle.initiator_run.proofs.AccessLemmas.{transfer_is_not_done}
-use Rattle.initiator_run.proofs.BoardLemmas.{HasGoneOn-moved, HasGoneOn-same}
+use Rattle.initiator_run.proofs.BoardLemmas.{HasGoneOn-moved, HasGoneOn-same, IsInRound-gone}
 use Rattle.initiator_run.proofs.CountLemmas.{with_sync_round}
 use Rattle.initiator_run.proofs.InvalidationLemmas.{HasCome-invalidated, SyncsOnce-invalidated, finished_invalidated, initiator_invalidated, invalidation_is_not_done}
 use Rattle.initiator_run.proofs.RunLemmas.{SyncsOnce-by_access, accessed_finished, accessed_initiator, accessed_round, few_syncs, Keeps-same, Keeps-then}
@@ -393,6 +393,7 @@ pub record HasStepped (table tokens : TableId) (frame : Frame Plan) (old new : S
   pub made : StepAdds (IsStepEntry frame.world old.run new.run) step note.knows.known back.knows.known
   pub keeps : Within note.knows.known back.knows.known
   pub rounds : HasGoneOn old.run new.run before after
+  pub in_round : IsInRound after old.run.engine.initiator new.run
   pub none : step ≢ Made → Keeps frame.world old.run new.run
   pub waits : step ≡ Waits → IsWaiting after new.run
   pub finished : step ≡ Finished → new.run.finished ≡ true
@@ -412,6 +413,7 @@ module _ (table tokens : TableId) (frame : Frame Plan) (old : SteppedInitiator) 
     made = λ made. settled.adds refl;
     keeps = settled.knew;
     rounds = subst (λ (r : Run). HasGoneOn old.run r before before) (sym settled.run) (HasGoneOn-same before old.run round going close);
+    in_round = subst (λ (r : Run). IsInRound before old.run.engine.initiator r) (sym settled.run) round;
     none = λ unmade. absurd (unmade refl);
     waits = λ is. absurd (let wrong : Made ≡ Waits = is in cc (wrong));
     finished = λ is. absurd (let wrong : Made ≡ Finished = is in cc (wrong));
@@ -451,6 +453,9 @@ module _ (table tokens : TableId) (frame : Frame Plan) (old : SteppedInitiator) 
       rounds_all : HasGoneOn old.run run before after
       rounds_all = subst (λ (r : Run). HasGoneOn r run before after) settled.run rounds
 
+      round_on : (run.finished ≡ true → run.round ≡ run.syncs) → IsInRound after old.run.engine.initiator run
+      round_on through = IsInRound-gone old.run run before after round going rounds_all through
+
       pub stepped_on : (run.finished ≡ true → op_of run.engine ≡ next.Done) → IsStepped table tokens frame moved_on on
       stepped_on done = record {
         payload = payload;
@@ -479,6 +484,7 @@ module _ (table tokens : TableId) (frame : Frame Plan) (old : SteppedInitiator) 
         made = λ is. absurd (let wrong : Waits ≡ Made = is in cc (wrong));
         keeps = settled.knew;
         rounds = rounds_all;
+        in_round = round_on (λ f. absurd (let wrong : false ≡ true = sym (not_finished same) ∙ f in cc (wrong)));
         none = λ unmade. keeps_all;
         waits = λ is. waiting;
         finished = λ is. absurd (let wrong : Waits ≡ Finished = is in cc (wrong));
@@ -486,14 +492,15 @@ module _ (table tokens : TableId) (frame : Frame Plan) (old : SteppedInitiator) 
       }
 
       -- it has finished
-      pub step_ends : HasNoMore run → HasStepped table tokens frame old moved_on note on before after Finished
-      step_ends ended = record {
+      pub step_ends : HasNoMore run → run.round ≡ run.syncs → HasStepped table tokens frame old moved_on note on before after Finished
+      step_ends ended through = record {
         stepped = stepped_on (λ f. ended.done);
         number = keeps_all.initiator;
         adds = λ is. absurd (let wrong : Finished ≡ Made = is in cc (wrong));
         made = λ is. absurd (let wrong : Finished ≡ Made = is in cc (wrong));
         keeps = settled.knew;
         rounds = rounds_all;
+        in_round = round_on (λ f. through);
         none = λ unmade. keeps_all;
         waits = λ is. absurd (let wrong : Finished ≡ Waits = is in cc (wrong));
         finished = λ is. ended.finished;
@@ -523,6 +530,8 @@ module _ (table tokens : TableId) (frame : Frame Plan) (old : SteppedInitiator) 
         made = λ is. entry_made_on new back made;
         keeps = λ e has. made.knew e (settled.knew e has);
         rounds = HasGoneOn-moved old.run run new.run before after rounds_all through made.syncs made.finished;
+        in_round = IsInRound-gone old.run new.run before after round going (HasGoneOn-moved old.run run new.run before after rounds_all through made.syncs made.finished)
+            (λ f. absurd (let wrong : false ≡ true = sym (made.finished ∙ not_finished same) ∙ f in cc (wrong)));
         none = λ unmade. absurd (unmade refl);
         waits = λ is. absurd (let wrong : Made ≡ Waits = is in cc (wrong));
         finished = λ is. absurd (let wrong : Made ≡ Finished = is in cc (wrong));

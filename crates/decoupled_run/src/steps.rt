@@ -181,6 +181,7 @@ impl SteppedInitiator {
 
         // Where it waits or has finished, it has made no entry; it waits for somebody whose round is behind.
         ensures rounds { HasGoneOn self.old.run self.new.run rounds.old rounds.new }
+        ensures round { IsInRound rounds.new self.old.run.engine.initiator self.new.run }
         ensures none { result.0 ≢ OneStep.Made → Keeps N.frame.world self.old.run self.new.run }
         ensures waits { result.0 ≡ OneStep.Waits → IsWaiting rounds.new self.new.run }
         ensures finished { result.0 ≡ OneStep.Finished → self.new.run.finished ≡ true }

@@ -13,7 +13,7 @@ returns-then-made g c =
     let n = g.N.Naming in
     let r = step_settled n.table n.tokens n.frame c.args.self.now c.args.note c.args.rounds.now c.requires.round c.requires.close c.requires.going c.settle-made.new.self c.settle-made.result.1
     (subst (λ (b : Bool). HasSettled n.table n.tokens n.frame c.args.self.now c.settle-made.new.self c.args.note c.settle-made.result.1 b) c.if-made.true c.settle-made.ensures) in
-    record { stepped = r.stepped; number = r.number; adds = r.adds; made = r.made; keeps = r.keeps; rounds = r.rounds; none = r.none; waits = r.waits; finished = r.finished; going = r.going }
+    record { stepped = r.stepped; number = r.number; adds = r.adds; made = r.made; keeps = r.keeps; rounds = r.rounds; round = r.in_round; none = r.none; waits = r.waits; finished = r.finished; going = r.going }
 
 pub advance-requires : goal.advance-requires
 advance-requires g c =
@@ -36,7 +36,7 @@ returns-in-Waits g c =
     subst (λ (b : Bool). HasSettled n.table n.tokens n.frame c.args.self.now c.settle-made.new.self c.args.note c.settle-made.result.1 b) c.if-made.false c.settle-made.ensures in
     let there : c.plan.result.now ≡ n.frame.world = c.plan.ensures.plan ∙ c.plan.ensures.world in
     let r = step_waits n.table n.tokens n.frame c.args.self.now c.args.note c.args.rounds.now c.requires.round c.requires.close c.requires.going c.settle-made.new.self c.settle-made.result.1 settled c.plan.result.now there c.advance.new.self c.advance.new.payload (c.advance.ensures.roomy ∙ middle_roomy n.table n.tokens n.frame c.args.self.now c.args.note c.args.rounds.now c.requires.round c.requires.close c.requires.going c.settle-made.new.self c.settle-made.result.1 settled c.in-Some.payload c.in-Some.is) c.advance.new.rounds c.advance.ensures.keeps c.advance.ensures.moved c.advance.ensures.rounds c.in-Waits.ensures.cases.1 c.in-Waits.ensures.cases.0 in
-    record { stepped = r.stepped; number = r.number; adds = r.adds; made = r.made; keeps = r.keeps; rounds = r.rounds; none = r.none; waits = r.waits; finished = r.finished; going = r.going }
+    record { stepped = r.stepped; number = r.number; adds = r.adds; made = r.made; keeps = r.keeps; rounds = r.rounds; round = r.in_round; none = r.none; waits = r.waits; finished = r.finished; going = r.going }
 
 pub returns-in-Ended : goal.returns-in-Ended
 returns-in-Ended g c =
@@ -44,8 +44,8 @@ returns-in-Ended g c =
     let settled : HasSettled n.table n.tokens n.frame c.args.self.now c.settle-made.new.self c.args.note c.settle-made.result.1 false =
     subst (λ (b : Bool). HasSettled n.table n.tokens n.frame c.args.self.now c.settle-made.new.self c.args.note c.settle-made.result.1 b) c.if-made.false c.settle-made.ensures in
     let there : c.plan.result.now ≡ n.frame.world = c.plan.ensures.plan ∙ c.plan.ensures.world in
-    let r = step_ends n.table n.tokens n.frame c.args.self.now c.args.note c.args.rounds.now c.requires.round c.requires.close c.requires.going c.settle-made.new.self c.settle-made.result.1 settled c.plan.result.now there c.advance.new.self c.advance.new.payload (c.advance.ensures.roomy ∙ middle_roomy n.table n.tokens n.frame c.args.self.now c.args.note c.args.rounds.now c.requires.round c.requires.close c.requires.going c.settle-made.new.self c.settle-made.result.1 settled c.in-Some.payload c.in-Some.is) c.advance.new.rounds c.advance.ensures.keeps c.advance.ensures.moved c.advance.ensures.rounds c.in-Ended.ensures.cases.0 in
-    record { stepped = r.stepped; number = r.number; adds = r.adds; made = r.made; keeps = r.keeps; rounds = r.rounds; none = r.none; waits = r.waits; finished = r.finished; going = r.going }
+    let r = step_ends n.table n.tokens n.frame c.args.self.now c.args.note c.args.rounds.now c.requires.round c.requires.close c.requires.going c.settle-made.new.self c.settle-made.result.1 settled c.plan.result.now there c.advance.new.self c.advance.new.payload (c.advance.ensures.roomy ∙ middle_roomy n.table n.tokens n.frame c.args.self.now c.args.note c.args.rounds.now c.requires.round c.requires.close c.requires.going c.settle-made.new.self c.settle-made.result.1 settled c.in-Some.payload c.in-Some.is) c.advance.new.rounds c.advance.ensures.keeps c.advance.ensures.moved c.advance.ensures.rounds c.in-Ended.ensures.cases.0 c.in-Ended.ensures.cases.1 in
+    record { stepped = r.stepped; number = r.number; adds = r.adds; made = r.made; keeps = r.keeps; rounds = r.rounds; round = r.in_round; none = r.none; waits = r.waits; finished = r.finished; going = r.going }
 
 pub returns-in-Reached : goal.returns-in-Reached
 returns-in-Reached g c =
@@ -54,7 +54,7 @@ returns-in-Reached g c =
     subst (λ (b : Bool). HasSettled n.table n.tokens n.frame c.args.self.now c.settle-made.new.self c.args.note c.settle-made.result.1 b) c.if-made.false c.settle-made.ensures in
     let there : c.plan.result.now ≡ n.frame.world = c.plan.ensures.plan ∙ c.plan.ensures.world in
     let r = step_makes n.table n.tokens n.frame c.args.self.now c.args.note c.args.rounds.now c.requires.round c.requires.close c.requires.going c.settle-made.new.self c.settle-made.result.1 settled c.plan.result.now there c.advance.new.self c.advance.new.payload (c.advance.ensures.roomy ∙ middle_roomy n.table n.tokens n.frame c.args.self.now c.args.note c.args.rounds.now c.requires.round c.requires.close c.requires.going c.settle-made.new.self c.settle-made.result.1 settled c.in-Some.payload c.in-Some.is) c.advance.new.rounds c.advance.ensures.keeps c.advance.ensures.moved c.advance.ensures.rounds c.in-Reached.ensures.cases.1 c.in-Reached.ensures.cases.2 c.access.new.self c.access.result c.access.ensures in
-    record { stepped = r.stepped; number = r.number; adds = r.adds; made = r.made; keeps = r.keeps; rounds = r.rounds; none = r.none; waits = r.waits; finished = r.finished; going = r.going }
+    record { stepped = r.stepped; number = r.number; adds = r.adds; made = r.made; keeps = r.keeps; rounds = r.rounds; round = r.in_round; none = r.none; waits = r.waits; finished = r.finished; going = r.going }
 
 pub returns-in-Invalidates : goal.returns-in-Invalidates
 returns-in-Invalidates g c =
@@ -63,7 +63,7 @@ returns-in-Invalidates g c =
     subst (λ (b : Bool). HasSettled n.table n.tokens n.frame c.args.self.now c.settle-made.new.self c.args.note c.settle-made.result.1 b) c.if-made.false c.settle-made.ensures in
     let there : c.plan.result.now ≡ n.frame.world = c.plan.ensures.plan ∙ c.plan.ensures.world in
     let r = step_makes n.table n.tokens n.frame c.args.self.now c.args.note c.args.rounds.now c.requires.round c.requires.close c.requires.going c.settle-made.new.self c.settle-made.result.1 settled c.plan.result.now there c.advance.new.self c.advance.new.payload (c.advance.ensures.roomy ∙ middle_roomy n.table n.tokens n.frame c.args.self.now c.args.note c.args.rounds.now c.requires.round c.requires.close c.requires.going c.settle-made.new.self c.settle-made.result.1 settled c.in-Some.payload c.in-Some.is) c.advance.new.rounds c.advance.ensures.keeps c.advance.ensures.moved c.advance.ensures.rounds c.in-Invalidates.ensures.cases.1 c.in-Invalidates.ensures.cases.2 c.tell.new.self c.tell.result c.tell.ensures in
-    record { stepped = r.stepped; number = r.number; adds = r.adds; made = r.made; keeps = r.keeps; rounds = r.rounds; none = r.none; waits = r.waits; finished = r.finished; going = r.going }
+    record { stepped = r.stepped; number = r.number; adds = r.adds; made = r.made; keeps = r.keeps; rounds = r.rounds; round = r.in_round; none = r.none; waits = r.waits; finished = r.finished; going = r.going }
 
 pub access-requires : goal.access-requires
 access-requires g c =
