@@ -92,7 +92,7 @@ module _ (frame : Frame Plan) (tokens : TableId) where
     pub node : IsRouter frame tokens s.node known
     pub due : IfSome s.due (IsDue known (length s.node.held.items) s.node.room)
 
-  -- A step that waits: nothing was due, and from some moment on it has gone through all that a pump does with every look, and nothing was moved.
+  -- A step that waits: from some moment on it has gone through all that a pump does with every look, and nothing was moved.
   pub record HasWaited (new : RouterNode) (was is : View Content Plan) : Type 0 where
     pub start : RouterNode
     pub before : View Content Plan

@@ -5,9 +5,9 @@
 //! - `Due` is what is left of a passage of which the first entry was made: END_REQ above, the access, or the Release.
 //! - `laws` says that it keeps what it keeps by more entries, too. `specs/Stepped` says what that is.
 //!
-//! Promises: a step makes one entry at most. Where it tells `Made` the note that comes back knows one of the router, past
-//! all that was known before. It tells `Waits` only after a whole going through with every look, in which nothing was
-//! moved, and never `Finished`. No step takes memory.
+//! Promises: where a step tells `Made` the note that comes back knows an entry of the router, past all that was known
+//! before. It tells `Waits` only after a whole going through with every look, in which nothing was moved, and never
+//! `Finished`. No step takes memory. That it makes no second entry is seen in the code alone: one call that makes one.
 #![tactic(auto)]
 
 pub mod laws;

@@ -3,7 +3,7 @@ ghost use Rattle.std.specs.Prelude.{◌≡◌, ◌≢◌, length, None, IfSome};
 ghost use Rattle.view_lists.specs.Lists.{Within};
 ghost use Rattle.one_history.specs.Lists.{StandBelow};
 ghost use Rattle.shared_object.specs.Steps.{IsNote};
-ghost use Rattle.node_hops.specs.declared.node.OneStep.TheVariants.{Finished, Waits};
+ghost use Rattle.node_hops.specs.declared.node.OneStep.TheVariants.{Finished, Made, Waits};
 ghost use Rattle.router_node.specs.Node.{IsRouter};
 ghost use Rattle.node_hops.specs.Steps.{HasNew, IsByNode, StepAdds};
 ghost use Rattle.tlm_model.specs.declared.platform.Target.TheVariants.{Router};
@@ -142,6 +142,8 @@ impl SteppedRouter {
         ensures adds { StepAdds (IsByNode N.frame.world (Router self.old.node.router)) result.0 note.knows.known result.1.knows.known }
         ensures number { self.new.node.router ≡ self.old.node.router }
         ensures waits { result.0 ≡ Waits → HasWaited N.frame N.tokens self.new.node note.knows result.1.knows }
+        ensures first { self.old.due ≢ None → result.0 ≡ Made }
+        ensures idle { result.0 ≡ Waits → self.new.due ≡ None }
         ensures never { result.0 ≢ Finished }
     {
         if let Some(due) = self.due.take() {

@@ -1,4 +1,4 @@
-use Rattle.std.proofs.Common.{false, length, subst}
+use Rattle.std.proofs.Common.{false, length, refl, sym, subst, ◌∙◌}
 use Rattle.router_node.specs.Node.{GoesThrough}
 use Rattle.router_steps.proofs.Trying.{none_moved, was_nothing}
 use Rattle.tlm_model.specs.declared.platform.Target.TheVariants.{Router}
@@ -35,3 +35,15 @@ returns-in-Made-clause-adds g c = λ q.
     let back = c.move_once-tried.result.1.knows.known in
     let made = subst (TryAdds p mid back) c.in-Made.is c.move_once-tried.ensures.adds in
     new_by (IsByRouter p) (IsByNode p (Router n)) known back (λ e i. i n) (new_after (IsByRouter p) known mid back c.loop.invariant.knew made)
+
+pub returns-in-Nothing-clause-idle : goal.returns-in-Nothing-clause-idle
+returns-in-Nothing-clause-idle g c = λ q. c.loop.invariant.due
+
+pub returns-in-Some-clause-first : goal.returns-in-Some-clause-first
+returns-in-Some-clause-first g c = λ q. refl
+
+pub returns-in-Made-clause-first : goal.returns-in-Made-clause-first
+returns-in-Made-clause-first g c = λ q. refl
+
+pub returns-in-Nothing-clause-first : goal.returns-in-Nothing-clause-first
+returns-in-Nothing-clause-first g c = λ q. absurd (q (sym c.take.ensures.value ∙ c.in_default.is))
