@@ -1,5 +1,0 @@
-use Rattle.begun_traffic.proofs.FinalLemmas.{begun_has_traffic}
-use Rattle.begun_traffic.proofs.begun_runs_have_traffic.Goals as goal
-
-pub returns : goal.returns
-returns c = begun_has_traffic
