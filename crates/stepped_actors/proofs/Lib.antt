@@ -1,0 +1,3 @@
+pub mod Stay
+pub mod Begun
+pub mod Ending
