@@ -10,3 +10,10 @@ pub mod ReportLemmas
 pub mod RoundsKept
 pub mod SteppedLemmas
 pub mod ViewLemmas
+pub mod SeenLemmas
+pub mod NetLemmas
+pub mod NetBegun
+pub mod NetEnding
+pub mod NetFollow
+pub mod NetGoesOn
+pub mod LearnLemmas

@@ -13,7 +13,7 @@ use Rattle.run_outcome.specs.Outcome.{IsReportable, IsWhole}
 use Rattle.initiator_run.proofs.AnswerLemmas.{and_left, and_right}
 use Rattle.run_outcome.proofs.PlanLemmas.{initiator_within}
 
-flag_of_all : (flags : List Bool) (n : ℕ) → all_true flags ≡ true → n < length flags → slice_get flags n ≡ Some true
+pub flag_of_all : (flags : List Bool) (n : ℕ) → all_true flags ≡ true → n < length flags → slice_get flags n ≡ Some true
 flag_of_all [] n all below = absurd (omega arith)
 flag_of_all (b ∷ flags) zero all below = ap (λ (x : Bool). Some x) (and_left b (all_true flags) all)
 flag_of_all (b ∷ flags) (suc n) all below = flag_of_all flags n (and_right b (all_true flags) all) (omega arith)

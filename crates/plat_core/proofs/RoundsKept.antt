@@ -34,7 +34,7 @@ each_after members after runs k old new has own each j r at =
       | inr other ↦ same_member members after j r (has.others j (differs j k other.0)) (each j r other.1)
     ]
 
-close_after : (members after : List Member) (k : ℕ) (old new : Run) → HasMember members after k old new → HasGoneOn old new members after → ((j : ℕ) → IsNear members (member_of members j).round) → (j : ℕ) → IsNear after (member_of after j).round
+pub close_after : (members after : List Member) (k : ℕ) (old new : Run) → HasMember members after k old new → HasGoneOn old new members after → ((j : ℕ) → IsNear members (member_of members j).round) → (j : ℕ) → IsNear after (member_of after j).round
 close_after members after k old new has gone close j =
     ⊎_elim
     (λ (same : j ≡ k). subst (IsNear after) (sym (ap (λ (n : ℕ). (member_of after n).round) same ∙ ap (λ (m : Member). m.round) has.now)) gone.near)

@@ -3,3 +3,5 @@ pub mod Board
 pub mod Core
 pub mod Fresh
 pub mod Outcome
+pub mod NetCore
+pub mod NetOutcome

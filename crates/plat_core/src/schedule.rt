@@ -15,7 +15,11 @@ use tlm_types::Memory;
 /// Runs a plan of blocking initiators whose scripts don't invalidate (`can_run` tells) by a schedule:
 /// each of its numbers that names an actor gives that actor a step, and the others are passed over. The
 /// actors are the initiators, the routers and the memories, numbered in this order.
-pub fn run_schedule(alloc: Global, plan: &Plan, schedule: &[u32]) -> Result<Outcome, Memory>
+pub(crate) fn run_blocking_schedule(
+    alloc: Global,
+    plan: &Plan,
+    schedule: &[u32],
+) -> Result<Outcome, Memory>
     requires blocking { IsBlocking plan.now.platform }
     requires quiet { HasNoInvalidation plan.now }
     ensures { IfOk result (IsScheduled plan.now schedule.now) }

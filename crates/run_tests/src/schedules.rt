@@ -4,6 +4,7 @@ use plat_core::run_schedule;
 use run_outcome::Outcome;
 use std::alloc::Global;
 use std::process::Abort;
+use std::sync::Wait;
 
 /// One initiator on a memory of 256 bytes and 10 ps, without a quantum.
 const ONE_ON_RAM: &str = "version = 1\nquantum = 0\n\
@@ -14,9 +15,9 @@ const SCRIPT: &str = "write 0x10 deadbeef\nread 0x10 4\n";
 
 const TWO_ENTRIES: [Row; 2] = [(0, 0, 0, 0), (10, 0, 1, 0)];
 
-fn run_of(rt: &impl Abort, alloc: Global, schedule: &[u32]) -> Outcome {
+fn run_of(rt: &(impl Abort + Wait), alloc: Global, schedule: &[u32]) -> Outcome {
     let plan = plan_of(rt, alloc, ONE_ON_RAM, SCRIPT);
-    run_schedule(alloc, &plan, schedule).expect(rt, "a run")
+    run_schedule(rt, alloc, &plan, schedule).expect(rt, "a run")
 }
 
 /// Three steps of the only initiator are its two accesses and its end.

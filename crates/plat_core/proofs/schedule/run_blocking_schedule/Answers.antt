@@ -3,7 +3,7 @@ use Rattle.std.proofs.lemmas.Result.{IfOk-weaker}
 use Rattle.plat_core.specs.Core.{begun_core}
 use Rattle.plat_core.specs.Outcome.{IsOutcome, IsScheduled}
 use Rattle.plat_core.proofs.OutcomeLemmas.{followed_next, scheduled}
-use Rattle.plat_core.proofs.schedule.run_schedule.Goals as goal
+use Rattle.plat_core.proofs.schedule.run_blocking_schedule.Goals as goal
 
 pub loop-number-init : goal.loop-number-init
 loop-number-init c = c.in_ok-core.ensures
