@@ -228,6 +228,13 @@ impl SteppedPort {
         note
     }
 
+    /// How far its initiator has come, told while it may go on, with no syncs. Its only error is want of memory.
+    pub fn end_so_far(&self, alloc: Global) -> Result<EndOf, Memory>
+        ensures { IfOk result (IsEndOfPort self.now.state.port) }
+    {
+        self.state.end_so_far(alloc)
+    }
+
     /// Its own wallet, and how its initiator ended, with no syncs.
     pub fn finish(self) -> (Wallet, EndOf)
         requires finished { HasFinished self.state }

@@ -19,5 +19,5 @@
 mod run;
 mod turn;
 
-pub use run::{InitiatorRun, Move, NextAccess, NextInvalidation, Stop};
+pub use run::{InitiatorRun, Move, NextAccess, NextInvalidation, Stop, copied_refusals};
 pub use turn::{Turn, take_turn};

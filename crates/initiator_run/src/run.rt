@@ -184,7 +184,7 @@ impl InitiatorRun {
     pub fn end_so_far(&self, alloc: Global) -> Result<EndOf, Memory>
         ensures { IfOk result (IsSoFar self.now) }
     {
-        let refused = copied(alloc, &self.refused)?;
+        let refused = copied_refusals(alloc, &self.refused)?;
         Ok(EndOf {
             transactions: self.engine.transactions(),
             syncs: self.syncs,
@@ -496,8 +496,8 @@ impl InitiatorRun {
     }
 }
 
-// A list of the same items. Its only error is want of memory.
-fn copied(alloc: Global, refused: &RefusedList) -> Result<RefusedList, Memory>
+/// A list of the same refusals. Its only error is want of memory.
+pub fn copied_refusals(alloc: Global, refused: &RefusedList) -> Result<RefusedList, Memory>
     ensures { IfOk result (λ l. l.items ≡ refused.now.items) }
 {
     let count = refused.len();

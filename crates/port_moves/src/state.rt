@@ -14,6 +14,7 @@ use crate::away::Away;
 use crate::hand::Hand;
 use cargo_model::Cargo;
 use generic_payload::Payload;
+use initiator_run::copied_refusals;
 use script_engine::{Engine, Part};
 use std::alloc::Global;
 use std::marker::Model;
@@ -262,6 +263,19 @@ impl PortState {
             refused,
         };
         (wallet, end)
+    }
+
+    /// How far its initiator has come, told while it may go on, with no syncs. Its only error is want of memory.
+    pub fn end_so_far(&self, alloc: Global) -> Result<EndOf, Memory>
+        ensures { IfOk result (IsEndOfPort self.now.port) }
+    {
+        let refused = copied_refusals(alloc, &self.refused)?;
+        Ok(EndOf {
+            transactions: self.engine.transactions(),
+            syncs: 0,
+            end: self.time.max(self.latest),
+            refused,
+        })
     }
 
     /// All that it has, wherever it has come.

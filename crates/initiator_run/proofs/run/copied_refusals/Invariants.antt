@@ -1,5 +1,5 @@
 use Rattle.std.proofs.Common.{◌≡◌, length, take}
-use Rattle.initiator_run.proofs.run.copied.Given as goal
+use Rattle.initiator_run.proofs.run.copied_refusals.Given as goal
 
 abbrev pub invariant-loop-at : goal.invariant-loop-at
 invariant-loop-at l = record {
