@@ -63,6 +63,7 @@ module _ (table tokens : TableId) (frame : Frame Plan) (n : ℕ) where
     number_is = begun.number_is;
     among = λ initiator. here;
     fresh = begun.fresh;
+    at_start = λ i at. begun.come i (ap (slice_get (initiators_of frame.world)) (sym begun.number_is) ∙ at);
     keeps = λ back blank.
         let below = nothing_below back.knows.known back.knows.seen blank.known in
         record {
@@ -113,6 +114,7 @@ module _ (table tokens : TableId) (frame : Frame Plan) (n : ℕ) where
       number_is = number ∙ number_begun;
       among = λ initiator. here;
       fresh = tt;
+      at_start = tt;
       keeps = λ note blank. record { note_of = blank.is_note; below = nothing_below note.knows.known note.knows.seen blank.known; keeps = is note (fresh_with note blank) };
     }
 
@@ -123,6 +125,7 @@ module _ (table tokens : TableId) (frame : Frame Plan) (here : Plan) (world : he
     number_is = ap (λ (x : RouterNode). length frame.world.platform.initiators + x.router) node_is ∙ (ap (λ (n : ℕ). length frame.world.platform.initiators + n) number ∙ sym (ap (λ (p : Plan). length p.platform.initiators + k) world));
     among = λ initiator. absurd (false≢true (sym initiator));
     fresh = tt;
+    at_start = tt;
     keeps = λ note blank. record {
       note_of = blank.is_note;
       below = nothing_below note.knows.known note.knows.seen blank.known;
@@ -138,6 +141,7 @@ module _ (table tokens : TableId) (frame : Frame Plan) (here : Plan) (world : he
     number_is = ap (λ (n : ℕ). length frame.world.platform.initiators + length frame.world.platform.routers + n) number ∙ sym (ap (λ (p : Plan). length p.platform.initiators + length p.platform.routers + k) world);
     among = λ initiator. absurd (false≢true (sym initiator));
     fresh = tt;
+    at_start = tt;
     keeps = λ note blank. record { note_of = blank.is_note; below = nothing_below note.knows.known note.knows.seen blank.known; keeps = is note.knows.known };
   }
 

@@ -1,11 +1,13 @@
 // An actor that is stepped.
-ghost use Rattle.std.specs.Prelude.{◌≡◌, false};
+ghost use Rattle.std.specs.Prelude.{◌≡◌, IfOk, false};
 ghost use Rattle.view_lists.specs.Lists.{Within};
 ghost use Rattle.node_hops.specs.declared.node.OneStep.TheVariants as Steps;
 ghost use Rattle.node_hops.specs.Steps.{StepAdds};
 ghost use Rattle.net_end.specs.Leaves.{IsFinished};
 ghost use Rattle.time_board.specs.Rounds.{AreClose};
 ghost use Rattle.stepped_actors.specs.Actors.{HasEnded, IsGoing, IsMadeBy, IsMember, KeepsBy, MovesRounds, WaitsFor, is_node, number_of};
+ghost use Rattle.stepped_actors.specs.Ends.{IsSoFar};
+ghost use Rattle.stepped_actors.specs.Made.{IsStepOf, KeepsRun, is_decoupled};
 
 use decoupled_run::SteppedInitiator;
 use fourphase_port::SteppedPort;
@@ -15,10 +17,11 @@ use plat_net::{Net, PlatNote, TlmLaw};
 use route_plan::Plan;
 use router_steps::SteppedRouter;
 use shared_object::Naming;
+use std::alloc::Global;
 use std::sync::Wait;
 use target_node::TargetNode;
 use time_board::Rounds;
-use tlm_types::EndOf;
+use tlm_types::{EndOf, Memory};
 use token_book::Wallet;
 
 /// An initiator, a router or a memory that is stepped an entry at a time. Its note is with who steps it.
@@ -62,12 +65,15 @@ impl SteppedActor {
         ensures knew { Within note.knows.known result.1.knows.known }
         ensures number { number_of N.frame.world.platform self.new ≡ number_of N.frame.world.platform self.old }
         ensures adds { StepAdds (IsMadeBy N.frame.world self.old) result.0 note.knows.known result.1.knows.known }
+        ensures made { StepAdds (IsStepOf N.frame.world self.old self.new) result.0 note.knows.known result.1.knows.known }
         ensures rounds { MovesRounds self.old self.new rounds.old rounds.new }
-        ensures member { (result.0 ≡ Steps.Finished → ⊥) → IsMember rounds.new self.new }
+        ensures member { IsMember rounds.new self.new }
         ensures waits { result.0 ≡ Steps.Waits → WaitsFor N.frame N.tokens self.old self.new note result.1 rounds.new }
         ensures ended { result.0 ≡ Steps.Finished → HasEnded self.new }
         ensures going { (result.0 ≡ Steps.Finished → ⊥) → IsGoing self.new }
         ensures kind { is_node self.new ≡ is_node self.old }
+        ensures style { is_decoupled self.new ≡ is_decoupled self.old }
+        ensures none { (result.0 ≡ Steps.Made → ⊥) → KeepsRun N.frame.world self.old self.new }
         ensures nodes { result.0 ≡ Steps.Finished → is_node self.old ≡ false }
     {
         match self {
@@ -75,6 +81,18 @@ impl SteppedActor {
             SteppedActor::FourPhase(port) => port.step(rt, net, note),
             SteppedActor::Router(router) => router.step(net, rt, note),
             SteppedActor::Memory(memory) => memory.step(net, rt, note),
+        }
+    }
+
+    /// How far an initiator has come, told while it may go on. Its only error is want of memory.
+    pub fn end_so_far(&self, alloc: Global) -> Result<EndOf, Memory>
+        requires { is_node self.now ≡ false }
+        ensures { IfOk result (IsSoFar self.now) }
+    {
+        match self {
+            SteppedActor::Decoupled(initiator) => initiator.end_so_far(alloc),
+            SteppedActor::FourPhase(port) => port.end_so_far(alloc),
+            SteppedActor::Router(_) | SteppedActor::Memory(_) => unreachable!(),
         }
     }
 
