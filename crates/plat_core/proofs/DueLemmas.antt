@@ -1,28 +1,40 @@
 -- The round that the next entry of an initiator has.
-use Rattle.std.proofs.Common.{◌≡◌, ℕ, ◌+◌, ◌-◌, ◌≤◌, List, [], ◌∷◌, ◌++◌, Some, Bool, true, false, cond, refl, ap, sym, subst, ◌∙◌, arith, add-zero}
+use Rattle.std.proofs.Common.{◌≡◌, ℕ, ◌+◌, ◌-◌, ◌≤◌, List, [], ◌∷◌, ◌++◌, Option, Some, Bool, true, false, ◌&&◌, ◌||◌, cond, is_none, refl, ap, sym, subst, ◌∙◌, arith, add-zero}
+use Rattle.std.proofs.lemmas.Grind.{common_steps}
+use Rattle.std.proofs.lemmas.List.Folds.{list_all-append}
 use Rattle.std.specs.List.{AllByRecursion, list_all}
 use Rattle.tlm_types.specs.declared.entry.Entry.{Entry}
 use Rattle.tlm_model.specs.declared.platform.Platform.{Platform}
-use Rattle.tlm_model.specs.declared.platform.Style.TheVariants.{Blocking as blocking_style}
+use Rattle.tlm_model.specs.declared.platform.Style.{Style}
+use Rattle.tlm_model.specs.declared.platform.Style.TheVariants.{Blocking, Direct, FourPhase}
 use Rattle.tlm_model.specs.Plan.{Initiator}
 use Rattle.tlm_model.specs.Requests.{Request}
-use Rattle.tlm_model.specs.Rounds.{round_of, syncs_from, syncs_of}
+use Rattle.tlm_model.specs.Rounds.{round_of, syncs_by, syncs_from, syncs_of}
 use Rattle.tlm_model.specs.Route.{Route, route_of}
-use Rattle.tlm_model.specs.Scripts.{is_settled}
+use Rattle.tlm_model.specs.Scripts.{has_answer, is_settled}
+use Rattle.tlm_model.specs.declared.operation.Operation.{Operation}
 use Rattle.quantum_keeper.specs.Keeper.{current_time}
 use Rattle.script_engine.specs.declared.op.Op.TheVariants as next
-use Rattle.script_engine.specs.declared.part.Part.TheVariants.{Asks}
+use Rattle.script_engine.specs.declared.part.Part.TheVariants.{Asks, Invalidates}
 use Rattle.script_engine.specs.declared.part.Transfer.{Transfer}
-use Rattle.script_engine.specs.State.{next_of, op_of, payload_of}
-use Rattle.script_engine.specs.Asking.{request_for, requests_at}
+use Rattle.script_engine.specs.Part.{part_of}
+use Rattle.script_engine.specs.State.{Due, next_of, op_at, op_of, passed_by, payload_of}
+use Rattle.script_engine.specs.Asking.{request_for, requests_at, stage_after}
 use Rattle.script_engine.proofs.Steps.{ends}
-use Rattle.initiator_run.specs.Come.{HasCome, rounds_at}
-use Rattle.plat_core.specs.Rounds.{due_round, round_of_first}
+use Rattle.initiator_run.specs.Come.{HasCome, has_ended, rounds_at, rounds_behind}
+use Rattle.plat_core.specs.Rounds.{due_round, is_decoupled, round_of_first}
 use Rattle.initiator_run.specs.Run.{Run}
 use Rattle.initiator_run.proofs.AnswerLemmas.{and_left, and_right}
-use Rattle.initiator_run.proofs.EndLemmas.{HasCome-ended, blocking_syncs, request_is_open, requests_now}
+use Rattle.initiator_run.proofs.EndLemmas.{HasCome-ended, request_is_open, requests_now}
 use Rattle.initiator_run.proofs.NextLemmas.{numbers_at, request_is_first, seq_of_next}
+use Rattle.initiator_run.proofs.InvalidationLemmas.{left_after, request_to_invalidate}
 use Rattle.initiator_run.proofs.RoundLemmas.{no_rounds_before}
+
+-- a blocking or direct initiator makes all syncs of its script
+decoupled_syncs : (style : Style) (n : ℕ) → is_decoupled style ≡ true → syncs_by style n ≡ n
+decoupled_syncs Blocking n is = refl
+decoupled_syncs Direct n is = refl
+decoupled_syncs FourPhase n is = cc
 
 -- settled requests have no entry to come
 settled_first : (p : Platform) (i : Initiator) (h : List Entry) (made more : List Request) → list_all (is_settled p i h) made ≡ true → round_of_first p i h (made ++ more) ≡ round_of_first p i h more
@@ -47,10 +59,10 @@ rounds_from_here p i h n s (q ∷ rs) each last later = by_cases (is_settled p i
     by_cases false x y = y
 
 -- a run's next entry comes after its syncs
-pub due_after_syncs : (p : Platform) (i : Initiator) (h : List Entry) (r : Run) → i.row.style ≡ blocking_style → HasCome p i h r → r.syncs ≤ due_round p i h
-due_after_syncs p i h r blocking come =
+pub due_after_syncs : (p : Platform) (i : Initiator) (h : List Entry) (r : Run) → is_decoupled i.row.style ≡ true → HasCome p i h r → r.syncs ≤ due_round p i h
+due_after_syncs p i h r decoupled come =
     let rest = requests_at p i h (current_time r.keeper) come.stage r.engine in
-    let last : r.syncs ≤ syncs_of p i = omega (arith, blocking_syncs i.row.style (syncs_from p i 0 0 i.script) blocking, come.counted.syncs) in
+    let last : r.syncs ≤ syncs_of p i = omega (arith, decoupled_syncs i.row.style (syncs_from p i 0 0 i.script) decoupled, come.counted.syncs) in
     let low = rounds_from_here p i h r.syncs r.engine.seq rest (λ k after. omega (arith, come.counted.rounds k after)) last (numbers_at p i h (current_time r.keeper) come.stage r.engine) in
     subst (λ (n : ℕ). r.syncs ≤ n) (sym (due_is p i h r come)) low
 
@@ -74,8 +86,49 @@ due_at_access p i h r x route is leads come =
     ∙ (ap (round_of p i) (seq_of_next r.engine x is) ∙ round_at_next p i h r x is come)))
 
 -- at the end of the script the due round is that of the last sync
-pub due_at_end : (p : Platform) (i : Initiator) (h : List Entry) (r : Run) → i.row.style ≡ blocking_style → HasCome p i h r → op_of r.engine ≡ next.Done → due_round p i h ≡ r.syncs
-due_at_end p i h r blocking come done =
+pub due_at_end : (p : Platform) (i : Initiator) (h : List Entry) (r : Run) → is_decoupled i.row.style ≡ true → HasCome p i h r → op_of r.engine ≡ next.Done → due_round p i h ≡ r.syncs
+due_at_end p i h r decoupled come done =
     due_is p i h r come
     ∙ (ap (round_of_first p i h) (ends.requests p i h (current_time r.keeper) come.stage r.engine done)
-    ∙ (blocking_syncs i.row.style (syncs_from p i 0 0 i.script) blocking ∙ sym (HasCome-ended ends p i h r come done).syncs))
+    ∙ (decoupled_syncs i.row.style (syncs_from p i 0 0 i.script) decoupled ∙ sym (HasCome-ended ends p i h r come done).syncs))
+
+-- at an invalidation with a route, too, and the script has not ended
+module _ (p : Platform) (i : Initiator) (h : List Entry) (r : Run) (a n : ℕ) (route : Route) (is : next_of r.engine ≡ Invalidates r.engine.seq a n) (leads : route_of p i a ≡ Some route) (come : HasCome p i h r) where
+  abbrev told : Request
+  told = request_to_invalidate r.engine.seq a n (current_time r.keeper) come.stage
+
+  abbrev later : List Request
+  later = requests_at p i h (current_time r.keeper) (stage_after (op_of r.engine) come.stage) (passed_by r.engine)
+
+  first_is : requests_at p i h (current_time r.keeper) come.stage r.engine ≡ told ∷ later
+  first_is = left_after p i r a n is h come.stage
+
+  told_is_open : is_settled p i h told ≡ false
+  told_is_open = ap (λ (o : Option Route). is_none o || has_answer i.number r.engine.seq h) leads ∙ come.asked.fresh r.engine.seq (omega (arith, come.count))
+
+  round_told : round_of p i r.engine.seq ≡ r.syncs
+  round_told =
+      let s = r.engine.seq in
+      let none : s - s ≡ 0 = omega arith in
+      sym (come.counted.rounds s (omega arith))
+      ∙ (ap (λ (k : ℕ). r.syncs + rounds_at p i r.keeper.last_sync (current_time r.keeper) r.engine k) none
+      ∙ (ap (λ (k : ℕ). r.syncs + k) (none_behind p i r.keeper.last_sync (current_time r.keeper) s a n s r.engine.due r.engine.remaining is) ∙ add-zero r.syncs))
+    where
+      none_behind : (p : Platform) (i : Initiator) (now t s a n q : ℕ) (due : Option Due) (ops : List Operation) → part_of (op_at q due ops) ≡ Invalidates s a n → rounds_behind p i now t due ops 0 ≡ 0
+      none_behind p i now t s a n q due ops is = grind (arith, common_steps)
+
+  pub due_at_invalidation : due_round p i h ≡ r.syncs
+  due_at_invalidation =
+      due_is p i h r come
+      ∙ (ap (round_of_first p i h) first_is
+      ∙ (ap (λ (b : Bool). cond b (round_of_first p i h later) (round_of p i r.engine.seq)) told_is_open ∙ round_told))
+
+  pub open_at_invalidation : has_ended p i h ≡ false
+  open_at_invalidation =
+      ap (list_all (is_settled p i h)) (requests_now p i h r come ∙ ap (λ (asked : List Request). come.made ++ asked) first_is)
+      ∙ (list_all-append (is_settled p i h) come.made (told ∷ later)
+      ∙ (ap (λ (b : Bool). list_all (is_settled p i h) come.made && (b && list_all (is_settled p i h) later)) told_is_open ∙ and_false (list_all (is_settled p i h) come.made)))
+    where
+      and_false : (b : Bool) → b && false ≡ false
+      and_false true = refl
+      and_false false = refl

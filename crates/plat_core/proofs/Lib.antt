@@ -11,9 +11,17 @@ pub mod RoundsKept
 pub mod SteppedLemmas
 pub mod ViewLemmas
 pub mod SeenLemmas
+pub mod NetRounds
+pub mod NotDecoupled
+pub mod StepRounds
+pub mod NetRuns
+pub mod PartLemmas
+pub mod PartEnds
 pub mod NetLemmas
 pub mod NetBegun
+pub mod EndsLemmas
 pub mod NetEnding
 pub mod NetFollow
 pub mod NetGoesOn
 pub mod LearnLemmas
+pub mod ScheduleLemmas

@@ -20,6 +20,9 @@ use Rattle.stepped_actors.specs.declared.actor.SteppedActor.{SteppedActor}
 use Rattle.stepped_actors.specs.declared.actor.SteppedActor.TheVariants.{Decoupled, FourPhase, Router, Memory}
 use Rattle.stepped_actors.specs.Actors.{IsGoing, IsMember}
 use Rattle.stepped_actors.specs.Begin.{HasBegun, HaveBegun, IsFresh, actors_of}
+use Rattle.plat_end.specs.Entries.{entries_read}
+use Rattle.plat_core.proofs.NetRounds.{none_stands}
+use Rattle.plat_core.proofs.NetRuns.{at_nothing, come_begun}
 use Rattle.plat_core.specs.NetCore.{AreBegunRounds, IsBegunMember, IsNetCore, left_out}
 
 flag_begun : (n k : ℕ) → slice_get (replicate n false) k ≡ Some true → ⊥
@@ -78,6 +81,8 @@ core_begun table tokens frame actors finished members note count begun many blan
         member = λ not_told. member_begun table tokens frame members k a b (known_member table tokens frame members actors count all rounds k a at b);
       };
   close = λ k j unfinished. let low = rounds.low k in omega arith;
+  rounds = none_stands frame.world (entries_read frame.world.platform note.knows.known) members (ap (entries_read frame.world.platform) blank.known);
+  come = λ k a at. come_begun frame.world a note.knows.known blank.known (at_nothing frame.world a (begun k a at).at_start);
 }
   where
     none : length note.knows.known ≡ 0

@@ -1,6 +1,6 @@
 -- The end of a core over a net: its actors have left what they have, and the outcome is cut back.
-use Rattle.std.proofs.Common.{◌≡◌, ℕ, zero, suc, ◌+◌, ◌<◌, ◌≤◌, Bool, true, false, List, [], ◌∷◌, ◌++◌, length, take, replicate, Option, Some, refl, sym, ap, subst, ◌∙◌, inl, inr, arith, length-append}
-use Rattle.std.specs.Prelude.{slice_get}
+use Rattle.std.proofs.Common.{Result, ◌≡◌, ℕ, zero, suc, ◌+◌, ◌<◌, ◌≤◌, Bool, true, false, List, [], ◌∷◌, ◌++◌, length, take, replicate, Option, Some, Ok, Err, refl, sym, ap, subst, ◌∙◌, inl, inr, arith, length-append}
+use Rattle.std.specs.Prelude.{IfOk, slice_get}
 use Rattle.std.proofs.lemmas.Bool.{false≢true}
 use Rattle.std.proofs.lemmas.List.{length-map, length-replicate, take-map}
 use mathlib.Core.Option.{some, some-injective, some-ne-none}
@@ -16,10 +16,13 @@ use Rattle.shared_object.specs.Steps.{IsNote}
 use Rattle.one_history.proofs.Alike.{begin_alike}
 use Rattle.token_book.specs.Purse.{Purse}
 use Rattle.tlm_types.specs.declared.ends.EndOf.{EndOf}
+use Rattle.tlm_types.specs.declared.words.Memory.{Memory}
 use Rattle.tlm_types.specs.declared.entry.Content.{Content}
 use Rattle.tlm_types.specs.declared.entry.Entry.{Entry}
 use Rattle.tlm_model.specs.declared.platform.Platform.{Platform}
+use Rattle.tlm_model.specs.History.{last_store}
 use Rattle.tlm_model.specs.Plan.{Plan}
+use Rattle.report_model.specs.Ends.{IsEndOf}
 use Rattle.good_history.specs.Good.{IsSound}
 use Rattle.net_end.specs.Leaves.{IsFinished}
 use Rattle.plat_end.specs.End.{AreFinished}
@@ -30,11 +33,14 @@ use Rattle.plat_end.specs.declared.apart.Apart.{Apart}
 use Rattle.run_outcome.specs.declared.outcome.Outcome.{Outcome}
 use Rattle.run_outcome.specs.Outcome.{IsWhole}
 use Rattle.run_outcome.proofs.ListLemmas.{at_push, at_taken, take_all, within}
+use Rattle.store_replay.specs.Replay.{AreStoresAfter, StoresFollow}
 use Rattle.stepped_actors.specs.declared.actor.SteppedActor.{SteppedActor}
 use Rattle.plat_core.specs.Core.{all_true}
 use Rattle.plat_core.proofs.ReportLemmas.{flag_of_all}
+use Rattle.plat_core.specs.Rounds.{KeepsRoundsOf}
 use Rattle.plat_core.specs.NetCore.{IsActor, IsNetCore, NetView, history_in, known_by, known_in}
-use Rattle.plat_core.specs.NetOutcome.{HasToLeave, HaveLeftBy, HaveToLeave, IsCut, IsCutBack, TellsOf}
+use Rattle.plat_core.specs.declared.net_schedule.SoFar.{SoFar}
+use Rattle.plat_core.specs.NetOutcome.{TellsSoFar, HasToLeave, HaveLeftBy, HaveToLeave, IsCut, IsCutBack, TellsOf}
 
 pub have_to_leave : (table tokens : TableId) (frame : Frame Plan) (v : NetView) (made : ℕ) (note : Held Content Plan) (actors : List SteppedActor) → IsNetCore table tokens frame v made → v.note ≡ Some note → all_true v.finished ≡ true → actors ≡ take (length v.finished) v.actors → HaveToLeave table tokens frame note actors
 have_to_leave table tokens frame v made note actors core is all taken = subst (HaveToLeave table tokens frame note) (sym taken) (λ k a at.
@@ -139,30 +145,48 @@ few_cut p known whole begins = shorter (length known) whole (sym (ap length begi
 pub known_numbered : (table tokens : TableId) (frame : Frame Plan) (v now : NetView) (made : ℕ) → IsNetCore table tokens frame v made → v ≡ now → Numbered (known_in now)
 known_numbered table tokens frame v now made core same = subst (λ (w : NetView). Numbered (known_in w)) same (subst (λ (o : Option (Held Content Plan)). Numbered (known_by o)) (sym core.has_note) core.all.numbered)
 
-module _ (p : Plan) (last : NetView) (made : ℕ) (count : made ≡ length (known_in last)) (outcome : Outcome) (begins : history_in p last ≡ take (length (known_in last)) outcome.history.entries) (whole : IsWhole p outcome) (core : IsCoreRun p outcome.history.entries) where
+module _ (p : Plan) (last : NetView) (made : ℕ) (count : made ≡ length (known_in last)) (outcome : Outcome) (begins : history_in p last ≡ take (length (known_in last)) outcome.history.entries) (whole : IsWhole p outcome) (core : IsCoreRun p outcome.history.entries) (so_far : SoFar) (tells : TellsSoFar p last so_far) (replayed : StoresFollow) where
   cut_history : history_in p last ≡ take made outcome.history.entries
   cut_history = begins ∙ ap (λ (n : ℕ). take n outcome.history.entries) (sym count)
 
   cut_sound : IsSound p (history_in p last)
   cut_sound = subst (IsSound p) (sym cut_history) (core made)
 
-  pub cut_is : (complete : Bool) (result : Outcome) → complete ≡ all_true last.finished → IsCutBack complete made outcome result → IsCut p last result
-  cut_is true result is cut = record {
+  -- the stores that were made anew
+  after : (result : Outcome) → IsCutBack false made so_far outcome result → AreStoresAfter p.platform result.history.entries result.stores
+  after result cut = replayed p.platform result.history.entries so_far.stores result.stores tells.stores cut.2
+
+  pub cut_is : (complete : Bool) (result : Outcome) → KeepsRoundsOf p (history_in p last) → complete ≡ all_true last.finished → IsCutBack complete made so_far outcome result → IsCut p last result
+  cut_is true result rounds is cut = record {
     history = ap (λ (o : Outcome). o.history.entries) cut.0 ∙ (sym (take_all made outcome.history.entries (let long = cut.1 in omega arith)) ∙ sym cut_history);
     sound = cut_sound;
+    rounds = rounds;
     complete = ap (λ (o : Outcome). o.complete) cut.0 ∙ (whole.complete ∙ is);
     whole = λ all. subst (IsWhole p) (sym cut.0) whole;
     memories = ap (λ (o : Outcome). length o.stores) cut.0 ∙ whole.reportable.memories;
+    stores = λ m bytes at.
+        whole.reportable.stores m bytes (ap (λ (o : Outcome). slice_get o.stores m) (sym cut.0) ∙ at)
+        ∙ ap (λ (h : List Entry). last_store p.platform h m) (sym (take_all made outcome.history.entries (let long = cut.1 in omega arith)) ∙ sym cut_history);
     initiators = ap (λ (o : Outcome). length o.ends) cut.0 ∙ whole.reportable.initiators;
+    ends = λ n i end flag at style here.
+        subst (λ (h : List Entry). IsEndOf p i h end) (sym (take_all made outcome.history.entries (let long = cut.1 in omega arith)) ∙ sym cut_history)
+        (whole.reportable.ends n i end at (ap (λ (o : Outcome). slice_get o.ends n) (sym cut.0) ∙ here));
   }
-  cut_is false result is cut = record {
+  cut_is false result rounds is cut = record {
     history = cut.1 ∙ sym cut_history;
     sound = cut_sound;
+    rounds = rounds;
     complete = cut.0 ∙ is;
     whole = λ all. absurd (false≢true (is ∙ all));
-    memories = ap length cut.2 ∙ whole.reportable.memories;
-    initiators = ap length cut.3 ∙ whole.reportable.initiators;
+    memories = (after result cut).count;
+    stores = λ m bytes at. (after result cut).bytes m bytes at ∙ ap (λ (h : List Entry). last_store p.platform h m) (cut.1 ∙ sym cut_history);
+    initiators = ap length cut.3 ∙ tells.ends.count;
+    ends = λ n i end flag at style here. tells.ends.each cut_sound n i end flag at style (ap (λ (l : List EndOf). slice_get l n) (sym cut.3) ∙ here);
   }
+
+  pub cut_is_so : (r : Result Outcome Memory) (complete : Bool) → KeepsRoundsOf p (history_in p last) → complete ≡ all_true last.finished → IfOk r (IsCutBack complete made so_far outcome) → IfOk r (IsCut p last)
+  cut_is_so (Ok result) complete rounds is cut = cut_is complete result rounds is cut
+  cut_is_so (Err e) complete rounds is cut = tt
 
 -- room for more is room for fewer
 pub room_for_fewer : (objects memories fewer_objects fewer_memories : ℕ) (a : Apart) → fewer_objects ≤ objects → fewer_memories ≤ memories → HasRoom objects memories a → HasRoom fewer_objects fewer_memories a

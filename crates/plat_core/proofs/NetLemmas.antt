@@ -25,14 +25,17 @@ use Rattle.run_outcome.proofs.ListLemmas.{at_set, length-set'}
 use Rattle.stepped_actors.specs.declared.actor.SteppedActor.{SteppedActor}
 use Rattle.stepped_actors.specs.declared.actor.SteppedActor.TheVariants.{Decoupled, FourPhase, Router, Memory}
 use Rattle.stepped_actors.specs.Actors.{HasEnded, IsGoing, IsMadeBy, IsMember, KeepsBy, MovesRounds, WaitsFor, is_node, number_of}
+use Rattle.stepped_actors.specs.Made.{IsStepOf, KeepsRun, is_decoupled}
 use Rattle.stepped_actors.specs.Begin.{actors_of}
 use Rattle.stepped_actors.specs.Laws.{ActorsStay}
 use Rattle.plat_core.specs.declared.steps.CoreStep.{CoreStep}
 use Rattle.plat_core.specs.Core.{all_true}
-use Rattle.plat_core.specs.NetCore.{HasMoved, IsActor, IsNetCore, IsNetStep, IsOver, KnowsAll, NetView, finished_after, length_after, step_as}
+use Rattle.plat_core.specs.NetCore.{HasMoved, IsActor, IsNetCore, IsNetStep, IsOver, KnowsAll, NetView, finished_after, length_after, step_as, history_in}
 use Rattle.plat_core.proofs.BoardLemmas.{has_member}
 use Rattle.plat_core.proofs.RoundsKept.{close_after}
 use Rattle.plat_core.proofs.SeenLemmas.{one_more, same_seen}
+use Rattle.plat_core.proofs.NetRuns.{come_stepped, ends_rightly, made_rightly, own_entry, waits_rightly}
+use Rattle.plat_core.proofs.StepRounds.{rounds_stepped}
 
 pub differs : (a b : ℕ) → nat_eq a b ≡ false → a ≢ b
 differs a b is = grind (arith, nat_tests)
@@ -97,12 +100,15 @@ pub record HasStepped (table tokens : TableId) (frame : Frame Plan) (was is : St
   pub knew : Within note.knows.known back.knows.known
   pub number : number_of frame.world.platform is ≡ number_of frame.world.platform was
   pub adds : StepAdds (IsMadeBy frame.world was) step note.knows.known back.knows.known
+  pub made_one : StepAdds (IsStepOf frame.world was is) step note.knows.known back.knows.known
   pub rounds : MovesRounds was is before after
-  pub member : (step ≡ steps.Finished → ⊥) → IsMember after is
+  pub member : IsMember after is
   pub waits : step ≡ steps.Waits → WaitsFor frame tokens was is note back after
   pub ended : step ≡ steps.Finished → HasEnded is
   pub going : (step ≡ steps.Finished → ⊥) → IsGoing is
   pub kind : is_node is ≡ is_node was
+  pub style : is_decoupled is ≡ is_decoupled was
+  pub none : (step ≡ steps.Made → ⊥) → KeepsRun frame.world was is
   pub nodes : step ≡ steps.Finished → is_node was ≡ false
   pub seen_of : IsNote table seen
   pub saw : Within back.knows.known seen.knows.known
@@ -183,7 +189,7 @@ module _ (table tokens : TableId) (frame : Frame Plan) (stay : ActorsStay) (acto
       keeps = stay table tokens frame is back seen did.keeps did.seen_of did.saw below_seen;
       ended = done_by;
       going = λ not_told. did.going (λ done. not_told (flag_own done));
-      member = λ not_told. did.member (λ done. not_told (flag_own done));
+      member = λ not_told. did.member;
     }
 
     pub still_core : IsNetCore table tokens frame new (length_after made step)
@@ -201,6 +207,8 @@ module _ (table tokens : TableId) (frame : Frame Plan) (stay : ActorsStay) (acto
             | inr apart ↦ other k a (differs k n apart.0) apart.1
           ];
       close = close_members was is before after ((its n was at).member open_flag) ((its n was at).going open_flag) did.rounds core.close;
+      rounds = rounds_stepped table tokens frame was is note back seen before after step made (its n was at).keeps ((its n was at).member open_flag) ((its n was at).going open_flag) did.going did.rounds its_all did.all knew_all did.saw did.made_one core.rounds;
+      come = come_stepped table tokens frame was is note back seen before after step made n actors at (its n was at).keeps.keeps did.style did.number (λ k a there. (its k a there).number) its_all did.all knew_all did.saw did.made_one did.none core.come;
     }
 
     abbrev has_moved : HasMoved old n new
@@ -221,14 +229,18 @@ module _ (table tokens : TableId) (frame : Frame Plan) (stay : ActorsStay) (acto
     pub has_stepped : IsNetStep table tokens frame old n new (step_as step made)
     has_stepped = by step refl
       where
+        other_step : steps.Finished ≡ steps.Made → ⊥
+        other_step f = cc
+
         by : (s : OneStep) → step ≡ s → IsNetStep table tokens frame old n new (step_as s made)
         by steps.Made q =
-            let added : HasNew (IsMadeBy frame.world was) note.knows.known back.knows.known = did.adds q in
+            let added : HasNew (IsStepOf frame.world was is) note.knows.known back.knows.known = did.made_one q in
             record {
               moved = has_moved;
               entry = added.entry;
               after = one_more note.knows.known seen.knows.known its_all.numbered did.all.numbered knew_all few_more added.entry (did.saw added.entry added.has) added.past;
-              own = added.is;
+              own = own_entry frame.world was is added.entry added.is;
+              may = made_rightly table tokens frame was is before after added.entry (history_in frame.world old) ((its n was at).member open_flag) ((its n was at).going open_flag) did.rounds added.is (core.come n was at);
               at_end = sym its_all.count;
               finished = ap (finished_after finished n) q;
             }
@@ -240,11 +252,13 @@ module _ (table tokens : TableId) (frame : Frame Plan) (stay : ActorsStay) (acto
           has_note = refl;
           back = back;
           why = did.waits q;
+          may = waits_rightly table tokens frame was is note back before after (history_in frame.world old) (its n was at).keeps.keeps ((its n was at).member open_flag) ((its n was at).going open_flag) did.rounds (did.waits q) (core.come n was at);
         }
         by steps.Finished q = inr (record {
           moved = has_moved;
           same = same_known (ap (length_after made) q);
           ended = did.ended q;
+          may = ends_rightly table tokens frame was is note back before after (history_in frame.world old) (its n was at).keeps.keeps did.keeps.keeps did.style ((its n was at).member open_flag) did.member ((its n was at).going open_flag) did.rounds (did.none (λ f. other_step (sym q ∙ f))) (did.ended q) (core.come n was at);
           finished = ap (finished_after finished n) q;
         })
 

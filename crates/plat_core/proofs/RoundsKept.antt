@@ -20,7 +20,7 @@ use Rattle.plat_core.proofs.BoardLemmas.{HasMember, has_member, near_after}
 use Rattle.initiator_run.proofs.BoardLemmas.{IsInRound-gone, at_round}
 use Rattle.run_outcome.proofs.ListLemmas.{at_set, length-set', within}
 
-differs : (a b : ℕ) → nat_eq a b ≡ false → a ≢ b
+pub differs : (a b : ℕ) → nat_eq a b ≡ false → a ≢ b
 differs a b is = grind (arith, nat_tests)
 
 same_member : (members after : List Member) (k : ℕ) (r : Run) → member_of after k ≡ member_of members k → IsInRound members k r → IsInRound after k r

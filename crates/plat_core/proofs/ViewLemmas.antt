@@ -12,7 +12,7 @@ use Rattle.plat_core.specs.Board.{AreInRounds}
 use Rattle.initiator_run.specs.Board.{HasGoneOn}
 use Rattle.plat_core.specs.Core.{CoreView, HasRisen, IsCore, IsStep, are_finished, history_of, member_in}
 use Rattle.plat_core.specs.declared.steps.CoreStep.TheVariants.{Made, Waits, Finished}
-use Rattle.plat_core.specs.Rounds.{due_round, round_at, round_by}
+use Rattle.plat_core.specs.Rounds.{due_round, is_decoupled, round_at, round_by}
 use Rattle.initiator_run.specs.Run.{Run}
 use Rattle.initiator_run.specs.Turns.{HasMadeAccess, HasMovedToEnd, HasMovedToWait}
 use Rattle.plat_core.proofs.BoardLemmas.{HasMember, has_member, is_held, not_held, not_held_done}
@@ -108,7 +108,7 @@ step_ended p runs regions later members after made k old new core are at going i
     let taken = takes_turn p runs regions members after made k old new core are at going gone in
     let turn = taken.turn in
     let come = is.keeps.come turn.initiator (history_of regions) turn.mine turn.own.come in
-    let due : due_round p.platform turn.initiator (history_of regions) ≡ new.round = due_at_end p.platform turn.initiator (history_of regions) new turn.blocking come is.ended.done ∙ sym is.through in
+    let due : due_round p.platform turn.initiator (history_of regions) ≡ new.round = due_at_end p.platform turn.initiator (history_of regions) new (ap is_decoupled turn.blocking) come is.ended.done ∙ sym is.through in
     step_of (view p regions runs members) k turn.initiator (view p later (set runs k new) after) Finished turn.at (record {
       ended = (HasCome-ended ends p.platform turn.initiator (history_of regions) new come is.ended.done).ended;
       free = not_held members after k (due_round p.platform turn.initiator (history_of regions)) old new taken.has gone due;
@@ -125,7 +125,7 @@ step_done p runs regions members made k r core are at done =
     let is = are.each k r at in
     let i = turn.initiator in
     let h = history_of regions in
-    let reached = due_at_end p.platform i h r turn.blocking turn.own.come (turn.own.finished done) in
+    let reached = due_at_end p.platform i h r (ap is_decoupled turn.blocking) turn.own.come (turn.own.finished done) in
     let due : due_round p.platform i h ≡ r.round = reached ∙ sym (is.through done) in
     let member : member_of members k ≡ at_round (due_round p.platform i h) true = is.member ∙ (ap (λ (n : ℕ). at_round n r.finished) (sym due) ∙ ap (at_round (due_round p.platform i h)) done) in
     step_of (view p regions runs members) k i (view p regions runs members) Finished turn.at (record {
@@ -153,7 +153,7 @@ step_waited p runs regions later members after made k old new core are at going 
     let turn = taken.turn in
     let come = is.keeps.come turn.initiator (history_of regions) turn.mine turn.own.come in
     step_of (view p regions runs members) k turn.initiator (view p later (set runs k new) after) Waits turn.at (record {
-      held = is_held members after k (due_round p.platform turn.initiator (history_of regions)) old new taken.has is.waiting (due_after_syncs p.platform turn.initiator (history_of regions) new turn.blocking come);
+      held = is_held members after k (due_round p.platform turn.initiator (history_of regions)) old new taken.has is.waiting (due_after_syncs p.platform turn.initiator (history_of regions) new (ap is_decoupled turn.blocking) come);
       risen = risen p runs regions later members after k old new taken.has at going (ap history_of is.same) is.finished gone;
     })
 

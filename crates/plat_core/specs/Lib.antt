@@ -3,5 +3,8 @@ pub mod Board
 pub mod Core
 pub mod Fresh
 pub mod Outcome
+pub mod NetRounds
+pub mod NetRuns
 pub mod NetCore
+pub mod NetEnds
 pub mod NetOutcome

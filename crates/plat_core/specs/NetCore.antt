@@ -20,6 +20,8 @@ use Rattle.stepped_actors.specs.declared.actor.SteppedActor.TheVariants.{Decoupl
 use Rattle.stepped_actors.specs.Actors.{HasEnded, IsGoing, IsMadeBy, IsMember, KeepsBy, MovesRounds, WaitsFor, is_node, number_of}
 use Rattle.stepped_actors.specs.Begin.{actors_of}
 use Rattle.plat_core.specs.Core.{all_true}
+use Rattle.plat_core.specs.NetRounds.{StandsInRounds}
+use Rattle.plat_core.specs.NetRuns.{HasComeBy, MayFinish, MayMake, MayWait}
 use Rattle.plat_core.specs.declared.steps.CoreStep.{CoreStep}
 use Rattle.plat_core.specs.declared.steps.CoreStep.TheVariants.{Made, Waits, Finished}
 
@@ -68,6 +70,8 @@ pub record IsNetCore (table tokens : TableId) (frame : Frame Plan) (v : NetView)
   pub members : length v.rounds ≡ length frame.world.platform.initiators
   pub each : (k : ℕ) (a : SteppedActor) → slice_get v.actors k ≡ Some a → IsActor table tokens frame v its_note k a
   pub close : (k : ℕ) → IsNear v.rounds (member_of v.rounds k).round
+  pub rounds : StandsInRounds frame.world (history_in frame.world v) v.rounds
+  pub come : (k : ℕ) (a : SteppedActor) → slice_get v.actors k ≡ Some a → HasComeBy frame.world (history_in frame.world v) a
 
 -- a core before its first step
 pub record IsBegunNet (p : Plan) (v : NetView) : Type 0 where
@@ -124,6 +128,7 @@ pub record HasMadeEntry (p : Plan) (old : NetView) (n : ℕ) (new : NetView) (po
   pub entry : HistoryEntry Content
   pub after : known_in new ≡ known_in old ++ entry ∷ []
   pub own : IsMadeBy p moved.was entry
+  pub may : MayMake p (history_in p old) old.rounds moved.was entry
   pub at_end : position ≡ length (known_in old)
   pub finished : new.finished ≡ old.finished
 
@@ -136,12 +141,14 @@ pub record HasWaited (frame : Frame Plan) (tokens : TableId) (old : NetView) (n 
   pub has_note : old.note ≡ Some note
   pub back : Held Content Plan
   pub why : WaitsFor frame tokens moved.was moved.is note back new.rounds
+  pub may : MayWait frame.world (history_in frame.world old) old.rounds moved.was
 
 -- it has finished, and the history is as it was
-pub record HasFinished (old : NetView) (n : ℕ) (new : NetView) : Type 0 where
+pub record HasFinished (p : Plan) (old : NetView) (n : ℕ) (new : NetView) : Type 0 where
   pub moved : HasMoved old n new
   pub same : known_in new ≡ known_in old
   pub ended : HasEnded moved.is
+  pub may : MayFinish p (history_in p old) old.rounds moved.was
   pub finished : new.finished ≡ slice_set old.finished n true
 
 -- a step of an actor for which nothing is left to do changes nothing
@@ -151,4 +158,4 @@ IsIdle old n new = IsOver old n × (new ≡ old)
 abbrev pub IsNetStep : TableId → TableId → Frame Plan → NetView → ℕ → NetView → CoreStep → Type 0
 IsNetStep table tokens frame old n new (Made position) = HasMadeEntry frame.world old n new position
 IsNetStep table tokens frame old n new Waits = HasWaited frame tokens old n new
-IsNetStep table tokens frame old n new Finished = IsIdle old n new ⊎ HasFinished old n new
+IsNetStep table tokens frame old n new Finished = IsIdle old n new ⊎ HasFinished frame.world old n new

@@ -1,8 +1,12 @@
 -- In which round an entry stands, and who holds others back.
-use Rattle.std.specs.Prelude.{ℕ, ◌≡◌, ◌≢◌, ◌+◌, ◌<◌, ◌≤◌, false, List, [], ◌∷◌, Option, Some, None, if◌then◌else◌, slice_get}
+use Rattle.std.specs.Prelude.{ℕ, ◌≡◌, ◌≢◌, ◌+◌, ◌<◌, ◌≤◌, Bool, true, false, ◌&&◌, List, [], ◌∷◌, Option, Some, None, if◌then◌else◌, slice_get}
 use Rattle.std.specs.List.{AllByRecursion}
 use Rattle.tlm_types.specs.declared.entry.Entry.{Entry}
+use Rattle.tlm_types.specs.declared.words.ObjectNo.{ObjectNo}
+use Rattle.tlm_types.specs.declared.words.ObjectNo.TheVariants.{Memory, Hop, Pool}
 use Rattle.tlm_model.specs.declared.platform.Platform.{Platform}
+use Rattle.tlm_model.specs.declared.platform.Style.{Style}
+use Rattle.tlm_model.specs.declared.platform.Style.TheVariants.{Blocking, Direct, FourPhase}
 use Rattle.tlm_model.specs.Each.{AtEach}
 use Rattle.tlm_model.specs.Plan.{Plan, Initiator, initiators_of}
 use Rattle.tlm_model.specs.Requests.{Request, requests_of}
@@ -39,3 +43,30 @@ round_at p e = round_by p.platform (slice_get (initiators_of p) e.txn.initiator)
 -- after every entry whose round is at most r - 2
 abbrev pub KeepsRounds : Plan → List Entry → Type 0
 KeepsRounds p h = AtEach (λ before e. AllByRecursion (λ d. round_at p d ≤ round_at p e + 1) before) h
+
+-- a blocking or direct initiator; a four-phase one takes part in no round
+abbrev pub is_decoupled : Style → Bool
+is_decoupled Blocking = true
+is_decoupled Direct = true
+is_decoupled FourPhase = false
+
+abbrev pub is_decoupled_one : Option Initiator → Bool
+is_decoupled_one None = false
+is_decoupled_one (Some i) = is_decoupled i.row.style
+
+abbrev pub is_memory : ObjectNo → Bool
+is_memory (Memory m) = true
+is_memory (Hop h) = false
+is_memory (Pool n) = false
+
+-- an entry of a blocking or direct initiator: all of these stand at memories
+abbrev pub is_decoupled_entry : Plan → Entry → Bool
+is_decoupled_entry p e = is_memory e.object && is_decoupled_one (slice_get (initiators_of p) e.txn.initiator)
+
+-- the entries of blocking and direct initiators keep the rounds, whatever else stands between them
+abbrev pub KeepsRoundsOf : Plan → List Entry → Type 0
+KeepsRoundsOf p h = AtEach (λ before e. is_decoupled_entry p e ≡ true → AllByRecursion (λ d. is_decoupled_entry p d ≡ true → round_at p d ≤ round_at p e + 1) before) h
+
+-- where all entries are such, that is to keep the rounds
+abbrev pub RoundsOfAll : Type 0
+RoundsOfAll = (p : Plan) (h : List Entry) → AllByRecursion (λ (e : Entry). is_decoupled_entry p e ≡ true) h → KeepsRoundsOf p h → KeepsRounds p h

@@ -6,7 +6,8 @@
 //! - `NetCore` is for all plans. It holds a net and its actors, which have one note in turn: after each step the note looks
 //!   at the whole history, so what it knows is the history so far. Its `into_outcome` runs on until all initiators have
 //!   finished, and cuts the history back to what the steps made.
-//! - `run_schedule` steps the actors that a schedule names, by the core that the plan allows. In `run_in_order` each
+//! - `run_schedule` steps the actors that a schedule names, by the core that the plan allows: the history of its outcome is
+//!   sound, and where it is complete all of it is as the definitions say. In `run_in_order` each
 //!   initiator in order goes on until it has finished or waits for one that is behind.
 //!
 //! Promises of `Core`: after every step the history is sound for the plan, and has one more entry, which is the
@@ -18,13 +19,18 @@
 //! definitions. The only error is want of memory, where a core or its outcome is made: its memories have room for all that
 //! is planned, so no step can fail.
 //!
-//! Promises of `NetCore`: a step adds one entry at the end of the history, which is the actor's, or none. It tells why it
-//! waits, and an initiator that has finished is done. The history of an outcome is that of the steps, and it is sound; where
-//! all initiators have finished, the outcome is complete, its history good, and its stores and ends those of the
-//! definitions. That the run on comes to its end is shown by tests alone. The only error is want of memory, before the first
-//! step and before it runs on.
+//! Promises of `NetCore`: a step adds one entry at the end of the history, which is the actor's, or none. It tells why
+//! it waits, and an initiator that has finished is done. By the entries of blocking and direct initiators so far, one of
+//! these makes an access, a debug read or an invalidation only where its script has not ended and nobody holds it back,
+//! waits only where somebody does, and finishes only where its script has ended and nobody does. The history of an
+//! outcome is that of the steps, and it is sound and keeps the rounds: an entry of round r of a blocking or direct
+//! initiator stands after each one of such an initiator whose round is at most r - 2. Where all initiators have
+//! finished, the outcome is complete, its history good, and its stores and ends those of the definitions. That the run
+//! on comes to its end is shown by tests alone. The only error is want of memory, before the first step and before it
+//! runs on.
 #![tactic(auto)]
 
+pub mod laws;
 mod net_core;
 mod net_schedule;
 mod plans;

@@ -6,8 +6,10 @@ ghost use Rattle.plat_build.specs.Kept.{all_waiting};
 ghost use Rattle.stepped_actors.specs.Begin.{actors_of};
 ghost use Rattle.plat_core.specs.Core.{all_true};
 ghost use Rattle.node_hops.specs.declared.node.OneStep.TheVariants as Steps;
-ghost use Rattle.plat_core.specs.NetCore.{AreBegunRounds, left_out, IsBegunNet, IsNetStep, IsOver, KnowsAll, finished_after, known_in, length_after, step_as};
-ghost use Rattle.plat_core.specs.NetOutcome.{HaveToLeave};
+ghost use Rattle.plat_core.specs.NetCore.{AreBegunRounds, left_out, IsBegunNet, IsNetStep, IsOver, KnowsAll, finished_after, history_in, known_in, length_after, step_as};
+ghost use Rattle.plat_core.specs.Rounds.{KeepsRoundsOf};
+ghost use Rattle.plat_core.specs.NetOutcome.{AreEndsSoFar, HaveToLeave};
+ghost use Rattle.plat_core.specs.NetEnds.{AreEndsOf, AreInitiators};
 
 use crate::steps::CoreStep;
 use node_hops::OneStep;
@@ -21,7 +23,7 @@ use std::marker::Model;
 use std::sync::Wait;
 use stepped_actors::{SteppedActor, actors_stay, begin_all};
 use time_board::Rounds;
-use tlm_types::Memory;
+use tlm_types::{EndOf, Memory};
 
 /// A net on one thread: its actors move one at a time, as its caller picks them, an entry at a time. The actors are the
 /// initiators, the routers and the memories, numbered in this order. Contracts see the history so far, the actors, for each
@@ -137,6 +139,18 @@ fn step_as(step: OneStep, position: u64) -> CoreStep
     }
 }
 
+// How far each of these initiators has come. Its only error is want of memory.
+fn ends_of(alloc: Global, initiators: &[SteppedActor]) -> Result<Vec<EndOf>, Memory>
+    requires { AreInitiators initiators.now }
+    ensures { IfOk result (λ ends. AreEndsOf initiators.now ends.items) }
+{
+    let mut ends = Vec::new(alloc);
+    for initiator in initiators {
+        ends.push(initiator.end_so_far(alloc)?)?;
+    }
+    Ok(ends)
+}
+
 impl<N: Naming<Plan, TlmLaw>> NetCore<N> {
     /// A core of a net that was just built, before its first step. Its only error is want of memory.
     pub fn new(alloc: Global, built: Built<N>) -> Result<NetCore<N>, Memory>
@@ -175,12 +189,21 @@ impl<N: Naming<Plan, TlmLaw>> NetCore<N> {
         self.finished.iter().all(|finished| *finished)
     }
 
-    // How many entries there are.
+    // How many entries there are. They keep the rounds.
     pub(crate) fn made(&self) -> u64
-        ensures { result ≡ length (known_in self.now) }
+        ensures count { result ≡ length (known_in self.now) }
+        ensures rounds { KeepsRoundsOf N.frame.world (history_in N.frame.world self.now) }
     {
         let _ = &self.note;
         self.made
+    }
+
+    // How far each initiator has come. Its only error is want of memory.
+    pub(crate) fn ends_so_far(&self, alloc: Global) -> Result<Vec<EndOf>, Memory>
+        ensures { IfOk result (λ ends. AreEndsSoFar N.frame.world self.now ends.items) }
+    {
+        let _ = &self.note;
+        ends_of(alloc, &self.actors[..self.finished.len()])
     }
 
     // The net, its initiators, which have all finished, and the note that they had in turn. The routers and memories are let go

@@ -10,7 +10,7 @@ ghost use Rattle.plat_end.specs.Run.{IsCoreRun};
 ghost use Rattle.run_outcome.specs.Outcome.{IsWhole};
 ghost use Rattle.plat_core.specs.Core.{all_true};
 ghost use Rattle.plat_core.specs.NetCore.{known_in};
-ghost use Rattle.plat_core.specs.NetOutcome.{GoesOnFrom, HaveLeftBy, HaveToLeave, IsCut, IsCutBack, IsNetTurn, IsRoomFor, IsScheduledBy, TellsOf};
+ghost use Rattle.plat_core.specs.NetOutcome.{GoesOnFrom, HaveLeftBy, HaveToLeave, IsCut, IsCutBack, IsNetTurn, IsRoomFor, IsScheduledBy, IsSoFarAsMade, TellsOf, TellsSoFar};
 
 use crate::net_core::NetCore;
 use crate::plans::can_run;
@@ -26,6 +26,8 @@ use std::marker::Brand;
 use std::mem::replace;
 use std::sync::Wait;
 use stepped_actors::SteppedActor;
+use store_replay::{OpeningStores, stores_are_those_after};
+use tlm_model::Rows;
 use tlm_types::{EndOf, Memory};
 use token_book::Wallet;
 
@@ -36,6 +38,14 @@ pub(crate) struct Room {
     pub wallets: Vec<Wallet>,
     pub notes: Vec<PlatNote>,
     pub apart: Apart,
+}
+
+// What an outcome that isn't complete tells, as far as it can be told before a core runs on: how far each initiator has
+// come, and the bytes of the memories before the first entry.
+#[derive(Drop)]
+pub(crate) struct SoFar {
+    pub ends: Vec<EndOf>,
+    pub stores: OpeningStores,
 }
 
 // A platform has at most so many memories, hops and pools.
@@ -96,29 +106,59 @@ fn expect_length<R: Wait>(rt: &R, length: u64, made: u64)
     unreachable!()
 }
 
-// Cuts the history of an outcome that isn't complete back to so many entries.
-fn cut_history(alloc: Global, mut outcome: Outcome, made: u64) -> Outcome
-    requires { made ≤ length outcome.history.entries }
-    ensures { IsCutBack false made outcome result }
+// Waits without end unless all entries of a history are in store. They are: no memory of a core lets its log forget.
+fn expect_whole<R: Wait>(rt: &R, history: &MergedLog)
+    ensures { history.now.whole ≡ true }
 {
-    // A log of nothing stands for the history while it is cut.
-    let nothing = MergedLog::of_logs(Vec::new(alloc), 0);
-    let history = replace(&mut outcome.history, nothing);
-    outcome.history = history.cut(made);
-    outcome.complete = false;
-    outcome
+    if history.is_whole() {
+        return;
+    }
+    for _ in rt.forever() {}
+    unreachable!()
 }
 
-// Cuts an outcome back to so many entries, where it isn't to be complete.
-fn cut_back<R: Wait>(rt: &R, alloc: Global, outcome: Outcome, made: u64, complete: bool) -> Outcome
+// Cuts an outcome that isn't complete back to so many entries. Its only error is want of memory.
+fn cut_history(
+    alloc: Global,
+    mut outcome: Outcome,
+    made: u64,
+    so_far: SoFar,
+) -> Result<Outcome, Memory>
+    requires few { made ≤ length outcome.history.entries }
+    requires whole { outcome.history.whole ≡ true }
+    ensures { IfOk result (IsCutBack false made so_far outcome) }
+{
+    let SoFar { ends, stores } = so_far;
+    // A log of nothing stands for the history while it is cut.
+    let nothing = MergedLog::of_logs(Vec::new(alloc), 0);
+    let history = replace(&mut outcome.history, nothing).cut(made);
+    let stores = stores.after(alloc, &history)?;
+    Ok(Outcome {
+        history,
+        stores,
+        ends: Rows::from_vec(ends),
+        complete: false,
+    })
+}
+
+// Cuts an outcome back to so many entries, where it isn't to be complete. Its only error is want of memory.
+fn cut_back<R: Wait>(
+    rt: &R,
+    alloc: Global,
+    outcome: Outcome,
+    made: u64,
+    complete: bool,
+    so_far: SoFar,
+) -> Result<Outcome, Memory>
     requires { made ≤ length outcome.history.entries }
-    ensures { IsCutBack complete made outcome result }
+    ensures { IfOk result (IsCutBack complete made so_far outcome) }
 {
     if complete {
         expect_length(rt, outcome.history.len(), made);
-        return outcome;
+        return Ok(outcome);
     }
-    cut_history(alloc, outcome, made)
+    expect_whole(rt, &outcome.history);
+    cut_history(alloc, outcome, made, so_far)
 }
 
 impl<N: Naming<Plan, TlmLaw>> NetCore<N> {
@@ -185,19 +225,30 @@ impl<N: Naming<Plan, TlmLaw>> NetCore<N> {
         outcome
     }
 
-    /// How the run ended, as far as it has come: its history so far, and whether all initiators have finished. Where they
-    /// haven't, the core runs on to its end, and the history is cut back then; of such an outcome the stores and the ends are
-    /// those of the end. Its only error is want of memory, before the core runs on.
+    // What can be told before it runs on. Its only error is want of memory.
+    fn so_far(&self, alloc: Global) -> Result<SoFar, Memory>
+        ensures { IfOk result (TellsSoFar N.frame.world self.now) }
+    {
+        let ends = self.ends_so_far(alloc)?;
+        let stores = OpeningStores::of(alloc, self.net.plan().platform())?;
+        Ok(SoFar { ends, stores })
+    }
+
+    /// How the run ended, as far as it has come: its history so far, the bytes that it leaves in the memories, how far each
+    /// initiator has come, and whether all have finished. Where they haven't, the core runs on to its end, and the history
+    /// is cut back then. Its only error is want of memory, before the core runs on or where the outcome is made.
     pub fn into_outcome<R: Wait>(self, rt: &R, alloc: Global) -> Result<Outcome, Memory>
         ensures { IfOk result (IsCut N.frame.world self) }
     {
         let mut core = self;
         let room = room_for(alloc, &core.net)?;
+        let so_far = core.so_far(alloc)?;
         let complete = core.has_finished();
         let made = core.made();
         core.run_on(rt);
         let outcome = core.end(rt, room);
-        Ok(cut_back(rt, alloc, outcome, made, complete))
+        stores_are_those_after();
+        cut_back(rt, alloc, outcome, made, complete, so_far)
     }
 }
 
@@ -212,6 +263,7 @@ pub fn run_schedule<R: Wait>(
     plan: &Plan,
     schedule: &[u32],
 ) -> Result<Outcome, Memory>
+    ensures outcome { IfOk result (IsSoFarAsMade plan.now) }
     ensures blocking { IsBlocking plan.now.platform → HasNoInvalidation plan.now → IfOk result (IsScheduled plan.now schedule.now) }
     ensures others { (IsBlocking plan.now.platform → HasNoInvalidation plan.now → ⊥) → IfOk result (IsScheduledBy plan.now schedule.now) }
 {
