@@ -8,9 +8,10 @@
 //!   initiators back, whom the pace is told of, and that a run whose logs are forgotten ends as any other.
 //!   `paces` has the paces that hold initiators and count.
 //! - `phases` has runs of four-phase initiators, some beside blocking ones, by 1, 2, 4 and 16 workers.
-//! - `core_bench` makes plans for the one-thread core, and compares entries and ends of an outcome with rows that
-//!   were made by hand. `schedules` has a run by a schedule: when it is complete. `reports` has a report whose
-//!   lines are written by hand, each of which is one piece for the sink.
+//! - `reports` has a report whose lines are written by hand, each of which is one piece for the sink.
+//! - `step_bench` compares what schedules make with rows that were made by hand, each beginning of a schedule too.
+//!   `schedules` has a blocking initiator that is stepped, `phase_schedules` four-phase initiators, routers and memories,
+//!   `grant_schedules` direct initiators, invalidations and rounds.
 //!
 //! There is nothing to call. The tests stand in a crate of their own so that those crates aren't proved
 //! again with them.
@@ -19,11 +20,13 @@
 #[cfg(test)]
 mod bench;
 #[cfg(test)]
-mod core_bench;
+mod grant_schedules;
 #[cfg(test)]
 mod nets;
 #[cfg(test)]
 mod paces;
+#[cfg(test)]
+mod phase_schedules;
 #[cfg(test)]
 mod phases;
 #[cfg(test)]
@@ -32,5 +35,7 @@ mod reports;
 mod runs;
 #[cfg(test)]
 mod schedules;
+#[cfg(test)]
+mod step_bench;
 #[cfg(test)]
 mod transports;

@@ -1,7 +1,7 @@
 // The report of a run: its lines as the sink gets them.
-use crate::core_bench::plan_of;
+use crate::bench::plan_of;
 use outside::{FailingWrite, NoPace, VecSink};
-use plat_core::run_in_order;
+use plat_core::{can_run, run_in_order};
 use std::alloc::Global;
 use std::process::Abort;
 use tlm_model::Trace;
@@ -16,7 +16,8 @@ const SCRIPT: &str = "write 0x10 deadbeef\nread 0x10 4\n";
 
 /// Runs that script and prints the report to the sink.
 fn print_run<R: Abort>(rt: &R, alloc: Global, out: &mut VecSink) -> Result<(), PrintFault> {
-    let plan = plan_of(rt, alloc, PLATFORM, SCRIPT);
+    let plan = plan_of(alloc, PLATFORM, &[SCRIPT]).expect(rt, "a plan");
+    assert!(rt; can_run(&plan));
     let outcome = run_in_order(alloc, &plan, &NoPace).expect(rt, "a run");
     assert!(rt; outcome.history.is_whole());
     print(alloc, out, &plan, &outcome, Trace::All)
