@@ -18,7 +18,7 @@ use Rattle.node_hops.specs.declared.node.OneStep.TheVariants as steps
 use Rattle.stepped_actors.specs.declared.actor.SteppedActor.{SteppedActor}
 use Rattle.stepped_actors.specs.declared.actor.SteppedActor.TheVariants.{Decoupled, FourPhase}
 use Rattle.stepped_actors.specs.Actors.{HasEnded, IsGoing, IsMadeBy, IsMember, KeepsBy, MovesRounds, WaitsFor, is_node, number_of}
-use Rattle.stepped_actors.specs.Begin.{actors_of}
+use Rattle.stepped_actors.specs.Begin.{HaveBegun, actors_of}
 use Rattle.plat_core.specs.Core.{all_true}
 use Rattle.plat_core.specs.NetRounds.{StandsInRounds}
 use Rattle.plat_core.specs.NetRuns.{HasComeBy, MayFinish, MayMake, MayWait}
@@ -73,10 +73,16 @@ pub record IsNetCore (table tokens : TableId) (frame : Frame Plan) (v : NetView)
   pub rounds : StandsInRounds frame.world (history_in frame.world v) v.rounds
   pub come : (k : ℕ) (a : SteppedActor) → slice_get v.actors k ≡ Some a → HasComeBy frame.world (history_in frame.world v) a
 
--- a core before its first step
-pub record IsBegunNet (p : Plan) (v : NetView) : Type 0 where
+-- these are the parts of a core
+abbrev pub IsCoreAt : TableId → TableId → Frame Plan → NetView → Type 0
+IsCoreAt table tokens frame v = (made : ℕ) × IsNetCore table tokens frame v made
+
+-- a core before its first step: all actors of the plan begin
+pub record IsBegunNet (table tokens : TableId) (frame : Frame Plan) (v : NetView) : Type 0 where
   pub none : known_in v ≡ []
-  pub finished : v.finished ≡ replicate (length p.platform.initiators) false
+  pub actors : HaveBegun table tokens frame v.actors
+  pub count : length v.actors ≡ actors_of frame.world.platform
+  pub finished : v.finished ≡ replicate (length frame.world.platform.initiators) false
 
 -- a four-phase initiator takes part in no round
 abbrev pub left_out : List Member → ℕ → SteppedActor → List Member

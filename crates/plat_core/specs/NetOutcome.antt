@@ -30,7 +30,7 @@ use Rattle.plat_core.specs.declared.net_schedule.SoFar.{SoFar}
 use Rattle.plat_core.specs.declared.steps.CoreStep.{CoreStep}
 use Rattle.plat_core.specs.Core.{all_true}
 use Rattle.plat_core.specs.Rounds.{KeepsRoundsOf, is_decoupled}
-use Rattle.plat_core.specs.NetCore.{IsBegunNet, IsNetStep, NetView, history_in, known_in}
+use Rattle.plat_core.specs.NetCore.{IsBegunNet, IsCoreAt, IsNetStep, NetView, history_in, known_in}
 
 -- nothing is left yet, and there is room for what so many initiators and all objects leave
 pub record IsRoomFor (p : Platform) (room : Room) : Type 0 where
@@ -105,15 +105,16 @@ pub data IsNetTurn (table tokens : TableId) (frame : Frame Plan) (old : NetView)
   Steps : n < actors_of frame.world.platform → (step : CoreStep) → IsNetStep table tokens frame old n new step → IsNetTurn table tokens frame old n new
   Passes : actors_of frame.world.platform ≤ n → new ≡ old → IsNetTurn table tokens frame old n new
 
--- a core that has gone through a schedule
+-- a core that has gone through a schedule, and was one after each number
 abbrev pub HasFollowedNet : TableId → TableId → Frame Plan → NetView → List ℕ → NetView → Type 0
 HasFollowedNet table tokens frame old [] new = new ≡ old
-HasFollowedNet table tokens frame old (n ∷ ns) new = (middle : NetView) × IsNetTurn table tokens frame old n middle × HasFollowedNet table tokens frame middle ns new
+HasFollowedNet table tokens frame old (n ∷ ns) new = (middle : NetView) × IsNetTurn table tokens frame old n middle × IsCoreAt table tokens frame middle × HasFollowedNet table tokens frame middle ns new
 
 -- the outcome of a schedule: that of a new core that has followed it
 pub record IsScheduledNet (table tokens : TableId) (frame : Frame Plan) (schedule : List ℕ) (outcome : Outcome) : Type 0 where
   pub first : NetView
-  pub begun : IsBegunNet frame.world first
+  pub begun : IsBegunNet table tokens frame first
+  pub core : IsCoreAt table tokens frame first
   pub last : NetView
   pub followed : HasFollowedNet table tokens frame first schedule last
   pub cut : IsCut frame.world last outcome

@@ -8,7 +8,8 @@
 //!   finished, and cuts the history back to what the steps made.
 //! - `run_schedule` steps the actors that a schedule names, by the core that the plan allows: the history of its outcome is
 //!   sound, and where it is complete all of it is as the definitions say. In `run_in_order` each
-//!   initiator in order goes on until it has finished or waits for one that is behind.
+//!   initiator in order goes on until it has finished or waits for one that is behind; `run_net_in_order` steps all actors of
+//!   any plan in turn, to the end of the run.
 //!
 //! Promises of `Core`: after every step the history is sound for the plan, and has one more entry, which is the
 //! actor's, or as many as before. An initiator finishes exactly where all that its script asks for is
@@ -38,7 +39,7 @@ mod schedule;
 mod steps;
 
 pub use net_core::NetCore;
-pub use net_schedule::run_schedule;
+pub use net_schedule::{run_net_in_order, run_schedule};
 pub use plans::can_run;
 pub use schedule::run_in_order;
 pub use steps::{Core, CoreStep};

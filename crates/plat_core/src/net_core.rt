@@ -6,7 +6,7 @@ ghost use Rattle.plat_build.specs.Kept.{all_waiting};
 ghost use Rattle.stepped_actors.specs.Begin.{actors_of};
 ghost use Rattle.plat_core.specs.Core.{all_true};
 ghost use Rattle.node_hops.specs.declared.node.OneStep.TheVariants as Steps;
-ghost use Rattle.plat_core.specs.NetCore.{AreBegunRounds, left_out, IsBegunNet, IsNetStep, IsOver, KnowsAll, finished_after, history_in, known_in, length_after, step_as};
+ghost use Rattle.plat_core.specs.NetCore.{AreBegunRounds, left_out, IsBegunNet, IsCoreAt, IsNetStep, IsOver, KnowsAll, finished_after, history_in, known_in, length_after, step_as};
 ghost use Rattle.plat_core.specs.Rounds.{KeepsRoundsOf};
 ghost use Rattle.plat_core.specs.NetOutcome.{AreEndsSoFar, HaveToLeave};
 ghost use Rattle.plat_core.specs.NetEnds.{AreEndsOf, AreInitiators};
@@ -155,7 +155,7 @@ impl<N: Naming<Plan, TlmLaw>> NetCore<N> {
     /// A core of a net that was just built, before its first step. Its only error is want of memory.
     pub fn new(alloc: Global, built: Built<N>) -> Result<NetCore<N>, Memory>
         requires kept { built.kept ≡ all_waiting built.net.platform }
-        ensures { IfOk result (IsBegunNet N.frame.world) }
+        ensures { IfOk result (IsBegunNet N.table N.tokens N.frame) }
     {
         let Built { net, mut kept } = built;
         let count = net.plan().platform().initiators.as_slice().len();
@@ -187,6 +187,13 @@ impl<N: Naming<Plan, TlmLaw>> NetCore<N> {
     {
         let _ = &self.note;
         self.finished.iter().all(|finished| *finished)
+    }
+
+    // What its parts keep.
+    pub(crate) fn keep(&self)
+        ensures { IsCoreAt N.table N.tokens N.frame self.now }
+    {
+        let _ = &self.note;
     }
 
     // How many entries there are. They keep the rounds.

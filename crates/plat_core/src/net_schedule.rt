@@ -301,8 +301,38 @@ fn run_opened<N: Naming<Plan, TlmLaw>, R: Wait>(
 {
     let built = build::<N>(alloc, opened, plan)?;
     let mut core = NetCore::new(alloc, built)?;
+    core.keep();
     for number in schedule {
         core.take_number(rt, *number);
+        core.keep();
     }
     core.into_outcome(rt, alloc)
+}
+
+/// Runs a plan on its net to its end: all actors in turn, an entry at a time, until all initiators have finished. Its only
+/// error is want of memory, before the first step.
+pub fn run_net_in_order<R: Wait>(rt: &R, alloc: Global, plan: &Plan) -> Result<Outcome, Memory>
+    ensures { IfOk result (IsWhole plan.now) }
+{
+    let opened = Opened::new(alloc, plan)?;
+    run_opened_in_order::<Brand, R>(rt, alloc, plan, opened)
+}
+
+// The same of a history that has been opened. The call picks N.
+fn run_opened_in_order<N: Naming<Plan, TlmLaw>, R: Wait>(
+    rt: &R,
+    alloc: Global,
+    plan: &Plan,
+    opened: Opened,
+) -> Result<Outcome, Memory>
+    requires history { (opened.table ≡ N.table) × (opened.frame ≡ N.frame) }
+    requires tickets { opened.tokens ≡ N.tokens }
+    requires frame { N.frame ≡ frame_of plan.now }
+    ensures { IfOk result (IsWhole plan.now) }
+{
+    let built = build::<N>(alloc, opened, plan)?;
+    let mut core = NetCore::new(alloc, built)?;
+    let room = room_for(alloc, &core.net)?;
+    core.run_on(rt);
+    Ok(core.end(rt, room))
 }
