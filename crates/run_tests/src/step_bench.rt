@@ -1,7 +1,7 @@
 // Runs by a schedule, compared with rows that were made by hand.
 use crate::bench::plan_of;
 use entry_log::Log;
-use plat_core::run_schedule;
+use plat_core::{run_net_in_order, run_schedule};
 use route_plan::Plan;
 use run_outcome::Outcome;
 use std::alloc::Global;
@@ -148,7 +148,7 @@ impl<'a, R: Abort + Wait> Bench<'a, R> {
 
     /// By each beginning of this schedule the history is as many of these entries as the beginning is long, all once it is
     /// longer, and it is complete by the whole schedule alone. So each number makes an entry, and the last ones finish the
-    /// initiators. Then these are the ends, and the only memory has these bytes from this offset on.
+    /// initiators. Then these are the ends, and the only memory has these bytes from this offset on. In turn all finish, too.
     pub(crate) fn expect_each(
         &self,
         schedule: &[u32],
@@ -164,5 +164,7 @@ impl<'a, R: Abort + Wait> Bench<'a, R> {
         let outcome = self.expect(schedule, rows, true);
         expect_ends(self.rt, &outcome, ends);
         expect_bytes(self.rt, &outcome, offset, bytes);
+        let in_turn = run_net_in_order(self.rt, self.alloc, &self.plan).expect(self.rt, "a run");
+        assert!(self.rt; in_turn.complete);
     }
 }
