@@ -156,10 +156,3 @@ pub record IsAtRest (table tokens : TableId) (frame : Frame Plan) (direct : Bool
   pub has_payload : payload ≡ Some its_payload
   pub has_note : note ≡ Some its_note
   pub job : IsJob table tokens frame direct r its_payload its_note w t
-
--- It is under way with this run, this note and this wallet.
-pub record IsOnItsWay (table tokens : TableId) (frame : Frame Plan) (r : Run) (note : Noted Content Plan) (w : Purse) : Type 0 where
-  pub direct : Bool
-  pub payload : PayloadView
-  pub grants : TableView
-  pub job : IsJob table tokens frame direct r payload note w grants

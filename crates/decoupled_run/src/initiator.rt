@@ -4,7 +4,7 @@ ghost use Rattle.tlm_model.specs.declared.platform.Style.TheVariants.{FourPhase}
 ghost use Rattle.plat_build.specs.Kept.{IsStart};
 ghost use Rattle.initiator_run.specs.Moves.{HasReached, HasToInvalidate};
 ghost use Rattle.initiator_run.specs.Steps.{StepsOnce};
-ghost use Rattle.decoupled_run.specs.Job.{IsJob, IsOnItsWay, goes_direct};
+ghost use Rattle.decoupled_run.specs.Job.{IsJob, goes_direct};
 ghost use Rattle.decoupled_run.specs.End.{IsFinished};
 
 use crate::access::{MadeNext, ask_after, make};
@@ -63,14 +63,6 @@ impl<N: Naming<Plan, TlmLaw>> Model for DecoupledInitiator<N> {
     ghost view = { λ j. j.run };
 
     ghost invariant = { λ j. IsAtRest N.table N.tokens N.frame j.is_direct j.run j.payload j.note j.wallet j.grants };
-}
-
-/// What an initiator has under way: its run, its note and its wallet.
-#[derive(Drop)]
-pub struct RunParts {
-    pub run: InitiatorRun,
-    pub note: PlatNote,
-    pub wallet: Wallet,
 }
 
 /// For how many grants an initiator has room.
@@ -182,27 +174,6 @@ impl<N: Naming<Plan, TlmLaw>> DecoupledInitiator<N> {
             of: _,
         } = self;
         (run.into_end(), wallet, note.unwrap())
-    }
-
-    /// What it has, wherever it has come: its run, its note and its wallet.
-    pub fn into_parts(self) -> RunParts
-        ensures run { result.run ≡ self }
-        ensures way { IsOnItsWay N.table N.tokens N.frame self result.note result.wallet }
-    {
-        let DecoupledInitiator {
-            run,
-            payload: _,
-            note,
-            wallet,
-            grants: _,
-            is_direct: _,
-            of: _,
-        } = self;
-        RunParts {
-            run,
-            note: note.unwrap(),
-            wallet,
-        }
     }
 
     /// Lets go of it. Its number is that of an initiator.

@@ -8,7 +8,7 @@
 //! - `SteppedInitiator` is the same for who steps it an entry at a time: `step` makes its moves up to and with its next entry,
 //!   as far as the rounds let it. A grant that is asked for after an access, and each closing of an invalidation, is a step of
 //!   its own. `initiators_stay` is the law that what an initiator keeps, it keeps as its note learns more.
-//! - `finish` hands in how it ended, its wallet and its note; `into_parts` gives up what it has, wherever it has come.
+//! - `finish` hands in how it ended, its wallet and its note.
 //!
 //! Promises: `specs/Job` says what such an initiator knows at any time: its own entries run its script, with
 //! their times, and keep what a history of grants asks of them, in each history that has all that its note
@@ -24,6 +24,6 @@ mod laws;
 mod send;
 mod steps;
 
-pub use initiator::{DecoupledInitiator, RunParts};
+pub use initiator::DecoupledInitiator;
 pub use laws::initiators_stay;
 pub use steps::SteppedInitiator;
