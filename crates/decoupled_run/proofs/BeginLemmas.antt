@@ -258,5 +258,6 @@ stepped_begun frame table tokens d n s run quantum room script t valid start at 
       ap (λ (r : Run). r.engine.initiator) run_is
       ∙ ap (λ (e : State). e.initiator) (subst (λ (o : Option (List Operation)). IsSomeAnd o (λ (x : List Operation). s.engine ≡ begun_engine n x)) at start.engine);
   fresh = (ap (λ (r : Run). r.syncs) run_is, ap (λ (r : Run). r.round) run_is, ap (λ (r : Run). r.finished) run_is);
+  free = refl;
   come = λ i is. subst (HasCome frame.world.platform i []) (sym (run_begun frame table tokens n s run quantum room script i is start at quantum_is room_is run_is)) (come_begun frame n i valid is);
 }

@@ -1,14 +1,12 @@
 -- An initiator after an invalidation.
-use Rattle.std.proofs.Common.{◌≡◌, ◌≢◌, ℕ, ◌+◌, ◌<◌, ◌≤◌, ◌==◌, Bool, true, false, cond, List, [], ◌∷◌, ◌++◌, length, map, Option, Some, slice_get, refl, ap, sym, subst, ◌∙◌, ⊎_elim, arith, append_assoc, append-nil, length-append}
+use Rattle.std.proofs.Common.{◌≡◌, ◌≢◌, ℕ, ◌+◌, ◌<◌, ◌≤◌, ◌==◌, true, false, cond, List, [], ◌∷◌, ◌++◌, length, map, Option, Some, slice_get, refl, ap, sym, subst, ◌∙◌, ⊎_elim, arith, append_assoc, append-nil, length-append}
 use Rattle.std.specs.Prelude.{IsTrue, MatchOption}
 use Rattle.std.proofs.lemmas.Bool.{cases_eq, cond-true, cond-false, eq-eqb, ne_eqb}
 use Rattle.std.proofs.lemmas.Option.{MatchOption-at_some}
-use Rattle.atomic_table.specs.Seated.{TableId}
 use Rattle.view_lists.specs.Lists.{Has}
 use Rattle.view_lists.proofs.Members.{has_either, has_later, has_left, has_one}
 use Rattle.one_history.specs.declared.view.Frame.{Frame}
 use Rattle.one_history.specs.declared.view.View.{View}
-use Rattle.one_history.specs.Held.{Held as Noted}
 use Rattle.shared_object.specs.Written.{written_at}
 use Rattle.token_book.specs.Purse.{Purse, bytes_of, left_of}
 use Rattle.tlm_types.specs.declared.entry.Content.{Content}
@@ -35,7 +33,6 @@ use Rattle.good_history.specs.Joined.{KeepsOwn}
 use Rattle.joined_traffic.specs.Parts.{KnowsAllGiven}
 use Rattle.joined_traffic.specs.Table.{IsTableOf}
 use Rattle.joined_traffic.proofs.Tables.{table_passes}
-use Rattle.generic_payload.specs.Payload.{PayloadView}
 use Rattle.route_plan.specs.Counted.{share_at}
 use Rattle.route_plan.specs.Planned.{is_routed_to, leads_to}
 use Rattle.script_engine.specs.declared.part.Pause.TheVariants as pause
@@ -64,12 +61,11 @@ use Rattle.dmi_grants.specs.Telling.{AsksAfter, HasAdded, IsClosingFor, KeepsOwn
 use Rattle.dmi_grants.specs.Invalidating.{HasInvalidated}
 use Rattle.dmi_grants.proofs.Points.{invalidation_keeps_points}
 use Rattle.dmi_grants.proofs.Telling.{invalidation_adds}
-use Rattle.decoupled_run.specs.Job.{AreBelow, HasAllOf, HasMade, HasTickets, HoldsGrants, IsAtEase, IsAtRest, IsInitiator, IsJob, position_of}
+use Rattle.decoupled_run.specs.Job.{AreBelow, HasAllOf, HasMade, HasTickets, HoldsGrants, IsAtEase, IsInitiator, position_of}
 use Rattle.decoupled_run.specs.Known.{gates_left, known_to}
 use Rattle.decoupled_run.specs.Script.{IsInScript}
 use Rattle.decoupled_run.proofs.EntryLemmas.{IsDoneFor, IsFor, come_granted, decoupled_style, in_order, keeps_more}
 use Rattle.decoupled_run.proofs.JobLemmas.{number, own_number, still_held}
-use Rattle.decoupled_run.proofs.PassLemmas.{one_value}
 use Rattle.decoupled_run.proofs.KnownLemmas.{all_of, all_ungiven_less, below_of, read_below, read_more}
 use Rattle.decoupled_run.proofs.ScriptLemmas.{passed_stands}
 use Rattle.decoupled_run.proofs.TicketLemmas.{closes, closes_next, gates_left_closed, gates_left_less, some_unclosed}
@@ -387,8 +383,3 @@ pub at_ease_with : (frame : Frame Plan) (r past : Run) (note back : View Content
 at_ease_with frame r past note back old new t ease x reached txn time txn_is time_is inv rooms run =
     let own = invalidation_adds frame x.route.memory txn time x.first x.last note back old new (memory_there frame r note old t ease x reached) inv in
     subst (λ (y : Run). IsAtEase frame y back new t) (sym run) (invalidated_ease frame r note old t ease x reached txn time back new own.told own.closings txn_is time_is own.added rooms)
-
--- the note of a job is taken out of its place
-pub note_out : (table tokens : TableId) (frame : Frame Plan) (d : Bool) (r : Run) (payload : Option PayloadView) (place : Option (Noted Content Plan)) (note : Noted Content Plan) (w : Purse) (t : TableView) (rest : IsAtRest table tokens frame d r payload place w t) → place ≡ Some note → IsJob table tokens frame d r rest.its_payload note w t
-note_out table tokens frame d r payload place note w t rest is =
-    subst (λ (x : Noted Content Plan). IsJob table tokens frame d r rest.its_payload x w t) (one_value place rest.its_note note rest.has_note is) rest.job

@@ -35,6 +35,7 @@ use Rattle.quantum_keeper.specs.Keeper.{current_time}
 use Rattle.initiator_run.specs.Access.{call_at, next_call}
 use Rattle.initiator_run.specs.Moves.{HasReached}
 use Rattle.initiator_run.specs.Run.{Run, accessed}
+use Rattle.initiator_run.proofs.RunLemmas.{accessed_initiator}
 use Rattle.initiator_run.proofs.SendLemmas.{payload_fits}
 use Rattle.run_outcome.proofs.PlanLemmas.{initiator_within}
 use Rattle.plat_net.specs.Calls.{CanPay, HasNoPassage, IsCalled, OneTicketLess, route_at}
@@ -48,7 +49,7 @@ use Rattle.dmi_grants.specs.Made.{IsRoomyFor}
 use Rattle.dmi_grants.specs.Table.{TableView, covers}
 use Rattle.dmi_grants.specs.Using.{HasUsed, IsFoundStale, MayUse, note_of}
 use Rattle.dmi_grants.proofs.Revoking.{new_before}
-use Rattle.decoupled_run.specs.Job.{IsAtEase, IsAtRest, IsInitiator, IsToAsk, goes_direct, is_direct_row}
+use Rattle.decoupled_run.specs.Job.{IsAtEase, IsInitiator, IsJob, IsToAsk, goes_direct, is_direct_row}
 use Rattle.decoupled_run.specs.Moves.{ComesOf, HasMadeNext, IsEntryOfRun, IsLeft, IsToMake, txn_next}
 use Rattle.decoupled_run.specs.Sent.{IsSentBy}
 use Rattle.decoupled_run.proofs.AccessLemmas.{access_new, left_by, route_found, whole}
@@ -57,7 +58,6 @@ use Rattle.decoupled_run.proofs.DirectLemmas.{can_pay_next, direct_room, direct_
 use Rattle.decoupled_run.proofs.EntryLemmas.{decoupled_style}
 use Rattle.decoupled_run.proofs.Finding.{none_passes}
 use Rattle.decoupled_run.proofs.JobLemmas.{number}
-use Rattle.decoupled_run.proofs.PassLemmas.{one_value}
 
 sent_by : (kind : TransferKind) (txn : TxnId) (t before offset : ℕ) (payload : PayloadView) → IsFit (call_at kind txn t before (record payload { address = offset })) → IsSentBy kind payload
 sent_by (transfer.Access command plain fenced) txn t before offset payload fit = fit.1
@@ -210,17 +210,13 @@ module _ (frame : Frame Plan) (r : Run) (x : Transfer) (route : Route) (txn : Tx
       by (HeldAt which) is = granted_ease frame r note w t asker (command_in x.kind) x.address route txn at asks.asking back new_t new which is.0 is.1 roomy
       by (Denied denial) is = denied_ease frame r note w t asker (command_in x.kind) x.address route txn at asks.asking back new_t new denial is.0 is.1 roomy
 
--- one that was at rest sets out to make the access that is next
-pub set_out : (table tokens : TableId) (frame : Frame Plan) (d : Bool) (r : Run) (x : Transfer) (route : Route) (payload : Option PayloadView) (place : Option (Noted Content Plan)) (filled : PayloadView) (note : Noted Content Plan) (w : Purse) (t : TableView) → IsAtRest table tokens frame d r payload place w t → place ≡ Some note → HasReached frame.world r x route → filled ≡ payload_of r.engine 4096 → IsToMake table tokens frame r x route filled note w t
-set_out table tokens frame d r x route payload place filled note w t rest taken reached is =
-    let same : rest.its_note ≡ note = one_value place rest.its_note note rest.has_note taken in
-    record {
-      note_of = subst (λ (n : Noted Content Plan). IsNote table n) same rest.job.note_of;
-      wallet_of = rest.job.wallet_of;
-      is = subst (λ (n : Noted Content Plan). IsAtEase frame r n.knows w t) same rest.job.is;
-      reached = reached;
-      filled = is;
-    }
+-- with its payload filled it sets out to make the access that is next
+pub set_out : (table tokens : TableId) (frame : Frame Plan) (d : Bool) (r : Run) (x : Transfer) (route : Route) (empty filled : PayloadView) (note : Noted Content Plan) (w : Purse) (t : TableView) → IsJob table tokens frame d r empty note w t → HasReached frame.world r x route → filled ≡ payload_of r.engine 4096 → IsToMake table tokens frame r x route filled note w t
+set_out table tokens frame d r x route empty filled note w t job reached is = record { note_of = job.note_of; wallet_of = job.wallet_of; is = job.is; reached = reached; filled = is }
+
+-- the initiator is the same after an access
+pub number_past : (x : Transfer) (latency : ℕ) (got : List ℕ) (old new : Run) → new ≡ accessed x latency got old → new.engine.initiator ≡ old.engine.initiator
+number_past x latency got old new is = ap (λ (r : Run). r.engine.initiator) is ∙ accessed_initiator x latency got old
 
 -- the same of what is left, by what the values are
 pub left_as : (wants : Bool) (frame : Frame Plan) (x : Transfer) (route : Route) (r run : Run) (id : TxnId) (at : ℕ) (got : List ℕ) (v : View Content Plan) (w : Purse) (t : TableView) → IsLeft wants frame x route (txn_next r) (later (current_time r.keeper) route.latency) (accessed x route.latency got r) v w t

@@ -24,7 +24,7 @@ use Rattle.initiator_run.specs.Steps.{HasMoved, MovesIn, StepsOnce}
 use Rattle.initiator_run.proofs.OnceLemmas.{StepsOnce-same}
 use Rattle.initiator_run.proofs.RunLemmas.{Keeps-round}
 use Rattle.dmi_grants.specs.Table.{TableView}
-use Rattle.decoupled_run.specs.Job.{IsAtEase, IsInitiator, IsJob, goes_direct}
+use Rattle.decoupled_run.specs.Job.{IsAtEase, IsAtRest, IsInitiator, IsJob, goes_direct}
 use Rattle.decoupled_run.specs.Script.{IsInScript}
 use Rattle.decoupled_run.proofs.ScriptLemmas.{stands_on}
 
@@ -149,3 +149,9 @@ one_value {A} place x y first second = same (sym first ∙ second)
   where
     same : Some x ≡ Some y → x ≡ y
     same q = cc
+
+-- the job of one at rest, by what is taken out of its places
+pub job_at_rest : (table tokens : TableId) (frame : Frame Plan) (d : Bool) (r : Run) (held : Option PayloadView) (payload : PayloadView) (place : Option (Noted Content Plan)) (note : Noted Content Plan) (w : Purse) (t : TableView) → IsAtRest table tokens frame d r held place w t → held ≡ Some payload → place ≡ Some note → IsJob table tokens frame d r payload note w t
+job_at_rest table tokens frame d r held payload place note w t rest its_payload its_note =
+    subst (λ (x : PayloadView). IsJob table tokens frame d r x note w t) (one_value held rest.its_payload payload rest.has_payload its_payload)
+    (subst (λ (x : Noted Content Plan). IsJob table tokens frame d r rest.its_payload x w t) (one_value place rest.its_note note rest.has_note its_note) rest.job)

@@ -26,7 +26,7 @@ use Rattle.region_object.specs.Call.{IsReadOrWrite}
 use Rattle.route_plan.specs.declared.step.Route.{Route}
 use Rattle.script_engine.specs.declared.part.Transfer.{Transfer}
 use Rattle.script_engine.specs.declared.op.Op.TheVariants as next
-use Rattle.script_engine.specs.State.{op_of, passed_by, payload_of}
+use Rattle.script_engine.specs.State.{op_of, passed_by}
 use Rattle.script_engine.specs.declared.part.TransferKind.TheVariants.{Access as AccessKind}
 use Rattle.quantum_keeper.specs.Keeper.{current_time}
 use Rattle.initiator_run.specs.declared.run.NextInvalidation.{NextInvalidation}
@@ -41,7 +41,7 @@ use Rattle.initiator_run.proofs.AccessLemmas.{transfer_is_not_done}
 use Rattle.initiator_run.proofs.BoardLemmas.{HasGoneOn-moved, HasGoneOn-same, IsInRound-gone}
 use Rattle.initiator_run.proofs.CountLemmas.{with_sync_round}
 use Rattle.initiator_run.proofs.InvalidationLemmas.{HasCome-invalidated, SyncsOnce-invalidated, finished_invalidated, initiator_invalidated, invalidation_is_not_done}
-use Rattle.initiator_run.proofs.RunLemmas.{SyncsOnce-by_access, accessed_finished, accessed_initiator, accessed_round, few_syncs, Keeps-same, Keeps-then}
+use Rattle.initiator_run.proofs.RunLemmas.{SyncsOnce-by_access, accessed_finished, accessed_round, few_syncs, Keeps-same, Keeps-then}
 use Rattle.run_outcome.proofs.PlanLemmas.{initiator_number}
 use Rattle.plat_net.specs.Calls.{HasNoPassage, route_at}
 use Rattle.node_hops.specs.declared.node.OneStep.{OneStep}
@@ -62,13 +62,13 @@ use Rattle.decoupled_run.specs.declared.steps.SteppedInitiator.{SteppedInitiator
 use Rattle.decoupled_run.specs.End.{IsFinished}
 use Rattle.decoupled_run.specs.Job.{IsAtEase, IsJob, IsToAsk, goes_direct}
 use Rattle.decoupled_run.specs.Known.{entry_read}
-use Rattle.decoupled_run.specs.Moves.{HasMadeNext, IsEntryOfRun, IsLeft, IsToMake, txn_next}
+use Rattle.decoupled_run.specs.Moves.{HasMadeNext, IsEntryOfRun, IsLeft, txn_next}
 use Rattle.decoupled_run.specs.Stepped.{HasClosedNext, HasMadeOne, HasSettled, IsOfRound, IsOwing, IsRevokingFor, IsStepEntry, IsStepped, MayCloseNext, is_held, owed_after}
 use Rattle.decoupled_run.proofs.AskLemmas.{granted_new}
 use Rattle.decoupled_run.proofs.EndLemmas.{job_finished}
 use Rattle.decoupled_run.proofs.InvalidateLemmas.{at_ease_with, can_invalidate, memory_there, roomy_there}
 use Rattle.decoupled_run.proofs.JobLemmas.{number}
-use Rattle.decoupled_run.proofs.MoveLemmas.{asker_below, asker_passes, left_as, may_wish, none_pass, wished}
+use Rattle.decoupled_run.proofs.MoveLemmas.{asker_below, asker_passes, left_as, may_wish, none_pass, number_past, wished}
 use Rattle.decoupled_run.proofs.PassLemmas.{moved_along, one_value, under_way}
 use Rattle.decoupled_run.proofs.RunEntries.{round_for, round_next, round_next_invalidation, unanswered_entry}
 
@@ -77,13 +77,20 @@ module _ (table tokens : TableId) (frame : Frame Plan) (s : SteppedInitiator) (n
   pub at_ease : s.owes ≡ Nothing → IsAtEase frame s.run note.knows s.wallet s.grants
   at_ease nothing = subst (λ (o : Owes). IsOwing frame s.run note.knows s.wallet s.grants o) nothing stepped.is
 
-  pub stepped_job : s.owes ≡ Nothing → IsJob table tokens frame s.is_direct s.run stepped.payload note s.wallet s.grants
-  stepped_job nothing = record { note_of = stepped.note_of; wallet_of = stepped.wallet_of; roomy = stepped.roomy; styled = stepped.styled; is = at_ease nothing }
+  -- then it is the same as one that keeps its note
+  pub stepped_job : s.owes ≡ Nothing → (payload : PayloadView) → s.payload ≡ Some payload → IsJob table tokens frame s.is_direct s.run payload note s.wallet s.grants
+  stepped_job nothing payload is = record {
+    note_of = stepped.note_of;
+    wallet_of = stepped.wallet_of;
+    roomy = subst (λ (x : PayloadView). x.room ≡ 4096) (one_value s.payload stepped.payload payload stepped.has_payload is) stepped.roomy;
+    styled = stepped.styled;
+    is = at_ease nothing;
+  }
 
   pub stepped_finished : s.run.finished ≡ true → (end : EndOf) → end ≡ end_at s.run → IsFinished table tokens frame.world s.run.engine.initiator end note s.wallet
   stepped_finished finished end is =
       subst (λ (e : EndOf). IsFinished table tokens frame.world s.run.engine.initiator e note s.wallet) (sym is)
-      (job_finished table tokens frame s.is_direct s.run stepped.payload note s.wallet s.grants (stepped_job (stepped.settled finished)) finished)
+      (job_finished table tokens frame s.is_direct s.run stepped.payload note s.wallet s.grants (stepped_job (stepped.settled finished) stepped.payload stepped.has_payload) finished)
 
 -- it owed nothing
 pub nothing_settled : (table tokens : TableId) (frame : Frame Plan) (s : SteppedInitiator) (note : Noted Content Plan) → IsStepped table tokens frame s note → s.owes ≡ Nothing → HasSettled table tokens frame s s note note false
@@ -337,9 +344,6 @@ module _ (table tokens : TableId) (frame : Frame Plan) (s : SteppedInitiator) (n
   abbrev rest : IsAtEase frame s.run note.knows s.wallet s.grants
   rest = at_ease table tokens frame s note stepped nothing
 
-  pub access_ready : (filled : PayloadView) → filled ≡ payload_of s.run.engine 4096 → IsToMake table tokens frame s.run x route filled note s.wallet s.grants
-  access_ready filled is = record { note_of = stepped.note_of; wallet_of = stepped.wallet_of; is = rest; reached = reached; filled = is }
-
   module _ (wants : Bool) (payload : PayloadView) (back : Noted Content Plan) (new : Purse) (new_t : TableView) (made : HasMadeNext table tokens frame note.knows.known s.run x route wants payload back new new_t)
       (run : Run) (run_is : run ≡ accessed x route.latency payload.bytes s.run) (txn : TxnId) (txn_is : txn ≡ txn_next s.run) (time : ℕ) (time_is : time ≡ later (current_time s.run.keeper) route.latency)
       (owes : Owes) (owes_is : owes ≡ owed_after wants x txn time) where
@@ -347,7 +351,7 @@ module _ (table tokens : TableId) (frame : Frame Plan) (s : SteppedInitiator) (n
     left = left_as wants frame x route s.run run txn time payload.bytes back.knows new new_t made.left txn_is time_is run_is
 
     number_after : run.engine.initiator ≡ s.run.engine.initiator
-    number_after = ap (λ (r : Run). r.engine.initiator) run_is ∙ accessed_initiator x route.latency payload.bytes s.run
+    number_after = number_past x route.latency payload.bytes s.run run run_is
 
     finished_after : run.finished ≡ s.run.finished
     finished_after = ap (λ (r : Run). r.finished) run_is ∙ accessed_finished x route.latency payload.bytes s.run

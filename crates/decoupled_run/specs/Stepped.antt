@@ -97,12 +97,13 @@ pub record IsStepped (table tokens : TableId) (frame : Frame Plan) (s : SteppedI
   pub is : IsOwing frame s.run note.knows s.wallet s.grants s.owes
   pub settled : s.run.finished ≡ true → s.owes ≡ Nothing
 
--- It is about to begin: it has made no entry and no sync.
+-- It is about to begin: it has made no entry and no sync, and owes nothing.
 pub record HasBegun (table tokens : TableId) (frame : Frame Plan) (number : ℕ) (s : SteppedInitiator) (note : Noted Content Plan) : Type 0 where
   pub stepped : IsStepped table tokens frame s note
   pub blank : IsBlank table note
   pub number_is : s.run.engine.initiator ≡ number
   pub fresh : (s.run.syncs ≡ 0) × (s.run.round ≡ 0) × (s.run.finished ≡ false)
+  pub free : s.owes ≡ Nothing
   pub come : (i : Initiator) → slice_get (initiators_of frame.world) number ≡ Some i → HasCome frame.world.platform i [] s.run
 
 -- It did what it owed, and made an entry, or made none and owes nothing more. Its run is as before.

@@ -4,7 +4,8 @@ ghost use Rattle.shared_object.specs.Steps.{IsNote};
 ghost use Rattle.token_book.specs.Purse.{IsOf};
 ghost use Rattle.script_engine.specs.Part.{command_in, is_plain_kind};
 ghost use Rattle.dmi_grants.specs.Table.{covers};
-ghost use Rattle.decoupled_run.specs.Job.{IsAtEase, goes_direct};
+ghost use Rattle.initiator_run.specs.Moves.{HasReached};
+ghost use Rattle.decoupled_run.specs.Job.{IsAtEase, IsJob, goes_direct};
 ghost use Rattle.decoupled_run.specs.Moves.{ComesOf, HasMadeNext, IsLeft, IsToMake};
 
 use crate::send::send;
@@ -170,25 +171,27 @@ fn make_plain<N: Naming<Plan, TlmLaw>, B: Reach<N>, R: Wait>(
     unreachable!()
 }
 
-/// Makes the access or the debug read that is next: a plain access of a direct initiator by a grant where one is
-/// held that covers it and isn't stale, and anything else by transport. It answers whether a grant is to be asked for.
+/// Makes the access or the debug read that is next, which has a route: a plain access of a direct initiator by a grant
+/// where one is held that covers it and isn't stale, and anything else by transport. It answers whether a grant is to be
+/// asked for.
 // Where this is inlined, the fields of `next` stay in registers: nothing is handed its address.
 #[inline(always)]
-pub(crate) fn make<N: Naming<Plan, TlmLaw>, B: Reach<N>, R: Wait>(
+pub(crate) fn make_next<N: Naming<Plan, TlmLaw>, B: Reach<N>, R: Wait>(
     reach: &mut B,
     rt: &R,
     run: &InitiatorRun,
     next: &NextAccess,
     is_direct: bool,
     grants: &mut GrantTable,
-    payload: Payload,
+    mut payload: Payload,
     note: PlatNote,
     wallet: &mut Wallet,
 ) -> MadeNext
-    requires styled { is_direct ≡ goes_direct N.frame.world run.now.engine.initiator }
-    requires ready { IsToMake N.table N.tokens N.frame run.now next.now.transfer next.now.route payload note wallet.old grants.old }
+    requires job { IsJob N.table N.tokens N.frame is_direct run.now payload note wallet.old grants.old }
+    requires reached { HasReached N.frame.world run.now next.now.transfer next.now.route }
     ensures { HasMadeNext N.table N.tokens N.frame note.knows.known run.now next.now.transfer next.now.route result.wants result.payload result.note wallet.new grants.new }
 {
+    run.fill_next(&mut payload);
     if is_direct && is_plain(next.transfer.kind) {
         let next = NextAccess {
             transfer: next.transfer,

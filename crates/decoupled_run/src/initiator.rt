@@ -4,10 +4,10 @@ ghost use Rattle.tlm_model.specs.declared.platform.Style.TheVariants.{FourPhase}
 ghost use Rattle.plat_build.specs.Kept.{IsStart};
 ghost use Rattle.initiator_run.specs.Moves.{HasReached, HasToInvalidate};
 ghost use Rattle.initiator_run.specs.Steps.{StepsOnce};
-ghost use Rattle.decoupled_run.specs.Job.{IsJob, goes_direct};
 ghost use Rattle.decoupled_run.specs.End.{IsFinished};
 
-use crate::access::{MadeNext, ask_after, make};
+use crate::access::{MadeNext, ask_after, make_next};
+use crate::steps::SteppedInitiator;
 use dmi_grants::{GrantTable, invalidate};
 use generic_payload::Payload;
 use initiator_run::{InitiatorRun, Move, NextAccess, NextInvalidation};
@@ -19,24 +19,20 @@ use shared_object::Naming;
 use std::alloc::Global;
 use std::marker::{Model, PhantomData};
 use std::sync::Wait;
-use tlm_model::Style;
 use tlm_types::{EndOf, Memory};
 use token_book::Wallet;
-
-// Twice as many as a platform has gates at most: so there is always a place for what may be given.
-const MOST_GRANTS: u32 = 2048;
 
 /// A blocking or direct initiator under way, whose local time is decoupled (clause 16), with its payload, its note,
 /// its wallet and the grants that it holds, if it is a direct one. Contracts see its run.
 // The payload and the note are away only while an access is made, which carries them along.
 pub struct DecoupledInitiator<N: Naming<Plan, TlmLaw>> {
-    run: InitiatorRun,
-    payload: Option<Payload>,
-    note: Option<PlatNote>,
-    wallet: Wallet,
-    grants: GrantTable,
-    is_direct: bool,
-    of: PhantomData<N>,
+    pub(crate) run: InitiatorRun,
+    pub(crate) payload: Option<Payload>,
+    pub(crate) note: Option<PlatNote>,
+    pub(crate) wallet: Wallet,
+    pub(crate) grants: GrantTable,
+    pub(crate) is_direct: bool,
+    pub(crate) of: PhantomData<N>,
 }
 
 // Written out, so that the crates above call it: how each part is let go of is proved here alone.
@@ -65,46 +61,7 @@ impl<N: Naming<Plan, TlmLaw>> Model for DecoupledInitiator<N> {
     ghost invariant = { λ j. IsAtRest N.table N.tokens N.frame j.is_direct j.run j.payload j.note j.wallet j.grants };
 }
 
-/// For how many grants an initiator has room.
-pub(crate) fn grants_for(is_direct: bool) -> u32
-    ensures { is_direct ≡ true → result ≡ 2048 }
-{
-    if is_direct { MOST_GRANTS } else { 0 }
-}
-
-/// Whether the initiator with this number is a direct one.
-pub(crate) fn is_direct<N: Naming<Plan, TlmLaw>>(net: &Net<N>, number: u32) -> bool
-    requires { number < length net.now.platform.initiators }
-    ensures { result ≡ goes_direct net.now number }
-{
-    let rows = net.plan().platform().initiators.as_slice();
-    rows[number as usize].style == Style::Direct
-}
-
 impl<N: Naming<Plan, TlmLaw>> DecoupledInitiator<N> {
-    // An initiator with what it goes about with.
-    fn new(
-        run: InitiatorRun,
-        payload: Payload,
-        note: PlatNote,
-        wallet: Wallet,
-        grants: GrantTable,
-        is_direct: bool,
-    ) -> DecoupledInitiator<N>
-        requires { IsJob N.table N.tokens N.frame is_direct run payload note wallet grants }
-        ensures { result ≡ run }
-    {
-        DecoupledInitiator {
-            run,
-            payload: Some(payload),
-            note: Some(note),
-            wallet,
-            grants,
-            is_direct,
-            of: PhantomData,
-        }
-    }
-
     /// The blocking or direct initiator with this number, with what it starts with. Its only error is want of memory.
     pub fn begin(
         alloc: Global,
@@ -117,18 +74,8 @@ impl<N: Naming<Plan, TlmLaw>> DecoupledInitiator<N> {
         requires start { IsStart N.table N.tokens N.frame.world number start }
         ensures { IfOk result (λ job. job.engine.initiator ≡ number) }
     {
-        let Start {
-            engine,
-            payload,
-            note,
-            wallet,
-        } = start;
-        let plan = net.plan();
-        let room = 2 * plan.script(number).len() as u32;
-        let run = InitiatorRun::of_engine(alloc, engine, plan.platform().quantum, room)?;
-        let is_direct = is_direct(net, number);
-        let grants = GrantTable::new(alloc, grants_for(is_direct))?;
-        Ok(DecoupledInitiator::new(run, payload, note, wallet, grants, is_direct))
+        let (begun, note) = SteppedInitiator::begin(alloc, net, number, start)?;
+        Ok(begun.with_note(note))
     }
 
     /// Its number.
@@ -215,36 +162,33 @@ impl<N: Naming<Plan, TlmLaw>> DecoupledInitiator<N> {
         ensures number { self.new.engine.initiator ≡ self.old.engine.initiator }
         ensures once { StepsOnce self.old.engine self.new.engine }
     {
-        let mut payload = self.payload.take().unwrap();
+        let payload = self.payload.take().unwrap();
         let note = self.note.take().unwrap();
-        self.run.fill_next(&mut payload);
-        let txn = self.run.next_txn();
-        let at = self.run.current();
-        let granted_at = at.saturating_add(next.route.latency);
-        let made = make(
+        let (grants, wallet) = (&mut self.grants, &mut self.wallet);
+        let MadeNext {
+            payload,
+            note,
+            wants,
+        } = make_next(
             reach,
             rt,
             &self.run,
             next,
             self.is_direct,
-            &mut self.grants,
+            grants,
             payload,
             note,
-            &mut self.wallet,
+            wallet,
         );
-        let MadeNext {
-            payload,
-            note,
-            wants,
-        } = made;
+        let txn = self.run.next_txn();
+        let granted_at = self.run.current().saturating_add(next.route.latency);
         self.run
             .complete(next.transfer, next.route.latency, &payload);
+        self.payload = Some(payload);
         let net = reach.net();
-        let (grants, wallet) = (&mut self.grants, &mut self.wallet);
         let note = ask_after(
             net, rt, &self.run, next, wants, grants, note, wallet, txn, granted_at,
         );
-        self.payload = Some(payload);
         self.note = Some(note);
     }
 

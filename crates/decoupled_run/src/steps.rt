@@ -11,10 +11,11 @@ ghost use Rattle.initiator_run.specs.Board.{HasGoneOn, IsInRound, IsWaiting};
 ghost use Rattle.initiator_run.specs.Moves.{HasReached, HasToInvalidate, Keeps};
 ghost use Rattle.initiator_run.specs.Run.{IsSoFar};
 ghost use Rattle.decoupled_run.specs.End.{IsFinished};
+ghost use Rattle.decoupled_run.specs.Job.{goes_direct};
 ghost use Rattle.decoupled_run.specs.Stepped.{HasBegun, HasClosedNext, HasMadeOne, HasSettled, IsStepEntry, IsStepped, MayCloseNext, is_held, owed_after};
 
-use crate::access::{MadeNext, command_of, make};
-use crate::initiator::{grants_for, is_direct};
+use crate::access::{MadeNext, command_of, make_next};
+use crate::initiator::DecoupledInitiator;
 use dmi_grants::{Asked, Ending, GrantTable, Revocation, begin_invalidation, end_next_grant};
 use generic_payload::Payload;
 use initiator_run::{InitiatorRun, NextAccess, NextInvalidation, Stop};
@@ -25,10 +26,15 @@ use plat_net::{Net, PlatNote, TlmLaw};
 use route_plan::Plan;
 use shared_object::Naming;
 use std::alloc::Global;
+use std::marker::PhantomData;
 use std::sync::Wait;
 use time_board::Rounds;
+use tlm_model::Style;
 use tlm_types::{Command, EndOf, Memory, Ps, TxnId};
 use token_book::Wallet;
+
+// Twice as many as a platform has gates at most: so there is always a place for what may be given.
+const MOST_GRANTS: u32 = 2048;
 
 /// What an initiator owes between two steps.
 #[derive(Clone, Copy)]
@@ -69,6 +75,22 @@ impl Drop for SteppedInitiator {
             owes: _,
         } = self;
     }
+}
+
+// For how many grants an initiator has room.
+fn grants_for(is_direct: bool) -> u32
+    ensures { is_direct ≡ true → result ≡ 2048 }
+{
+    if is_direct { MOST_GRANTS } else { 0 }
+}
+
+// Whether the initiator with this number is a direct one.
+fn is_direct<N: Naming<Plan, TlmLaw>>(net: &Net<N>, number: u32) -> bool
+    requires { number < length net.now.platform.initiators }
+    ensures { result ≡ goes_direct net.now number }
+{
+    let rows = net.plan().platform().initiators.as_slice();
+    rows[number as usize].style == Style::Direct
 }
 
 // Whether a wish was granted.
@@ -154,6 +176,31 @@ impl SteppedInitiator {
             owes: Owes::Nothing,
         };
         Ok((begun, note))
+    }
+
+    /// The same, which has its note with it from now on.
+    pub(crate) fn with_note<N: Naming<Plan, TlmLaw>>(self, note: PlatNote) -> DecoupledInitiator<N>
+        requires stepped { IsStepped N.table N.tokens N.frame self note }
+        requires free { self.owes ≡ Owes.Nothing }
+        ensures { result ≡ self.run }
+    {
+        let SteppedInitiator {
+            run,
+            payload,
+            wallet,
+            grants,
+            is_direct,
+            owes: _,
+        } = self;
+        DecoupledInitiator {
+            run,
+            payload,
+            note: Some(note),
+            wallet,
+            grants,
+            is_direct,
+            of: PhantomData,
+        }
     }
 
     /// Its moves up to and with its next entry, as far as the rounds let it. An access with the grant that is asked for
@@ -280,12 +327,13 @@ impl SteppedInitiator {
         requires reached { HasReached N.frame.world self.old.run next.now.transfer next.now.route }
         ensures { HasMadeOne N.table N.tokens N.frame self.old self.new note result }
     {
-        let mut payload = self.payload.take().unwrap();
-        self.run.fill_next(&mut payload);
-        let txn = self.run.next_txn();
-        let at = self.run.current().saturating_add(next.route.latency);
+        let payload = self.payload.take().unwrap();
         let mut reach = net;
-        let made = make(
+        let MadeNext {
+            payload,
+            note,
+            wants,
+        } = make_next(
             &mut reach,
             rt,
             &self.run,
@@ -296,11 +344,8 @@ impl SteppedInitiator {
             note,
             &mut self.wallet,
         );
-        let MadeNext {
-            payload,
-            note,
-            wants,
-        } = made;
+        let txn = self.run.next_txn();
+        let at = self.run.current().saturating_add(next.route.latency);
         self.run
             .complete(next.transfer, next.route.latency, &payload);
         self.payload = Some(payload);

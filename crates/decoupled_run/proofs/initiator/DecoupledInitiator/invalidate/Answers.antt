@@ -4,8 +4,9 @@ use Rattle.initiator_run.specs.Run.{Run}
 use Rattle.initiator_run.specs.Steps.{StepsOnce}
 use Rattle.initiator_run.proofs.InvalidationLemmas.{StepsOnce-invalidated, initiator_invalidated, is_invalidation, unfenced_invalidation}
 use Rattle.decoupled_run.specs.Job.{goes_direct}
-use Rattle.decoupled_run.proofs.InvalidateLemmas.{at_ease_with, can_invalidate, memory_there, note_out, roomy_there}
+use Rattle.decoupled_run.proofs.InvalidateLemmas.{at_ease_with, can_invalidate, memory_there, roomy_there}
 use Rattle.decoupled_run.proofs.MoveLemmas.{none_pass}
+use Rattle.decoupled_run.proofs.PassLemmas.{job_at_rest}
 use Rattle.decoupled_run.proofs.initiator.DecoupledInitiator.invalidate.Goals as goal
 
 pub invalidate-note-requires-clause-memory : goal.invalidate-note-requires-clause-memory
@@ -13,21 +14,21 @@ invalidate-note-requires-clause-memory g c =
     let n = g.N.Naming in
     let old = c.self.inside in
     let reached : HasToInvalidate n.frame.world old.run c.args.next.now = subst (λ (r : Run). HasToInvalidate n.frame.world r c.args.next.now) (sym c.self.view_is) c.requires in
-    let out = note_out n.table n.tokens n.frame old.is_direct old.run old.payload old.note c.unwrap-note.result old.wallet old.grants c.self.invariant (sym c.take.ensures.value ∙ c.unwrap-note.ensures) in
+    let out = job_at_rest n.table n.tokens n.frame old.is_direct old.run old.payload c.self.invariant.its_payload old.note c.unwrap-note.result old.wallet old.grants c.self.invariant c.self.invariant.has_payload (sym c.take.ensures.value ∙ c.unwrap-note.ensures) in
     memory_there n.frame old.run c.unwrap-note.result.knows old.wallet old.grants out.is c.args.next.now reached
 
 pub invalidate-note-requires-clause-passage : goal.invalidate-note-requires-clause-passage
 invalidate-note-requires-clause-passage g c =
     let n = g.N.Naming in
     let old = c.self.inside in
-    let out = note_out n.table n.tokens n.frame old.is_direct old.run old.payload old.note c.unwrap-note.result old.wallet old.grants c.self.invariant (sym c.take.ensures.value ∙ c.unwrap-note.ensures) in
+    let out = job_at_rest n.table n.tokens n.frame old.is_direct old.run old.payload c.self.invariant.its_payload old.note c.unwrap-note.result old.wallet old.grants c.self.invariant c.self.invariant.has_payload (sym c.take.ensures.value ∙ c.unwrap-note.ensures) in
     none_pass n.frame old.run c.unwrap-note.result.knows old.wallet old.grants out.is.is c.next_txn-txn.result (ap (λ x. x.initiator) c.next_txn-txn.ensures)
 
 pub invalidate-note-requires-clause-note : goal.invalidate-note-requires-clause-note
 invalidate-note-requires-clause-note g c =
     let n = g.N.Naming in
     let old = c.self.inside in
-    (note_out n.table n.tokens n.frame old.is_direct old.run old.payload old.note c.unwrap-note.result old.wallet old.grants c.self.invariant (sym c.take.ensures.value ∙ c.unwrap-note.ensures)).note_of
+    (job_at_rest n.table n.tokens n.frame old.is_direct old.run old.payload c.self.invariant.its_payload old.note c.unwrap-note.result old.wallet old.grants c.self.invariant c.self.invariant.has_payload (sym c.take.ensures.value ∙ c.unwrap-note.ensures)).note_of
 
 pub invalidate-note-requires-clause-wallet : goal.invalidate-note-requires-clause-wallet
 invalidate-note-requires-clause-wallet g c = c.self.invariant.job.wallet_of
@@ -37,7 +38,7 @@ invalidate-note-requires-clause-room g c =
     let n = g.N.Naming in
     let old = c.self.inside in
     let reached : HasToInvalidate n.frame.world old.run c.args.next.now = subst (λ (r : Run). HasToInvalidate n.frame.world r c.args.next.now) (sym c.self.view_is) c.requires in
-    let out = note_out n.table n.tokens n.frame old.is_direct old.run old.payload old.note c.unwrap-note.result old.wallet old.grants c.self.invariant (sym c.take.ensures.value ∙ c.unwrap-note.ensures) in
+    let out = job_at_rest n.table n.tokens n.frame old.is_direct old.run old.payload c.self.invariant.its_payload old.note c.unwrap-note.result old.wallet old.grants c.self.invariant c.self.invariant.has_payload (sym c.take.ensures.value ∙ c.unwrap-note.ensures) in
     roomy_there n.frame old.run c.unwrap-note.result.knows old.wallet old.grants out.is c.args.next.now reached
 
 pub invalidate-note-requires-clause-tickets : goal.invalidate-note-requires-clause-tickets
@@ -45,7 +46,7 @@ invalidate-note-requires-clause-tickets g c =
     let n = g.N.Naming in
     let old = c.self.inside in
     let reached : HasToInvalidate n.frame.world old.run c.args.next.now = subst (λ (r : Run). HasToInvalidate n.frame.world r c.args.next.now) (sym c.self.view_is) c.requires in
-    let out = note_out n.table n.tokens n.frame old.is_direct old.run old.payload old.note c.unwrap-note.result old.wallet old.grants c.self.invariant (sym c.take.ensures.value ∙ c.unwrap-note.ensures) in
+    let out = job_at_rest n.table n.tokens n.frame old.is_direct old.run old.payload c.self.invariant.its_payload old.note c.unwrap-note.result old.wallet old.grants c.self.invariant c.self.invariant.has_payload (sym c.take.ensures.value ∙ c.unwrap-note.ensures) in
     can_invalidate n.frame old.run c.unwrap-note.result.knows old.wallet old.grants out.is c.args.next.now reached
 
 pub pass_invalidation-requires : goal.pass_invalidation-requires
@@ -62,7 +63,7 @@ invariant_of-self g c =
     let rest = c.self.invariant in
     let made = c.invalidate-note in
     let reached : HasToInvalidate n.frame.world old.run c.args.next.now = subst (λ (r : Run). HasToInvalidate n.frame.world r c.args.next.now) (sym c.self.view_is) c.requires in
-    let out = note_out n.table n.tokens n.frame old.is_direct old.run old.payload old.note c.unwrap-note.result old.wallet old.grants rest (sym c.take.ensures.value ∙ c.unwrap-note.ensures) in
+    let out = job_at_rest n.table n.tokens n.frame old.is_direct old.run old.payload rest.its_payload old.note c.unwrap-note.result old.wallet old.grants rest rest.has_payload (sym c.take.ensures.value ∙ c.unwrap-note.ensures) in
     record {
       its_payload = rest.its_payload;
       its_note = made.result;
