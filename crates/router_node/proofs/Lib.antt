@@ -5,6 +5,7 @@ pub mod Holds
 pub mod Places
 pub mod Moving
 pub mod Sweeps
+pub mod Skips
 pub mod Hasty
 pub mod JoinsOne
 pub mod Pumps

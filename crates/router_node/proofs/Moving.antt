@@ -10,6 +10,9 @@ use Rattle.plat_net.specs.Places.{hop_place}
 use Rattle.router_node.specs.Node.{MovesAt}
 use Rattle.router_node.specs.Places.{StandsAt}
 use Rattle.router_node.specs.Stages.{ComesBy, HasEnded, HasStepped, is_about, standing, vain}
+use Rattle.router_moves.specs.declared.items.Down.{Down as ToPass}
+use Rattle.router_moves.specs.declared.items.RouterResponse.{RouterResponse}
+use Rattle.router_moves.specs.declared.items.Rest.{Rest}
 use Rattle.router_node.specs.declared.stage.SentUp.{SentUp}
 use Rattle.router_node.specs.declared.stage.Stage.{Stage}
 use Rattle.router_node.specs.declared.stage.Stage.TheVariants.{Down, Below, Up, Sent}
@@ -34,7 +37,7 @@ silent p Pass (Sent a) off = refl
 
 module _ (frame : Frame Plan) where
   -- it stays where it is
-  pub idle : (w : Step) (at : ℕ) (old : List Stage) (s : Stage) (v : View Content Plan) → StandsAt old at s → is_about w s ≡ false → MovesAt frame false w at old old v v (at + 1) false
+  idle : (w : Step) (at : ℕ) (old : List Stage) (s : Stage) (v : View Content Plan) → StandsAt old at s → is_about w s ≡ false → MovesAt frame false w at old old v v (at + 1) false
   idle w at old s v t off = record {
     stage = s;
     stands = t;
@@ -73,6 +76,26 @@ module _ (frame : Frame Plan) where
   pub passed_by : (at : ℕ) (old : List Stage) (s : Stage) (v : View Content Plan) → StandsAt old at s → ((a : SentUp) → s ≡ Sent a → ⊥) → MovesAt frame false End at old old v v (at + 1) false
   passed_by at old s v t n = idle End at old s v t (not_sent s n)
 
+  not_up : (s : Stage) → ((r : RouterResponse) (rest : Option Rest) → s ≡ Up r rest → ⊥) → is_about Send s ≡ false
+  not_up (Down d) n = refl
+  not_up (Below h) n = refl
+  not_up (Up r rest) n = absurd (n r rest refl)
+  not_up (Sent a) n = refl
+
+  -- or one that isn't to go up
+  pub passed_by_up : (at : ℕ) (old : List Stage) (s : Stage) (v : View Content Plan) → StandsAt old at s → ((r : RouterResponse) (rest : Option Rest) → s ≡ Up r rest → ⊥) → MovesAt frame false Send at old old v v (at + 1) false
+  passed_by_up at old s v t n = idle Send at old s v t (not_up s n)
+
+  not_down : (s : Stage) → ((d : ToPass) → s ≡ Down d → ⊥) → is_about Pass s ≡ false
+  not_down (Down d) n = absurd (n d refl)
+  not_down (Below h) n = refl
+  not_down (Up r rest) n = refl
+  not_down (Sent a) n = refl
+
+  -- or to go down
+  pub passed_by_down : (at : ℕ) (old : List Stage) (s : Stage) (v : View Content Plan) → StandsAt old at s → ((d : ToPass) → s ≡ Down d → ⊥) → MovesAt frame false Pass at old old v v (at + 1) false
+  passed_by_down at old s v t n = idle Pass at old s v t (not_down s n)
+
   -- and one that was sent and hasn't ended
   pub waits : (at : ℕ) (old : List Stage) (a : SentUp) (was is : View Content Plan) → StandsAt old at (Sent a) → is.looks ≡ was.looks ++ (hop_place frame.world a.above, 5) ∷ [] → MovesAt frame false End at old old was is (at + 1) false
   waits at old a was is t look = record { stage = Sent a; stands = t; after = Some (Sent a); stepped = inl (refl, look); line = t.line; next_is = refl }
@@ -84,19 +107,6 @@ module _ (frame : Frame Plan) where
   -- one that was tried stays at its place
   pub tried : (w : Step) (at : ℕ) (old new : List Stage) (s gap t : Stage) (was is : View Content Plan) (moved : Bool) → StandsAt old at s → new ≡ set (set old at gap) at t → HasStepped frame w s was is moved (Some t) → MovesAt frame false w at old new was is (at + 1) moved
   tried w at old new s gap t was is moved there put step = record { stage = s; stands = there; after = Some t; stepped = inl step; line = put ∙ set_again old at s gap t there; next_is = refl }
-
-  -- and isn't forgotten
-  pub stays : (w : Step) (s : Stage) (was is : View Content Plan) (moved : Bool) → (w ≡ End → ⊥) → HasStepped frame w s was is moved None → ⊥
-  stays w s was is false tries step = step.0
-  stays End s was is true tries step = tries refl
-  stays Send (Down d) was is true tries step = step
-  stays Send (Below h) was is true tries step = step
-  stays Send (Up r rest) was is true tries step = step
-  stays Send (Sent a) was is true tries step = step
-  stays Pass (Down d) was is true tries step = step
-  stays Pass (Below h) was is true tries step = step
-  stays Pass (Up r rest) was is true tries step = step
-  stays Pass (Sent a) was is true tries step = step
 
 -- one response that was sent stands at a place
 pub same_sent : (old : List Stage) (at : ℕ) (a b : SentUp) → StandsAt old at (Sent a) → StandsAt old at (Sent b) → a ≡ b

@@ -1,6 +1,6 @@
 // What spares a router calls in vain: where a going through in haste looks, and which tries it leaves out. No clause rests
 // on what the net tells of a hop.
-ghost use Rattle.std.specs.Prelude.{◌<◌, length, true};
+ghost use Rattle.std.specs.Prelude.{◌≡◌, ◌<◌, ◌≤◌, length, true, false};
 ghost use Rattle.router_node.specs.Finds.{AreLookedAt};
 
 use crate::node::RouterNode;
@@ -8,6 +8,7 @@ use crate::stage::{Stage, Step, is_about};
 use plat_net::{Net, TlmLaw};
 use route_plan::Plan;
 use shared_object::Naming;
+use std::collections::VecDeque;
 
 /// What a router looks for at a hop: a request from above, or a response from below.
 #[derive(Clone, Copy)]
@@ -72,9 +73,79 @@ fn may_go<N: Naming<Plan, TlmLaw>>(net: &Net<N>, stage: &Stage) -> bool {
     }
 }
 
-/// Whether a going through in haste leaves a transaction out of a step: it isn't one for it, or wouldn't move it.
-pub(crate) fn leaves_out<N: Naming<Plan, TlmLaw>>(net: &Net<N>, what: Step, stage: &Stage) -> bool {
-    !is_about(what, stage) || !may_go(net, stage)
+/// The place at which to make a step next: this one, or in haste the first from here on whose transaction it may move. It
+/// is behind all of them where there is none.
+#[inline(always)]
+pub(crate) fn next_place<N: Naming<Plan, TlmLaw>>(
+    net: &Net<N>,
+    hasty: bool,
+    what: Step,
+    held: &VecDeque<Stage>,
+    from: usize,
+) -> usize
+    requires { from ≤ length held.now.items }
+    ensures on { from ≤ result }
+    ensures within { result ≤ length held.now.items }
+    ensures each { hasty ≡ false → result ≡ from }
+{
+    if !hasty {
+        return from;
+    }
+    for at in from..held.len() {
+        if is_about(what, &held[at]) && may_go(net, &held[at]) {
+            return at;
+        }
+    }
+    held.len()
+}
+
+/// Which steps a going through is to make: all, or in haste those that may move a transaction.
+#[derive(Clone, Copy)]
+pub(crate) struct Due {
+    pub(crate) ends: bool,
+    pub(crate) sends: bool,
+    pub(crate) passes: bool,
+}
+
+// What is due in haste. Whether a request may go down is asked when its turn comes, since what is ended before may make way.
+fn due_in_haste<N: Naming<Plan, TlmLaw>>(net: &Net<N>, held: &VecDeque<Stage>) -> Due {
+    let mut due = Due {
+        ends: false,
+        sends: false,
+        passes: false,
+    };
+    for at in 0..held.len() {
+        let stage = &held[at];
+        match stage {
+            Stage::Sent(_) => due.ends = due.ends || may_go(net, stage),
+            Stage::Up(_, _) => due.sends = due.sends || may_go(net, stage),
+            Stage::Down(_) => due.passes = true,
+            Stage::Below(_) => {}
+        }
+    }
+    due
+}
+
+impl Due {
+    /// By one look over the transactions that are held.
+    pub(crate) fn of<N: Naming<Plan, TlmLaw>>(
+        net: &Net<N>,
+        hasty: bool,
+        held: &VecDeque<Stage>,
+    ) -> Due
+        ensures ends { hasty ≡ false → result.ends ≡ true }
+        ensures sends { hasty ≡ false → result.sends ≡ true }
+        ensures passes { hasty ≡ false → result.passes ≡ true }
+    {
+        if hasty {
+            return due_in_haste(net, held);
+        }
+        Due {
+            ends: true,
+            sends: true,
+            passes: true,
+        }
+    }
 }
 
 /// Whether a pump may move a transaction, by what the net tells of hops.

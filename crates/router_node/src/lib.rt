@@ -4,9 +4,9 @@
 //!   holds, in order of arrival. `new` makes it by the plan of a net. `pump`, of `node_hops::Node`, is a loop's turn
 //!   of it; `specs/Node` says what a router keeps and what a pump does. `finish` ends it.
 //! - `Stage` is what a router holds of a transaction between pumps, and `SentUp` a response that was sent up.
-//!   `move_on` makes one step of a pump for one: what has ended above is ended below (`end_away`), a response
-//!   is tried (`send`), or a request, with END_REQ above where it is owed (`settle`). `specs/Stages` says what
-//!   each leaves. The moves that they are made of, and what these work on, are those of `router_moves`.
+//!   A step of a pump for one ends below what has ended above (`look_for_end`), or tries a response (`send`; `send_at` where
+//!   it stands), or a request, with END_REQ above where it is owed (`settle`). `specs/Stages` says what each leaves. The
+//!   moves that they are made of, and what these work on, are those of `router_moves`.
 //! - `find_back` and `find_request` fetch from the first of several hops at which something waits. `join` gives
 //!   a response from below to the transaction that it belongs to.
 //! - `laws` says that what a router knows of what it holds stays known.
@@ -30,10 +30,10 @@ mod stage;
 
 pub use finds::{Found, find_back, find_request};
 pub use joins::join;
-pub use node::{RouterNode, take_sent, try_at};
+pub use node::{RouterNode, send_at, take_sent};
 pub use router_moves::{
     Back, BegunBelow, Down, End, FromBelow, Passed, PassedOn, Rest, RouterRequest, RouterResponse,
     Sent, Turned, WayBehind, descend, end_above, end_below, fetch_down, fetch_up, has_ended_above,
     pass_on, refuse, release, send_up, serve_below, turn, turn_up, way_behind,
 };
-pub use stage::{SentUp, Stage, Step, end_away, look_for_end, move_on, send, serve, settle};
+pub use stage::{SentUp, Stage, Step, look_for_end, send, serve, settle};

@@ -16,9 +16,9 @@ ghost use Rattle.router_node.specs.declared.stage.Stage.TheVariants as Stages;
 ghost use Rattle.router_node.specs.declared.stage.Step.TheVariants as Steps;
 
 use crate::finds::{Found, find_back, find_request};
-use crate::haste::{Wanted, hops_at, leaves_out, may_move};
+use crate::haste::{Due, Wanted, hops_at, may_move, next_place};
 use crate::joins::{is_joined, join};
-use crate::stage::{SentUp, Stage, Step, finish_away, is_about, look_for_end, move_on};
+use crate::stage::{SentUp, Stage, Step, finish_away, look_for_end, pass, send};
 use node_hops::{Node, Pumped};
 use plat_net::{Net, PlatNote, TlmLaw};
 use route_plan::Plan;
@@ -96,6 +96,7 @@ fn gap() -> Stage
 }
 
 // Takes out the transaction at a place, and leaves a gap there.
+#[inline(always)]
 fn take_out(held: &mut VecDeque<Stage>, at: usize) -> Stage
     requires { at < length held.old.items }
     ensures was { StandsAt held.old.items at result }
@@ -106,6 +107,7 @@ fn take_out(held: &mut VecDeque<Stage>, at: usize) -> Stage
 }
 
 // Puts a transaction where there was a gap.
+#[inline(always)]
 fn put_back(held: &mut VecDeque<Stage>, at: usize, stage: Stage)
     requires { at < length held.old.items }
     ensures items { held.new.items ≡ slice_set held.old.items at stage }
@@ -159,17 +161,15 @@ fn end_at<N: Naming<Plan, TlmLaw>, R: Wait>(
     (at, true, note)
 }
 
-/// Makes a step that is a try with the transaction at a place, if it is one for it. What it makes of it stands
-/// there then. The place of the next transaction, and whether this one was moved.
-pub fn try_at<N: Naming<Plan, TlmLaw>, R: Wait>(
+/// Tries to send the response at a place up, if one that is to go up stands there. What it makes of it stands there then.
+/// The place of the next transaction, and whether this one was moved.
+pub fn send_at<N: Naming<Plan, TlmLaw>, R: Wait>(
     net: &Net<N>,
     rt: &R,
-    what: Step,
     note: PlatNote,
     held: &mut VecDeque<Stage>,
     at: usize,
 ) -> (usize, bool, PlatNote)
-    requires tries { what ≢ Steps.End }
     requires there { at < length held.old.items }
     requires note { IsNote N.table note }
     requires below { StandBelow note.knows.known note.knows.seen }
@@ -179,25 +179,57 @@ pub fn try_at<N: Naming<Plan, TlmLaw>, R: Wait>(
     ensures below { StandBelow result.2.knows.known result.2.knows.seen }
     ensures held { AllByRecursion (IsStage N.frame N.tokens result.2.knows.known) held.new.items }
     ensures capacity { deque_capacity held.new ≡ deque_capacity held.old }
-    ensures adds { what ≡ Steps.Send → result.1 ≡ true → AddsOnHop N.frame.world note.knows result.2.knows }
-    ensures moved { MovesAt N.frame false what at held.old.items held.new.items note.knows result.2.knows result.0 result.1 }
+    ensures adds { result.1 ≡ true → AddsOnHop N.frame.world note.knows result.2.knows }
+    ensures moved { MovesAt N.frame false Steps.Send at held.old.items held.new.items note.knows result.2.knows result.0 result.1 }
 {
-    if !is_about(what, &held[at]) {
+    let Stage::Up(_, _) = &held[at] else {
         return (at + 1, false, note);
-    }
-    let stage = take_out(held, at);
-    let (stage, moved, note) = move_on(net, rt, what, note, stage);
+    };
+    let Stage::Up(response, rest) = take_out(held, at) else {
+        unreachable!()
+    };
+    let (stage, moved, note) = send(net, rt, note, response, rest);
     let Some(stage) = stage else { unreachable!() };
     put_back(held, at, stage);
     (at + 1, moved, note)
 }
 
-// Comes by the transaction at a place: makes the step with it, or in haste leaves it out where that is likely to be in vain.
-// The place of the next one, and whether this one was moved.
+// Tries to pass the request at a place on, if one that is to go down stands there. What it makes of it stands there then.
+// The place of the next transaction, and whether this one was moved.
+fn pass_at<N: Naming<Plan, TlmLaw>, R: Wait>(
+    net: &Net<N>,
+    rt: &R,
+    note: PlatNote,
+    held: &mut VecDeque<Stage>,
+    at: usize,
+) -> (usize, bool, PlatNote)
+    requires there { at < length held.old.items }
+    requires note { IsNote N.table note }
+    requires below { StandBelow note.knows.known note.knows.seen }
+    requires held { AllByRecursion (IsStage N.frame N.tokens note.knows.known) held.old.items }
+    ensures note { IsNote N.table result.2 }
+    ensures knew { Within note.knows.known result.2.knows.known }
+    ensures below { StandBelow result.2.knows.known result.2.knows.seen }
+    ensures held { AllByRecursion (IsStage N.frame N.tokens result.2.knows.known) held.new.items }
+    ensures capacity { deque_capacity held.new ≡ deque_capacity held.old }
+    ensures moved { MovesAt N.frame false Steps.Pass at held.old.items held.new.items note.knows result.2.knows result.0 result.1 }
+{
+    let Stage::Down(_) = &held[at] else {
+        return (at + 1, false, note);
+    };
+    let Stage::Down(down) = take_out(held, at) else {
+        unreachable!()
+    };
+    let (stage, moved, note) = pass(net, rt, note, down);
+    put_back(held, at, stage);
+    (at + 1, moved, note)
+}
+
+// Comes by the transaction at a place: makes the step with it, if it is one for it. The place of the next one, and whether
+// this one was moved.
 fn come_by<N: Naming<Plan, TlmLaw>, R: Wait>(
     net: &Net<N>,
     rt: &R,
-    hasty: bool,
     what: Step,
     note: PlatNote,
     held: &mut VecDeque<Stage>,
@@ -212,14 +244,12 @@ fn come_by<N: Naming<Plan, TlmLaw>, R: Wait>(
     ensures below { StandBelow result.2.knows.known result.2.knows.seen }
     ensures held { AllByRecursion (IsStage N.frame N.tokens result.2.knows.known) held.new.items }
     ensures capacity { deque_capacity held.new ≡ deque_capacity held.old }
-    ensures moved { MovesAt N.frame hasty what at held.old.items held.new.items note.knows result.2.knows result.0 result.1 }
+    ensures moved { MovesAt N.frame false what at held.old.items held.new.items note.knows result.2.knows result.0 result.1 }
 {
-    if hasty && leaves_out(net, what, &held[at]) {
-        return (at + 1, false, note);
-    }
     match what {
         Step::End => end_at(net, rt, note, held, at),
-        _ => try_at(net, rt, what, note, held, at),
+        Step::Send => send_at(net, rt, note, held, at),
+        Step::Pass => pass_at(net, rt, note, held, at),
     }
 }
 
@@ -247,7 +277,11 @@ fn sweep<N: Naming<Plan, TlmLaw>, R: Wait>(
     let mut moved = false;
     let mut at = 0;
     for _k in 0..held.len() {
-        let (next, did, back) = come_by(net, rt, hasty, what, note, held, at);
+        at = next_place(net, hasty, what, held, at);
+        if at >= held.len() {
+            return (moved, note);
+        }
+        let (next, did, back) = come_by(net, rt, what, note, held, at);
         at = next;
         note = back;
         moved = either(moved, did);
@@ -301,15 +335,17 @@ fn stage_of(turned: Turned) -> Stage
 }
 
 impl RouterNode {
-    // Makes a step with each transaction that is held, in order of arrival. Whether one was moved.
+    // Makes a step with each transaction that is held, in order of arrival; in haste where it is due. Whether one was moved.
     fn sweep<N: Naming<Plan, TlmLaw>, R: Wait>(
         &mut self,
         net: &Net<N>,
         rt: &R,
         hasty: bool,
+        due: bool,
         what: Step,
         note: PlatNote,
     ) -> (bool, PlatNote)
+        requires due { hasty ≡ false → due ≡ true }
         requires router { IsRouter N.frame N.tokens self.old note.knows.known }
         requires note { IsNote N.table note }
         requires below { StandBelow note.knows.known note.knows.seen }
@@ -319,6 +355,9 @@ impl RouterNode {
         ensures below { StandBelow result.1.knows.known result.1.knows.seen }
         ensures swept { HasSwept N.frame N.tokens hasty what self.old self.new note.knows result.1.knows result.0 }
     {
+        if !due {
+            return (false, note);
+        }
         sweep(net, rt, hasty, what, note, &mut self.held)
     }
 
@@ -411,9 +450,10 @@ impl RouterNode {
         ensures below { StandBelow result.1.knows.known result.1.knows.seen }
         ensures gone { GoesThrough N.frame N.tokens hasty self.old self.new note result.1 result.0 }
     {
-        let (ends, note) = self.sweep(net, rt, hasty, Step::End, note);
-        let (sends, note) = self.sweep(net, rt, hasty, Step::Send, note);
-        let (passes, note) = self.sweep(net, rt, hasty, Step::Pass, note);
+        let due = Due::of(net, hasty, &self.held);
+        let (ends, note) = self.sweep(net, rt, hasty, due.ends, Step::End, note);
+        let (sends, note) = self.sweep(net, rt, hasty, due.sends, Step::Send, note);
+        let (passes, note) = self.sweep(net, rt, hasty, due.passes, Step::Pass, note);
         let (joins, note) = self.take_back(net, rt, hasty, note);
         let (takes, note) = self.take_in(net, rt, hasty, note);
         let moved = either(ends, either(sends, either(passes, either(joins, takes))));
@@ -448,25 +488,6 @@ impl RouterNode {
         requires held { self.held.items ≡ [] }
         requires stray { self.stray ≡ None }
     {}
-
-    /// All that it holds, wherever it has come: the transactions in order of arrival, and a response of none of them.
-    pub fn into_parts(self) -> (VecDeque<Stage>, Option<Found>)
-        ensures held { result.0 ≡ self.held }
-        ensures stray { result.1 ≡ self.stray }
-    {
-        let RouterNode {
-            router: _,
-            first: _,
-            accepts: _,
-            latency: _,
-            above: _above,
-            below: _below,
-            held,
-            room: _,
-            stray,
-        } = self;
-        (held, stray)
-    }
 }
 
 impl<N: Naming<Plan, TlmLaw>> Node<N> for RouterNode {

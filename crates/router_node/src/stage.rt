@@ -128,31 +128,6 @@ pub fn look_for_end<N: Naming<Plan, TlmLaw>, R: Wait>(
     has_ended_above(net, rt, away.above, note, away.txn)
 }
 
-/// Where a response that was sent has ended above, makes what is left to be made below: END_RESP where it is
-/// owed, and the Release (IEEE 1666-2011, clauses 14.5 and 15.2). The transaction is forgotten then.
-pub fn end_away<N: Naming<Plan, TlmLaw>, R: Wait>(
-    net: &Net<N>,
-    rt: &R,
-    note: PlatNote,
-    away: SentUp,
-) -> (Option<Stage>, bool, PlatNote)
-    requires note { IsNote N.table note }
-    requires below { StandBelow note.knows.known note.knows.seen }
-    requires away { IsAway N.frame N.tokens note.knows.known away }
-    ensures note { IsNote N.table result.2 }
-    ensures knew { Within note.knows.known result.2.knows.known }
-    ensures below { StandBelow result.2.knows.known result.2.knows.seen }
-    ensures stage { IfSome result.0 (IsStage N.frame N.tokens result.2.knows.known) }
-    ensures stepped { HasStepped N.frame Steps.End (Stages.Sent away) note.knows result.2.knows result.1 result.0 }
-{
-    let (ended, note) = look_for_end(net, rt, note, &away);
-    if !ended {
-        return (Some(Stage::Sent(away)), false, note);
-    }
-    let note = finish_away(net, rt, note, away);
-    (None, true, note)
-}
-
 /// Tries to send a response up, by BEGIN_RESP (IEEE 1666-2011, clause 15.2).
 pub fn send<N: Naming<Plan, TlmLaw>, R: Wait>(
     net: &Net<N>,
@@ -246,9 +221,9 @@ pub fn serve<N: Naming<Plan, TlmLaw>, R: Wait>(
     (Stage::Up(response, Some(rest)), note)
 }
 
-// Tries to pass a request on. Where its response comes by return, the memory is called, and the response is
-// to go up.
-fn pass<N: Naming<Plan, TlmLaw>, R: Wait>(
+/// Tries to pass a request on. Where its response comes by return, the memory is called, and the response is
+/// to go up.
+pub(crate) fn pass<N: Naming<Plan, TlmLaw>, R: Wait>(
     net: &Net<N>,
     rt: &R,
     note: PlatNote,
@@ -286,43 +261,5 @@ pub(crate) fn is_about(what: Step, stage: &Stage) -> bool
         Stage::Up(_, _) => matches!(what, Step::Send),
         Stage::Down(_) => matches!(what, Step::Pass),
         Stage::Below(_) => false,
-    }
-}
-
-/// Makes one step with a transaction that the router holds. Others than those of the step stay as they are.
-pub fn move_on<N: Naming<Plan, TlmLaw>, R: Wait>(
-    net: &Net<N>,
-    rt: &R,
-    what: Step,
-    note: PlatNote,
-    stage: Stage,
-) -> (Option<Stage>, bool, PlatNote)
-    requires note { IsNote N.table note }
-    requires below { StandBelow note.knows.known note.knows.seen }
-    requires stage { IsStage N.frame N.tokens note.knows.known stage }
-    ensures note { IsNote N.table result.2 }
-    ensures knew { Within note.knows.known result.2.knows.known }
-    ensures below { StandBelow result.2.knows.known result.2.knows.seen }
-    ensures stage { IfSome result.0 (IsStage N.frame N.tokens result.2.knows.known) }
-    ensures adds { what ≡ Steps.Send → result.1 ≡ true → AddsOnHop N.frame.world note.knows result.2.knows }
-    ensures stepped { HasStepped N.frame what stage note.knows result.2.knows result.1 result.0 }
-{
-    match stage {
-        Stage::Sent(away) => match what {
-            Step::End => end_away(net, rt, note, away),
-            _ => (Some(Stage::Sent(away)), false, note),
-        },
-        Stage::Up(response, rest) => match what {
-            Step::Send => send(net, rt, note, response, rest),
-            _ => (Some(Stage::Up(response, rest)), false, note),
-        },
-        Stage::Down(down) => match what {
-            Step::Pass => {
-                let (stage, moved, note) = pass(net, rt, note, down);
-                (Some(stage), moved, note)
-            }
-            _ => (Some(Stage::Down(down)), false, note),
-        },
-        Stage::Below(held) => (Some(Stage::Below(held)), false, note),
     }
 }

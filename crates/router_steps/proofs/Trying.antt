@@ -65,12 +65,6 @@ none_owed None q = refl
 none_owed (Some x) q = cc
 
 -- one that isn't to go down
-pub not_down : (s : Stage) → ((d : ToPass) → s ≡ Down d → ⊥) → is_about Pass s ≡ false
-not_down (Down d) n = absurd (n d refl)
-not_down (Below h) n = refl
-not_down (Up r rest) n = refl
-not_down (Sent a) n = refl
-
 pub isnt_down : (s : Stage) → ((d : ToPass) → s ≡ Down d → ⊥) → is_down s ≡ false
 isnt_down (Down d) n = absurd (n d refl)
 isnt_down (Below h) n = refl

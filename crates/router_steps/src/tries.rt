@@ -22,7 +22,7 @@ use crate::steps::Due;
 use plat_net::{Net, PlatNote, TlmLaw};
 use route_plan::Plan;
 use router_moves::{BegunBelow, Down, End, Passed, PassedOn, end_below, pass_on, release};
-use router_node::{RouterNode, SentUp, Stage, Step, look_for_end, take_sent, try_at};
+use router_node::{RouterNode, SentUp, Stage, Step, look_for_end, send_at, take_sent};
 use shared_object::Naming;
 use std::collections::VecDeque;
 use std::sync::Wait;
@@ -222,7 +222,7 @@ fn send_one<N: Naming<Plan, TlmLaw>, R: Wait>(
     ensures adds { TryAdds N.frame.world note.knows.known result.1.knows.known result.0 }
     ensures tried { HasTried N.frame N.tokens result.1.knows.known (length held.new.items) (length held.old.items) (MovesAt N.frame false Steps.Send at held.old.items held.new.items note.knows result.1.knows (at + 1) false) result.0 }
 {
-    let (_, moved, note) = try_at(net, rt, Step::Send, note, held, at);
+    let (_, moved, note) = send_at(net, rt, note, held, at);
     if !moved {
         return (Tried::Nothing, note);
     }

@@ -28,8 +28,7 @@ fn expect_idle<N: Naming<Plan, TlmLaw>>(rt: &impl Abort, alloc: Global, net: &Ne
     requires memory { 0 < length N.frame.world.platform.memories }
 {
     let router = RouterNode::new(alloc, net, 0).expect(rt, "memory");
-    let (stages, stray) = router.into_parts();
-    assert!(rt; stages.is_empty() && stray.is_none());
+    router.finish();
     let target = TargetNode::new(alloc, net, 0).expect(rt, "memory");
     let (queue, held) = target.into_parts();
     assert!(rt; queue.is_empty() && held.is_none());

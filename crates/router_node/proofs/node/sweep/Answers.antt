@@ -1,29 +1,40 @@
 use Rattle.std.proofs.Common.{◌<◌, length, ◌∙◌, arith}
 use Rattle.node_hops.proofs.Looks.{within_on}
-use Rattle.router_node.proofs.Sweeps.{part_here, part_next}
+use Rattle.router_node.proofs.Skips.{none_left, on_end, on_more, on_to, on_within}
 use Rattle.router_node.proofs.node.sweep.Goals as goal
 
+pub next_place-at-requires : goal.next_place-at-requires
+next_place-at-requires g c = on_within g.N.Naming.frame c.args.hasty c.args.what c.args.held.now.items c.loop-k._k c.loop-k.at c.loop-k.held.items c.args.note.knows c.loop-k.note.knows c.loop-k.moved c.loop-k.invariant.swept
+
 pub come_by-next-requires-clause-there : goal.come_by-next-requires-clause-there
-come_by-next-requires-clause-there g c =
-    let old = c.args.held.now.items in
-    let below : c.loop-k._k < length old = omega (arith, c.loop-k-test.true, c.len-k-end.ensures, c.args.held.now.ok.0) in
-    part_here g.N.Naming.frame c.args.hasty c.args.what old c.loop-k._k c.loop-k.at c.loop-k.held.items c.args.note.knows c.loop-k.note.knows c.loop-k.moved below c.loop-k.invariant.swept
+come_by-next-requires-clause-there g c = let h = c.loop-k.held.ok in omega (arith, c.if-at-len.false, c.len.ensures, h)
+
+pub returns-then-at-len-clause-swept : goal.returns-then-at-len-clause-swept
+returns-then-at-len-clause-swept g c =
+    let e = c.next_place-at.ensures in
+    let h = c.loop-k.held.ok in
+    none_left g.N.Naming.frame c.args.hasty c.args.what c.args.held.now.items c.loop-k._k c.next_place-at.result c.loop-k.held.items c.args.note.knows c.loop-k.note.knows c.loop-k.moved (λ l. omega (arith, l, c.if-at-len.true, c.len.ensures, h))
+    (on_to g.N.Naming.frame c.args.hasty c.args.what c.args.held.now.items c.loop-k._k c.loop-k.at c.next_place-at.result c.loop-k.held.items c.args.note.knows c.loop-k.note.knows c.loop-k.moved e.on e.within e.each c.loop-k.invariant.swept)
 
 pub loop-k-preserved : goal.loop-k-preserved
 loop-k-preserved g c =
     let frame = g.N.Naming.frame in
     let i = c.loop-k.invariant in
-    let e = c.come_by-next.ensures in
+    let e = c.next_place-at.ensures in
+    let d = c.come_by-next.ensures in
     let old = c.args.held.now.items in
+    let at = c.next_place-at.result in
     let r = c.come_by-next.result in
-    let below : c.loop-k._k < length old = omega (arith, c.loop-k-test.true, c.len-k-end.ensures, c.args.held.now.ok.0) in
+    let h = c.loop-k.held.ok in
+    let there : at < length c.loop-k.held.items = omega (arith, c.if-at-len.false, c.len.ensures, h) in
     record {
-      note = e.note;
-      knew = within_on c.args.note.knows.known c.loop-k.note.knows.known c.come_by-next.result.2.knows.known i.knew e.knew;
-      below = e.below;
-      held = e.held;
-      capacity = e.capacity ∙ i.capacity;
-      swept = part_next frame c.args.hasty c.args.what old c.loop-k._k c.loop-k.at r.0 c.loop-k.held.items c.come_by-next.new.held.items c.args.note.knows c.loop-k.note.knows c.come_by-next.result.2.knows c.loop-k.moved r.1 c.either-moved.result c.either-moved.ensures below i.swept e.knew e.moved;
+      note = d.note;
+      knew = within_on c.args.note.knows.known c.loop-k.note.knows.known r.2.knows.known i.knew d.knew;
+      below = d.below;
+      held = d.held;
+      capacity = d.capacity ∙ i.capacity;
+      swept = on_more frame c.args.hasty c.args.what old c.loop-k._k at r.0 c.loop-k.held.items c.come_by-next.new.held.items c.args.note.knows c.loop-k.note.knows r.2.knows c.loop-k.moved r.1 c.either-moved.result c.either-moved.ensures there
+          (on_to frame c.args.hasty c.args.what old c.loop-k._k c.loop-k.at at c.loop-k.held.items c.args.note.knows c.loop-k.note.knows c.loop-k.moved e.on e.within e.each i.swept) d.knew d.moved;
     }
 
 pub come_by-next-requires-clause-note : goal.come_by-next-requires-clause-note
@@ -34,6 +45,21 @@ come_by-next-requires-clause-below g c = c.loop-k.invariant.below
 
 pub come_by-next-requires-clause-held : goal.come_by-next-requires-clause-held
 come_by-next-requires-clause-held g c = c.loop-k.invariant.held
+
+pub returns-then-at-len-clause-note : goal.returns-then-at-len-clause-note
+returns-then-at-len-clause-note g c = c.loop-k.invariant.note
+
+pub returns-then-at-len-clause-knew : goal.returns-then-at-len-clause-knew
+returns-then-at-len-clause-knew g c = c.loop-k.invariant.knew
+
+pub returns-then-at-len-clause-below : goal.returns-then-at-len-clause-below
+returns-then-at-len-clause-below g c = c.loop-k.invariant.below
+
+pub returns-then-at-len-clause-held : goal.returns-then-at-len-clause-held
+returns-then-at-len-clause-held g c = c.loop-k.invariant.held
+
+pub returns-then-at-len-clause-capacity : goal.returns-then-at-len-clause-capacity
+returns-then-at-len-clause-capacity g c = c.loop-k.invariant.capacity
 
 pub returns-clause-note : goal.returns-clause-note
 returns-clause-note g c = c.loop-k.invariant.note
@@ -49,3 +75,8 @@ returns-clause-held g c = c.loop-k.invariant.held
 
 pub returns-clause-capacity : goal.returns-clause-capacity
 returns-clause-capacity g c = c.loop-k.invariant.capacity
+
+pub returns-clause-swept : goal.returns-clause-swept
+returns-clause-swept g c =
+    let h = c.args.held.now.ok in
+    on_end g.N.Naming.frame c.args.hasty c.args.what c.args.held.now.items c.loop-k._k c.loop-k.at c.loop-k.held.items c.args.note.knows c.loop-k.note.knows c.loop-k.moved (λ l. omega (arith, l, c.loop-k-test.false, c.len-k-end.ensures, h)) c.loop-k.invariant.swept

@@ -5,7 +5,7 @@ use Rattle.view_lists.specs.Lists.{Within}
 use Rattle.one_history.specs.Lists.{StandBelow}
 use Rattle.shared_object.specs.Steps.{IsNote}
 use Rattle.router_node.specs.Stages.{IsStage}
-use Rattle.router_node.proofs.Sweeps.{IsPartSwept}
+use Rattle.router_node.proofs.Skips.{IsSweptOn}
 use Rattle.router_node.proofs.node.sweep.Given as goal
 
 abbrev pub invariant-loop-k : goal.invariant-loop-k
@@ -15,5 +15,5 @@ invariant-loop-k g l = record {
   below : StandBelow l.note.knows.known l.note.knows.seen;
   held : AllByRecursion (IsStage g.N.Naming.frame g.N.Naming.tokens l.note.knows.known) l.held.items;
   capacity : deque_capacity l.held ≡ deque_capacity l.fn.held;
-  swept : IsPartSwept g.N.Naming.frame l.fn.hasty l.fn.what l.fn.held.items l._k l.at l.held.items l.fn.note.knows l.note.knows l.moved;
+  swept : IsSweptOn g.N.Naming.frame l.fn.hasty l.fn.what l.fn.held.items l._k l.at l.held.items l.fn.note.knows l.note.knows l.moved;
 }

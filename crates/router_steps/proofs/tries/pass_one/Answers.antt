@@ -11,9 +11,9 @@ use Rattle.router_node.specs.declared.stage.Stage.TheVariants.{Down}
 use Rattle.router_node.specs.declared.stage.Step.TheVariants.{Pass}
 use Rattle.router_node.proofs.ByReturn.{gone_of}
 use Rattle.router_node.proofs.Holds.{all_more}
-use Rattle.router_node.proofs.Moving.{idle}
+use Rattle.router_node.proofs.Moving.{passed_by_down}
 use Rattle.router_node.proofs.Places.{stands, that_one, without}
-use Rattle.router_steps.proofs.Trying.{all_insert, busy_again, count_without, dues_room, not_down}
+use Rattle.router_steps.proofs.Trying.{all_insert, busy_again, count_without, dues_room}
 use Rattle.router_node.proofs.Adding.{at_hop}
 use Rattle.router_moves.proofs.Hops.{on_plan}
 use Rattle.router_steps.proofs.tries.pass_one.Goals as goal
@@ -42,7 +42,7 @@ returns-in_default-clause-held g c = c.requires.held
 pub returns-in_default-clause-tried : goal.returns-in_default-clause-tried
 returns-in_default-clause-tried g c =
     let items = c.args.held.now.items in
-    idle g.N.Naming.frame Pass c.args.at items c.index.result.now c.args.note.knows (stands items c.args.at c.index.result.now c.requires.there c.index.ensures) (not_down c.index.result.now c.in_default.not-Down)
+    passed_by_down g.N.Naming.frame c.args.at items c.index.result.now c.args.note.knows (stands items c.args.at c.index.result.now c.requires.there c.index.ensures) c.in_default.not-Down
 
 pub take_down-down-requires : goal.take_down-down-requires
 take_down-down-requires g c =

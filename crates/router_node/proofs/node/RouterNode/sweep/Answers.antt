@@ -1,6 +1,7 @@
 use Rattle.std.proofs.Common.{◌≤◌, length, refl, arith}
 use Rattle.std.specs.VecDeque.{deque_capacity}
 use Rattle.router_node.proofs.Holds.{keeps, stray_more}
+use Rattle.router_node.proofs.Skips.{all_left_out, hasty_then}
 use Rattle.router_node.proofs.Sweeps.{sweeps_few}
 use Rattle.router_node.proofs.node.RouterNode.sweep.Goals as goal
 
@@ -35,3 +36,22 @@ returns-clause-knew g c = c.sweep.ensures.knew
 
 pub returns-clause-below : goal.returns-clause-below
 returns-clause-below g c = c.sweep.ensures.below
+
+pub returns-then-not-due-clause-swept : goal.returns-then-not-due-clause-swept
+returns-then-not-due-clause-swept g c = record {
+  swept = all_left_out g.N.Naming.frame c.args.hasty c.args.what c.args.self.now.held.items c.args.note.knows (hasty_then c.args.hasty c.args.due c.requires.due c.if-not-due.true);
+  knew = λ x has. has;
+  same = refl;
+}
+
+pub returns-then-not-due-clause-router : goal.returns-then-not-due-clause-router
+returns-then-not-due-clause-router g c = c.requires.router
+
+pub returns-then-not-due-clause-note : goal.returns-then-not-due-clause-note
+returns-then-not-due-clause-note g c = c.requires.note
+
+pub returns-then-not-due-clause-knew : goal.returns-then-not-due-clause-knew
+returns-then-not-due-clause-knew g c = λ x has. has
+
+pub returns-then-not-due-clause-below : goal.returns-then-not-due-clause-below
+returns-then-not-due-clause-below g c = c.requires.below
