@@ -73,8 +73,29 @@ fn may_go<N: Naming<Plan, TlmLaw>>(net: &Net<N>, stage: &Stage) -> bool {
     }
 }
 
+// The first place from here on whose transaction a step may move.
+#[inline(always)]
+fn next_due<N: Naming<Plan, TlmLaw>>(
+    net: &Net<N>,
+    what: Step,
+    held: &VecDeque<Stage>,
+    from: usize,
+) -> usize
+    requires { from ≤ length held.now.items }
+    ensures on { from ≤ result }
+    ensures within { result ≤ length held.now.items }
+{
+    for at in from..held.len() {
+        let stage = &held[at];
+        if is_about(what, stage) && may_go(net, stage) {
+            return at;
+        }
+    }
+    held.len()
+}
+
 /// The place at which to make a step next: this one, or in haste the first from here on whose transaction it may move. It
-/// is behind all of them where there is none.
+/// is behind all of them where there is none. Each step has a loop of its own, which asks for nothing else.
 #[inline(always)]
 pub(crate) fn next_place<N: Naming<Plan, TlmLaw>>(
     net: &Net<N>,
@@ -91,12 +112,11 @@ pub(crate) fn next_place<N: Naming<Plan, TlmLaw>>(
     if !hasty {
         return from;
     }
-    for at in from..held.len() {
-        if is_about(what, &held[at]) && may_go(net, &held[at]) {
-            return at;
-        }
+    match what {
+        Step::End => next_due(net, Step::End, held, from),
+        Step::Send => next_due(net, Step::Send, held, from),
+        Step::Pass => next_due(net, Step::Pass, held, from),
     }
-    held.len()
 }
 
 /// Which steps a going through is to make: all, or in haste those that may move a transaction.
@@ -114,8 +134,7 @@ fn due_in_haste<N: Naming<Plan, TlmLaw>>(net: &Net<N>, held: &VecDeque<Stage>) -
         sends: false,
         passes: false,
     };
-    for at in 0..held.len() {
-        let stage = &held[at];
+    for stage in held.iter() {
         match stage {
             Stage::Sent(_) => due.ends = due.ends || may_go(net, stage),
             Stage::Up(_, _) => due.sends = due.sends || may_go(net, stage),
