@@ -14,7 +14,7 @@ use Rattle.router_node.specs.Node.{DoesNothing, GoesThrough, MovesAt, left}
 use Rattle.router_node.specs.Places.{StandsAt}
 use Rattle.plat_net.specs.Places.{hop_place}
 use Rattle.router_moves.specs.declared.items.Down.{Down as ToPass}
-use Rattle.router_node.specs.Stages.{ComesBy, is_about, standing}
+use Rattle.router_node.specs.Stages.{ComesBy, standing}
 use Rattle.router_steps.specs.Stepped.{FetchesNone, HasTried, IsDue, MovesNone}
 use Rattle.router_node.specs.Stages.{is_down}
 use Rattle.router_node.specs.declared.node.RouterNode.{RouterNode}

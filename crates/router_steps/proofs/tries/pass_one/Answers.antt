@@ -8,7 +8,6 @@ use Rattle.router_node.specs.Places.{StandsAt}
 use Rattle.router_node.specs.Stages.{IsStage}
 use Rattle.router_node.specs.declared.stage.Stage.{Stage}
 use Rattle.router_node.specs.declared.stage.Stage.TheVariants.{Down}
-use Rattle.router_node.specs.declared.stage.Step.TheVariants.{Pass}
 use Rattle.router_node.proofs.ByReturn.{gone_of}
 use Rattle.router_node.proofs.Holds.{all_more}
 use Rattle.router_node.proofs.Moving.{passed_by_down}
