@@ -4,6 +4,7 @@ pub mod SupplyLemmas
 pub mod HopLemmas
 pub mod PoolLemmas
 pub mod KeptLemmas
+pub mod StartLemmas
 pub mod OpenLemmas
 pub mod BuildLemmas
 pub mod WaitLemmas

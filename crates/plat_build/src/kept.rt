@@ -1,5 +1,5 @@
 // What waits to be handed out: what each initiator starts with, and the notes of routers and memories.
-ghost use Rattle.std.specs.Prelude.{◌≡◌, ◌+◌, ◌<◌, ◌≤◌, true, false, All, IsSome, length, map, replicate, slice_get, slice_set, is_some, IfOk, OnOk};
+ghost use Rattle.std.specs.Prelude.{◌≡◌, ◌+◌, ◌<◌, ◌≤◌, true, false, All, IsSome, length, map, replicate, slice_get, slice_set, is_some, IfOk, IsSomeAnd, OnOk};
 ghost use Rattle.cargo_model.specs.Known.{objects_of};
 ghost use Rattle.plat_build.specs.Kept.{all_waiting, AreBlank, AreStarts, IsBlank, IsStart};
 ghost use Rattle.plat_net.specs.Objects.{notes_of};
@@ -7,12 +7,13 @@ ghost use Rattle.plat_build.specs.Tickets.{AreStocked, IsStocked};
 ghost use Rattle.plat_build.specs.Unused.{HaveTicketsFrom};
 
 use generic_payload::Payload;
-use plat_net::{PlatNote, TlmLaw};
+use plat_net::{Net, PlatNote, TlmLaw};
 use route_plan::Plan;
 use script_engine::Engine;
 use shared_object::Naming;
 use std::alloc::{AllocError, Global};
 use std::marker::{Model, PhantomData};
+use tlm_model::Style;
 use tlm_types::Memory;
 use token_book::Wallet;
 
@@ -134,6 +135,15 @@ impl<N: Naming<Plan, TlmLaw>> Kept<N> {
         } = self;
         wallets_of::<N>(alloc, starts)
     }
+}
+
+/// The style of the initiator with this number, which tells how it is to begin.
+pub fn style_of<N: Naming<Plan, TlmLaw>>(net: &Net<N>, number: u32) -> Style
+    requires { number < length net.now.platform.initiators }
+    ensures { IsSomeAnd (slice_get net.now.platform.initiators number) (λ row. row.style ≡ result) }
+{
+    let rows = net.plan().platform().initiators.as_slice();
+    rows[number as usize].style
 }
 
 // The wallets of what waits for all initiators.

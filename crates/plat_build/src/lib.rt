@@ -3,7 +3,8 @@
 //! - `Opened` is the history of a plan with the books of its tokens. Its objects are the memories, the
 //!   hops and the pools of four-phase initiators, numbered in this order.
 //! - `build` makes a `Net` of it, which threads share: the plan, the history, the tokens, and each object
-//!   with its log. What it makes for the initiators, routers and memories waits in `Kept`.
+//!   with its log. What it makes for the initiators, routers and memories waits in `Kept`. `style_of` tells by which style
+//!   an initiator is to begin.
 //! - `close_unused` ends the history of a net of which nothing was handed out.
 //!
 //! Promises: the history is made with what the plan counts, in the world that is the plan; each memory, hop
@@ -25,6 +26,6 @@ mod unused;
 mod wallets;
 
 pub use building::{Built, build};
-pub use kept::{Kept, Start};
+pub use kept::{Kept, Start, style_of};
 pub use opened::Opened;
 pub use unused::close_unused;

@@ -18,7 +18,7 @@ use Rattle.generic_payload.specs.Payload.{PayloadView}
 use Rattle.cargo_model.specs.Known.{object_number, objects_of}
 use Rattle.route_plan.specs.Valid.{IsValid}
 use Rattle.route_plan.proofs.ShareLemmas.{count_initiators}
-use Rattle.script_engine.specs.State.{State, begun_engine}
+use Rattle.script_engine.specs.State.{begun_engine}
 use Rattle.port_model.specs.Ends.{IsEndOfPort}
 use Rattle.port_end.specs.Arrives.{events_of}
 use Rattle.port_end.proofs.Arrives.{knows_more}
@@ -31,28 +31,23 @@ use Rattle.net_end.specs.Closed.{events_in}
 use Rattle.net_end.specs.Done.{IsDoneWithGrants}
 use Rattle.plat_build.specs.declared.kept.Start.{Start}
 use Rattle.plat_build.specs.Kept.{IsStart}
+use Rattle.plat_build.proofs.StartLemmas.{has_style, number_begun}
 use Rattle.run_outcome.proofs.ListLemmas.{has_element}
 use Rattle.net_end.specs.Leaves.{IsFinished}
 use Rattle.plat_run.specs.Turn.{finishes}
 use Rattle.decoupled_run.proofs.BeginLemmas.{nothing_past, script_from}
-use Rattle.plat_run.proofs.BeginLemmas.{has_style}
 
 module _ (table tokens : TableId) (p : Plan) (valid : IsValid p) (n : ℕ) (s : Start) (below : n < length p.platform.initiators) (style : IsSomeAnd (slice_get p.platform.initiators n) (λ (row : InitiatorRow). row.style ≡ FourPhase)) (start : IsStart table tokens p n s) where
   -- the engine of an initiator begins with its script
   engine_begun : (i : Initiator) → slice_get (initiators_of p) n ≡ Some i → s.engine ≡ begun_engine n i.script
   engine_begun i at = subst (λ (o : Option (List Operation)). IsSomeAnd o (λ (x : List Operation). s.engine ≡ begun_engine n x)) (script_from 0 n p.platform.initiators p.scripts i at) start.engine
 
-  pub number_begun : s.engine.initiator ≡ n
-  number_begun =
-      let found = has_element (initiators_of p) n (omega (arith, count_initiators 0 p.platform.initiators p.scripts valid.scripts)) in
-      ap (λ (e : State). e.initiator) (engine_begun found.element found.at)
-
   -- a four-phase initiator has what a port begins with
   pub port_begun : IsFresh table tokens p s.engine.initiator s.engine s.payload s.note s.wallet
   port_begun =
       let found = has_element (initiators_of p) n (omega (arith, count_initiators 0 p.platform.initiators p.scripts valid.scripts)) in
       let i = found.element in
-      subst (λ (k : ℕ). IsFresh table tokens p k s.engine s.payload s.note s.wallet) (sym number_begun) (record {
+      subst (λ (k : ℕ). IsFresh table tokens p k s.engine s.payload s.note s.wallet) (sym (number_begun table tokens p n s start)) (record {
         initiator = i;
         is = found.at;
         style = has_style p n i FourPhase found.at style;

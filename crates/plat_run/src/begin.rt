@@ -10,7 +10,7 @@ use crate::nodes::NodeJob;
 use crate::port_job::PortJob;
 use decoupled_run::DecoupledInitiator;
 use fourphase_port::Port;
-use plat_build::{Kept, Start};
+use plat_build::{Kept, Start, style_of};
 use plat_net::{Net, TlmLaw};
 use route_plan::Plan;
 use router_node::RouterNode;
@@ -19,15 +19,6 @@ use std::alloc::Global;
 use target_node::TargetNode;
 use tlm_model::Style;
 use tlm_types::Memory;
-
-// The style of the initiator with this number.
-fn style_of<N: Naming<Plan, TlmLaw>>(net: &Net<N>, number: u32) -> Style
-    requires { number < length net.now.platform.initiators }
-    ensures { IsSomeAnd (slice_get net.now.platform.initiators number) (λ row. row.style ≡ result) }
-{
-    let rows = net.plan().platform().initiators.as_slice();
-    rows[number as usize].style
-}
 
 // The blocking or direct initiator with this number, with what it starts with. Its only error is want of memory.
 fn begin_decoupled<N: Naming<Plan, TlmLaw>>(

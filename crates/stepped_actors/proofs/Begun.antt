@@ -1,8 +1,7 @@
 -- Actors before their first steps.
-use Rattle.std.proofs.Common.{◌≡◌, ◌≢◌, ℕ, zero, suc, ◌+◌, ◌<◌, ◌≤◌, Bool, true, false, List, [], ◌∷◌, ◌++◌, length, set, Option, Some, None, ap, sym, subst, ◌∙◌, inl, inr, arith}
+use Rattle.std.proofs.Common.{◌≡◌, ℕ, ◌+◌, ◌<◌, List, [], ◌∷◌, ◌++◌, length, Option, Some, None, ap, sym, subst, ◌∙◌, inl, inr, arith}
 use Rattle.std.specs.Prelude.{IfSome, IsSomeAnd, slice_get}
 use Rattle.std.proofs.lemmas.Bool.{false≢true}
-use Rattle.std.proofs.lemmas.List.{length_push}
 use Rattle.atomic_table.specs.Seated.{TableId}
 use Rattle.view_lists.specs.Lists.{Within}
 use Rattle.view_lists.proofs.Members.{has_none}
@@ -13,16 +12,15 @@ use Rattle.one_history.specs.Lists.{StandBelow}
 use Rattle.tlm_types.specs.declared.entry.Content.{Content}
 use Rattle.tlm_model.specs.declared.operation.Operation.{Operation}
 use Rattle.tlm_model.specs.declared.platform.InitiatorRow.{InitiatorRow}
-use Rattle.tlm_model.specs.declared.platform.Style.{Style}
 use Rattle.tlm_model.specs.declared.platform.Style.TheVariants.{FourPhase as four_phase}
 use Rattle.tlm_model.specs.Plan.{Plan, Initiator, initiators_of}
-use Rattle.tlm_model.proofs.InitiatorLemmas.{initiator_from}
 use Rattle.generic_payload.specs.Payload.{PayloadView}
 use Rattle.route_plan.specs.Valid.{IsValid}
 use Rattle.route_plan.proofs.ShareLemmas.{count_initiators}
-use Rattle.script_engine.specs.State.{State, begun_engine}
+use Rattle.script_engine.specs.State.{begun_engine}
 use Rattle.plat_build.specs.declared.kept.Start.{Start}
-use Rattle.plat_build.specs.Kept.{IsBlank, IsStart, Waiting}
+use Rattle.plat_build.specs.Kept.{IsBlank, IsStart}
+use Rattle.plat_build.proofs.StartLemmas.{has_style, number_begun}
 use Rattle.run_outcome.proofs.ListLemmas.{at_push, has_element}
 use Rattle.decoupled_run.proofs.BeginLemmas.{script_from}
 use Rattle.decoupled_run.specs.declared.steps.SteppedInitiator.{SteppedInitiator}
@@ -48,15 +46,6 @@ nothing_within known other none = subst (λ (es : List (HistoryEntry Content)). 
 nothing_below : (known : List (HistoryEntry Content)) (n : ℕ) → known ≡ [] → StandBelow known n
 nothing_below known n none = subst (λ (es : List (HistoryEntry Content)). StandBelow es n) (sym none) (λ e has. absurd (has_none e has))
 
--- an initiator has the style of its row
-has_style : (p : Plan) (n : ℕ) (i : Initiator) (style : Style) → slice_get (initiators_of p) n ≡ Some i → IsSomeAnd (slice_get p.platform.initiators n) (λ (row : InitiatorRow). row.style ≡ style) → i.row.style ≡ style
-has_style p n i style at is = subst (λ (o : Option InitiatorRow). IsSomeAnd o (λ (row : InitiatorRow). row.style ≡ style)) (initiator_from 0 p.platform.initiators p.scripts n i at).1 is
-
--- one that has a style which isn't four-phase isn't four-phase
-pub apart_from : (style : Style) (o : Option InitiatorRow) → style ≢ four_phase → IsSomeAnd o (λ (row : InitiatorRow). row.style ≡ style) → IsSomeAnd o (λ (row : InitiatorRow). row.style ≢ four_phase)
-apart_from style None other is = is
-apart_from style (Some row) other is = λ four. other (sym is ∙ four)
-
 module _ (table tokens : TableId) (frame : Frame Plan) (n : ℕ) where
   pub decoupled_begun : SteppedStays → n < length frame.world.platform.initiators → (s : SteppedInitiator) (note : Held Content Plan) → HasBegunDecoupled table tokens frame n s note → HasBegun table tokens frame n (Decoupled s)
   decoupled_begun stays here s note begun = record {
@@ -81,17 +70,15 @@ module _ (table tokens : TableId) (frame : Frame Plan) (n : ℕ) where
     engine_begun : (i : Initiator) → slice_get (initiators_of p) n ≡ Some i → s.engine ≡ begun_engine n i.script
     engine_begun i at = subst (λ (o : Option (List Operation)). IsSomeAnd o (λ (x : List Operation). s.engine ≡ begun_engine n x)) (script_from 0 n p.platform.initiators p.scripts i at) start.engine
 
-    pub number_begun : s.engine.initiator ≡ n
-    number_begun =
-        let found = has_element (initiators_of p) n (omega (arith, count_initiators 0 p.platform.initiators p.scripts valid.scripts)) in
-        ap (λ (e : State). e.initiator) (engine_begun found.element found.at)
+    its_number : s.engine.initiator ≡ n
+    its_number = number_begun table tokens p n s start
 
     -- a four-phase initiator has what a port begins with
     fresh_with : (note : Held Content Plan) → IsBlank table note → IsFreshPort table tokens p s.engine.initiator s.engine s.payload note s.wallet
     fresh_with note blank =
         let found = has_element (initiators_of p) n (omega (arith, count_initiators 0 p.platform.initiators p.scripts valid.scripts)) in
         let i = found.element in
-        subst (λ (k : ℕ). IsFreshPort table tokens p k s.engine s.payload note s.wallet) (sym number_begun) (record {
+        subst (λ (k : ℕ). IsFreshPort table tokens p k s.engine s.payload note s.wallet) (sym its_number) (record {
           initiator = i;
           is = found.at;
           style = has_style p n i four_phase found.at style;
@@ -111,7 +98,7 @@ module _ (table tokens : TableId) (frame : Frame Plan) (n : ℕ) where
         → ((note : Held Content Plan) → IsFreshPort table tokens p s.engine.initiator s.engine s.payload note s.wallet → IsSteppedPort table tokens frame port note)
         → port.state.port.engine.initiator ≡ s.engine.initiator → HasBegun table tokens frame n (FourPhase port)
     port_begun port is number = record {
-      number_is = number ∙ number_begun;
+      number_is = number ∙ its_number;
       among = λ initiator. here;
       fresh = tt;
       at_start = tt;
@@ -156,17 +143,3 @@ begun_more table tokens frame n actors after a begun count one pushed = subst (H
 pub none_begun : (table tokens : TableId) (frame : Frame Plan) (actors : List SteppedActor) → length actors ≡ 0 → HaveBegun table tokens frame actors
 none_begun table tokens frame [] none = λ k a at. cc
 none_begun table tokens frame (a ∷ actors) none = absurd (omega arith)
-
-pub counted_more : (actors after : List SteppedActor) (a : SteppedActor) (n : ℕ) → length actors ≡ n → after ≡ actors ++ a ∷ [] → length after ≡ n + 1
-counted_more actors after a n count pushed = ap length pushed ∙ (length_push actors a ∙ ap (λ (k : ℕ). k + 1) count)
-
--- those after the one that is handed out still wait
-still_wait : (waiting : List Bool) (n k : ℕ) → n < k → slice_get waiting k ≡ Some true → slice_get (set waiting n false) k ≡ Some true
-still_wait [] n k late at = at
-still_wait (x ∷ waiting) zero zero late at = absurd (omega arith)
-still_wait (x ∷ waiting) zero (suc k) late at = at
-still_wait (x ∷ waiting) (suc n) zero late at = absurd (omega arith)
-still_wait (x ∷ waiting) (suc n) (suc k) late at = still_wait waiting n k (omega arith) at
-
-pub still_wait_in : (old new : Waiting) (n k : ℕ) → new ≡ record old { starts = set old.starts n false } → n + 1 ≤ k → slice_get old.starts k ≡ Some true → slice_get new.starts k ≡ Some true
-still_wait_in old new n k is late at = subst (λ (w : Waiting). slice_get w.starts k ≡ Some true) (sym is) (still_wait old.starts n k (omega arith) at)

@@ -7,7 +7,7 @@ ghost use Rattle.stepped_actors.specs.Begin.{HasBegun, HaveBegun, actors_of};
 use crate::actor::SteppedActor;
 use decoupled_run::{SteppedInitiator, initiators_stay};
 use fourphase_port::SteppedPort;
-use plat_build::{Kept, Start};
+use plat_build::{Kept, Start, style_of};
 use plat_net::{Net, PlatNote, TlmLaw};
 use route_plan::Plan;
 use router_node::RouterNode;
@@ -17,15 +17,6 @@ use std::alloc::Global;
 use target_node::TargetNode;
 use tlm_model::Style;
 use tlm_types::Memory;
-
-// The style of the initiator with this number.
-fn style_of<N: Naming<Plan, TlmLaw>>(net: &Net<N>, number: u32) -> Style
-    requires { number < length net.now.platform.initiators }
-    ensures { IsSomeAnd (slice_get net.now.platform.initiators number) (λ row. row.style ≡ result) }
-{
-    let rows = net.plan().platform().initiators.as_slice();
-    rows[number as usize].style
-}
 
 // The blocking or direct initiator with this number, with what it starts with, and its note. Its only error is want of
 // memory.

@@ -1,6 +1,7 @@
 use Rattle.std.proofs.Common.{◌+◌, sym, ◌∙◌, arith}
 use Rattle.plat_run.specs.Actors.{number_of}
-use Rattle.plat_run.proofs.BeginLemmas.{counted_more, numbered_more, memories_still_wait}
+use Rattle.plat_build.proofs.StartLemmas.{counted_more, memories_still_wait}
+use Rattle.plat_run.proofs.BeginLemmas.{numbered_more}
 use Rattle.plat_run.proofs.begin.begin_memories.Goals as goal
 
 pub loop-memory-preserved : goal.loop-memory-preserved

@@ -1,7 +1,8 @@
 use Rattle.std.proofs.Common.{◌+◌, ap, sym, ◌∙◌, arith}
 use Rattle.plat_build.specs.Kept.{Waiting}
 use Rattle.plat_run.specs.Actors.{number_of}
-use Rattle.plat_run.proofs.BeginLemmas.{counted_more, numbered_more, routers_still_wait}
+use Rattle.plat_build.proofs.StartLemmas.{counted_more, routers_still_wait}
+use Rattle.plat_run.proofs.BeginLemmas.{numbered_more}
 use Rattle.plat_run.proofs.begin.begin_routers.Goals as goal
 
 pub loop-router-preserved : goal.loop-router-preserved

@@ -1,6 +1,6 @@
 use Rattle.std.proofs.Common.{ap, ◌∙◌, arith}
 use Rattle.plat_build.specs.Kept.{Waiting}
-use Rattle.stepped_actors.proofs.Begun.{still_wait_in}
+use Rattle.plat_build.proofs.StartLemmas.{starts_still_wait}
 use Rattle.stepped_actors.proofs.begin.begin_initiators.Goals as goal
 
 pub loop-number-preserved : goal.loop-number-preserved
@@ -9,7 +9,7 @@ loop-number-preserved g c =
     let kept = c.push_initiator-in-loop-number.ensures.kept in
     let made = c.in_ok-note-2.ensures in
     record {
-      waiting = λ k late below. still_wait_in before.kept c.push_initiator-in-loop-number.new.kept before.number k kept late (before.invariant.waiting k (omega arith) below);
+      waiting = λ k late below. starts_still_wait before.kept c.push_initiator-in-loop-number.new.kept before.number k kept late (before.invariant.waiting k (omega arith) below);
       begun = made.begun;
       count = made.count;
       note = made.note;

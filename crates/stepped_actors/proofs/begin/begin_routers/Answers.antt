@@ -1,5 +1,6 @@
 use Rattle.std.proofs.Common.{◌+◌, length, arith}
-use Rattle.stepped_actors.proofs.Begun.{begun_more, counted_more, router_begun}
+use Rattle.plat_build.proofs.StartLemmas.{counted_more}
+use Rattle.stepped_actors.proofs.Begun.{begun_more, router_begun}
 use Rattle.stepped_actors.specs.declared.actor.SteppedActor.TheVariants.{Router}
 use Rattle.stepped_actors.proofs.begin.begin_routers.Goals as goal
 
