@@ -27,9 +27,7 @@ use Rattle.good_history.specs.Good.{IsSound}
 use Rattle.net_end.specs.Leaves.{IsFinished}
 use Rattle.plat_end.specs.End.{AreFinished}
 use Rattle.plat_end.specs.Entries.{entries_read, entry_read}
-use Rattle.plat_end.specs.Room.{HasRoom}
 use Rattle.plat_end.specs.Run.{IsCoreRun}
-use Rattle.plat_end.specs.declared.apart.Apart.{Apart}
 use Rattle.run_outcome.specs.declared.outcome.Outcome.{Outcome}
 use Rattle.run_outcome.specs.Outcome.{IsWhole}
 use Rattle.run_outcome.proofs.ListLemmas.{at_push, at_taken, take_all, within}
@@ -187,12 +185,3 @@ module _ (p : Plan) (last : NetView) (made : ℕ) (count : made ≡ length (know
   pub cut_is_so : (r : Result Outcome Memory) (complete : Bool) → KeepsRoundsOf p (history_in p last) → complete ≡ all_true last.finished → IfOk r (IsCutBack complete made so_far outcome) → IfOk r (IsCut p last)
   cut_is_so (Ok result) complete rounds is cut = cut_is complete result rounds is cut
   cut_is_so (Err e) complete rounds is cut = tt
-
--- room for more is room for fewer
-pub room_for_fewer : (objects memories fewer_objects fewer_memories : ℕ) (a : Apart) → fewer_objects ≤ objects → fewer_memories ≤ memories → HasRoom objects memories a → HasRoom fewer_objects fewer_memories a
-room_for_fewer objects memories fewer_objects fewer_memories a few few_memories room = record {
-  no_log = room.no_log;
-  no_store = room.no_store;
-  no_seat = room.no_seat;
-  fits = record { logs = let f = room.fits.logs in omega arith; stores = let f = room.fits.stores in omega arith; seats = let f = room.fits.seats in omega arith };
-}

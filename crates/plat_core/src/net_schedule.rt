@@ -3,9 +3,7 @@ ghost use Rattle.std.specs.Prelude.{◌≡◌, ◌≤◌, true, false, IfOk, len
 ghost use Rattle.good_history.specs.GrantLaws.{HasNoInvalidation};
 ghost use Rattle.platform_shape.specs.Shape.{IsBlocking};
 ghost use Rattle.plat_core.specs.Outcome.{IsScheduled};
-ghost use Rattle.cargo_model.specs.Known.{objects_of};
 ghost use Rattle.plat_net.specs.Objects.{frame_of};
-ghost use Rattle.plat_end.specs.Room.{HasRoom};
 ghost use Rattle.plat_end.specs.Run.{IsCoreRun};
 ghost use Rattle.run_outcome.specs.Outcome.{IsWhole};
 ghost use Rattle.plat_core.specs.Core.{all_true};
@@ -48,23 +46,12 @@ pub(crate) struct SoFar {
     pub stores: OpeningStores,
 }
 
-// A platform has at most so many memories, hops and pools.
-const MOST_OBJECTS: usize = 336;
-
-// Room for what all objects of a net leave. Its only error is want of memory.
-fn room_for_objects<N: Naming<Plan, TlmLaw>>(alloc: Global, net: &Net<N>) -> Result<Apart, Memory>
-    ensures { IfOk result (HasRoom (length (objects_of N.frame.world.platform)) (length N.frame.world.platform.memories)) }
-{
-    let memories = net.plan().platform().memories.as_slice().len();
-    Apart::with_room(alloc, MOST_OBJECTS, memories)
-}
-
 // Room for what all that is on a net leaves. Its only error is want of memory.
 fn room_for<N: Naming<Plan, TlmLaw>>(alloc: Global, net: &Net<N>) -> Result<Room, Memory>
     ensures { IfOk result (IsRoomFor N.frame.world.platform) }
 {
     let count = net.plan().platform().initiators.as_slice().len();
-    let apart = room_for_objects(alloc, net)?;
+    let apart = Apart::room_for(alloc, net)?;
     let ends = Vec::with_capacity(alloc, count)?;
     let wallets = Vec::with_capacity(alloc, count)?;
     let notes = Vec::with_capacity(alloc, 1)?;

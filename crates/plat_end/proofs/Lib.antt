@@ -4,3 +4,4 @@ pub mod TakenLemmas
 pub mod OrderLemmas
 pub mod LogLemmas
 pub mod WholeLemmas
+pub mod RoomLemmas

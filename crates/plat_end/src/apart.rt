@@ -12,7 +12,7 @@ ghost use Rattle.plat_end.specs.Taking.{IsTaken};
 
 use crate::parts::{hop_part, memory_part, pool_part};
 use entry_log::Log;
-use plat_net::{PlatSeat, SharedHop, SharedMemory, SharedPool, TlmLaw};
+use plat_net::{Net, PlatSeat, SharedHop, SharedMemory, SharedPool, TlmLaw};
 use route_plan::Plan;
 use shared_object::Naming;
 use std::alloc::Global;
@@ -33,10 +33,20 @@ pub struct Apart {
     pub seats: Vec<PlatSeat>,
 }
 
+// A platform has at most so many memories, hops and pools.
+const MOST_OBJECTS: usize = 336;
+
 impl Apart {
-    /// What is left of no object, with room for what so many leave, of which so many are memories. Its only error is want
-    /// of memory.
-    pub fn with_room(alloc: Global, objects: usize, memories: usize) -> Result<Apart, Memory>
+    /// What is left of no object, with room for what all objects of a net leave. Its only error is want of memory.
+    pub fn room_for<N: Naming<Plan, TlmLaw>>(alloc: Global, net: &Net<N>) -> Result<Apart, Memory>
+        ensures { IfOk result (HasRoom (length (objects_of N.frame.world.platform)) (length N.frame.world.platform.memories)) }
+    {
+        let memories = net.plan().platform().memories.as_slice().len();
+        Apart::with_room(alloc, MOST_OBJECTS, memories)
+    }
+
+    // The same with room for what so many objects leave, of which so many are memories.
+    fn with_room(alloc: Global, objects: usize, memories: usize) -> Result<Apart, Memory>
         ensures { IfOk result (HasRoom objects memories) }
     {
         let logs = Vec::with_capacity(alloc, objects)?;

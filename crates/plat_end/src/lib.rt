@@ -9,7 +9,7 @@
 //! Promises: each object leaves what its log says (`net_end`), and its entries with the tickets that the wallets had
 //! left are no more than planned. The history is good for the plan, each beginning of it is sound, the closed one has
 //! just its entries, and the stores and ends are those of the definitions, whatever the actors did in which order. No
-//! more memory is taken once room was made (`Apart::with_room`), so an end can't fail. A pool with a live slot is waited
+//! more memory is taken once room was made (`Apart::room_for`), so an end can't fail. A pool with a live slot is waited
 //! for without end: once all initiators have finished there is none.
 #![tactic(auto)]
 

@@ -3,4 +3,3 @@ pub mod SealLemmas
 pub mod BeginLemmas
 pub mod PortLemmas
 pub mod NodeLemmas
-pub mod RoomLemmas

@@ -1,15 +1,12 @@
 // What is gathered once all jobs have finished, and the room for it, which is made before the first turn.
 ghost use Rattle.std.specs.Prelude.{◌≡◌, true, All, length, IfOk};
 ghost use Rattle.run_queue.specs.Queue.{AreNumbered};
-ghost use Rattle.cargo_model.specs.Known.{objects_of};
 ghost use Rattle.plat_run.specs.Actors.{is_done, number_of};
 ghost use Rattle.plat_run.specs.HandedIn.{AwaitsAll};
 ghost use Rattle.plat_end.specs.End.{AreFinished};
-ghost use Rattle.plat_end.specs.Room.{HasRoom};
 
 use crate::actor::Actor;
-use plat_end::Apart;
-use plat_net::{Net, PlatNote, TlmLaw};
+use plat_net::{PlatNote, TlmLaw};
 use route_plan::Plan;
 use shared_object::Naming;
 use std::alloc::Global;
@@ -64,18 +61,4 @@ pub(crate) fn hand_in<N: Naming<Plan, TlmLaw>>(jobs: Vec<Actor<N>>, handed: Hand
         wallets,
         notes,
     }
-}
-
-// A platform has at most so many memories, hops and pools.
-const MOST_OBJECTS: usize = 336;
-
-/// Room for what all objects of a net leave. Its only error is want of memory.
-pub(crate) fn room_for<N: Naming<Plan, TlmLaw>>(
-    alloc: Global,
-    net: &Net<N>,
-) -> Result<Apart, Memory>
-    ensures { IfOk result (HasRoom (length (objects_of N.frame.world.platform)) (length N.frame.world.platform.memories)) }
-{
-    let memories = net.plan().platform().memories.as_slice().len();
-    Apart::with_room(alloc, MOST_OBJECTS, memories)
 }

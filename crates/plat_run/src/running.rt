@@ -13,7 +13,7 @@ ghost use Rattle.plat_end.specs.Run.{IsCoreRun};
 
 use crate::actor::Actor;
 use crate::begin::begin_jobs;
-use crate::ending::{HandedIn, hand_in, room_for};
+use crate::ending::{HandedIn, hand_in};
 use crate::logs::{Logs, until_in_store};
 use crate::workers::{work_all, work_alone};
 use outside::Pace;
@@ -51,7 +51,7 @@ pub fn run<N: Naming<Plan, TlmLaw> + Send + Sync, P: Pace + Sync, R: Threads + W
     ensures whole_log { logs ≡ Logs.Kept → IfOk result (λ r. r.0.history.whole ≡ true) }
 {
     let Built { mut net, mut kept } = built;
-    let apart = room_for(alloc, &net)?;
+    let apart = Apart::room_for(alloc, &net)?;
     let handed = finish_all(rt, alloc, &mut net, &mut kept, workers, pace, logs)?;
     let (outcome, sealed) = end_run(rt, net, handed, apart);
     until_in_store(rt, &outcome.history, logs);

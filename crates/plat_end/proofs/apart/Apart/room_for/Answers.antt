@@ -6,8 +6,8 @@ use Rattle.tlm_model.specs.Plan.{Plan}
 use Rattle.cargo_model.specs.Known.{objects_of}
 use Rattle.plat_end.specs.Room.{HasRoom}
 use Rattle.plat_net.proofs.ObjectLemmas.{few_objects}
-use Rattle.plat_run.proofs.RoomLemmas.{room_for_fewer}
-use Rattle.plat_run.proofs.ending.room_for.Goals as goal
+use Rattle.plat_end.proofs.RoomLemmas.{room_for_fewer}
+use Rattle.plat_end.proofs.apart.Apart.room_for.Goals as goal
 
 pub returns : goal.returns
 returns g c =
