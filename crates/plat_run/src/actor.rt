@@ -1,5 +1,5 @@
 // The kinds of jobs.
-ghost use Rattle.std.specs.Prelude.{◌≡◌, ◌<◌, true, length};
+ghost use Rattle.std.specs.Prelude.{◌≡◌, ◌<◌, true, false, length};
 ghost use Rattle.plat_run.specs.Actors.{is_done, is_pumped, number_of};
 ghost use Rattle.net_end.specs.Leaves.{IsFinished};
 ghost use Rattle.plat_run.specs.Turn.{HasTurned};
@@ -108,6 +108,27 @@ impl<N: Naming<Plan, TlmLaw>> Actor<N> {
             Actor::FourPhase(job) => job.turn(rt, reach.net(), pace),
             Actor::Memory(job) => job.turn(rt, reach.net()),
             Actor::Router(job) => job.turn(rt, reach.net()),
+        }
+    }
+
+    /// A turn, unless it has finished or is to be passed over, and whether it needs more: an initiator until it has finished. A
+    /// memory and a router never do, and would need more if they were among the first so many.
+    pub(crate) fn visit<B: Reach<N>, P: Pace, R: Wait>(
+        &mut self,
+        rt: &R,
+        reach: &mut B,
+        board: &Board,
+        pace: &P,
+        count: u32,
+    ) -> bool
+        ensures number { number_of self.new ≡ number_of self.old }
+        ensures more { result ≡ false → number_of self.new < count → is_done self.new ≡ true }
+    {
+        match self {
+            Actor::Decoupled(job) => decoupled::visit(job, rt, reach, board, pace),
+            Actor::FourPhase(job) => job.visit(rt, reach.net(), pace),
+            Actor::Memory(job) => job.visit(rt, reach.net(), count),
+            Actor::Router(job) => job.visit(rt, reach.net(), count),
         }
     }
 

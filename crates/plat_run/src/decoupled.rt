@@ -1,5 +1,5 @@
 // A turn of a blocking or direct initiator.
-ghost use Rattle.std.specs.Prelude.{◌≡◌, ◌≢◌, ◌↔◌, true};
+ghost use Rattle.std.specs.Prelude.{◌≡◌, ◌≢◌, ◌↔◌, true, false};
 ghost use Rattle.initiator_run.specs.Steps.{StepsOnce};
 ghost use Rattle.plat_run.specs.Turn.{is_held_back};
 
@@ -32,6 +32,28 @@ pub(crate) fn turn<N: Naming<Plan, TlmLaw>, B: Reach<N>, P: Pace, R: Wait>(
     }
     job.go_on(rt, reach, pace);
     sync(job, rt, board).after(first)
+}
+
+/// A turn, unless it has finished, and whether it needs more. Once it has finished it no longer holds others back.
+pub(crate) fn visit<N: Naming<Plan, TlmLaw>, B: Reach<N>, P: Pace, R: Wait>(
+    job: &mut DecoupledInitiator<N>,
+    rt: &R,
+    reach: &mut B,
+    board: &Board,
+    pace: &P,
+) -> bool
+    ensures number { job.new.engine.initiator ≡ job.old.engine.initiator }
+    ensures more { (result ≡ true) ↔ (job.new.finished ≡ false) }
+{
+    if job.done() {
+        return false;
+    }
+    let _ = turn(job, rt, reach, board, pace);
+    let done = job.done();
+    if done {
+        board.finish(rt, job.number());
+    }
+    !done
 }
 
 // Makes its last sync at the board, if that was not let through yet.

@@ -1,5 +1,5 @@
 // Memories and routers as jobs.
-ghost use Rattle.std.specs.Prelude.{◌≡◌, false};
+ghost use Rattle.std.specs.Prelude.{◌≡◌, ◌↔◌, ◌<◌, true, false};
 ghost use Rattle.plat_run.specs.Nodes.{IsNode};
 ghost use Rattle.plat_run.specs.Turn.{is_held_back};
 
@@ -75,5 +75,16 @@ impl<N: Naming<Plan, TlmLaw>, K: Node<N>> NodeJob<N, K> {
         ensures { self.new ≡ self.old }
     {
         self.waits.rests(self.node.may_move(net))
+    }
+
+    /// A turn, unless it is to be passed over, and whether it is one of the first so many jobs.
+    pub(crate) fn visit<R: Wait>(&mut self, rt: &R, net: &Net<N>, count: u32) -> bool
+        ensures number { self.new ≡ self.old }
+        ensures first { (result ≡ true) ↔ (self.new < count) }
+    {
+        if !self.rests(net) {
+            let _ = self.turn(rt, net);
+        }
+        self.number < count
     }
 }

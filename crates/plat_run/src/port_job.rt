@@ -1,5 +1,5 @@
 // A four-phase initiator as a job.
-ghost use Rattle.std.specs.Prelude.{◌≡◌, ◌<◌, true, false, length};
+ghost use Rattle.std.specs.Prelude.{◌≡◌, ◌↔◌, ◌<◌, true, false, length};
 ghost use Rattle.net_end.specs.Leaves.{IsFinished};
 ghost use Rattle.plat_run.specs.Turn.{IsPortTurn, finishes, turn_by};
 
@@ -122,6 +122,17 @@ impl<N: Naming<Plan, TlmLaw>> PortJob<N> {
         ensures { self.new ≡ self.old }
     {
         self.waits.rests(self.port.may_move(net))
+    }
+
+    /// A turn, unless it has finished or is to be passed over, and whether it needs more.
+    pub(crate) fn visit<P: Pace, R: Wait>(&mut self, rt: &R, net: &Net<N>, pace: &P) -> bool
+        ensures number { self.new.port.port.engine.initiator ≡ self.old.port.port.engine.initiator }
+        ensures more { (result ≡ true) ↔ (self.new.finished ≡ false) }
+    {
+        if !self.finished && !self.rests(net) {
+            let _ = self.turn(rt, net, pace);
+        }
+        !self.finished
     }
 
     /// What it leaves where it has finished: how its initiator ended, its wallet, and its note.

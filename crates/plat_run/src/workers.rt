@@ -162,45 +162,6 @@ pub(crate) fn work_all<
     });
 }
 
-// Gives a job a turn, and answers whether it has finished. One that has no longer holds others back.
-fn turn_finishes<N: Naming<Plan, TlmLaw>, B: Reach<N>, P: Pace, R: Wait>(
-    rt: &R,
-    reach: &mut B,
-    board: &Board,
-    pace: &P,
-    job: &mut Actor<N>,
-) -> bool
-    ensures number { number_of job.new ≡ number_of job.old }
-    ensures done { result ≡ is_done job.new }
-{
-    let _ = job.turn(rt, reach, board, pace);
-    let done = job.done();
-    if done {
-        board.finish(rt, job.number());
-    }
-    done
-}
-
-// Gives a job a turn if it hasn't finished and doesn't rest, and answers whether it needs more: it is one of the first so many, and
-// hasn't finished.
-fn turn_leaves_more<N: Naming<Plan, TlmLaw>, B: Reach<N>, P: Pace, R: Wait>(
-    rt: &R,
-    reach: &mut B,
-    board: &Board,
-    pace: &P,
-    job: &mut Actor<N>,
-    count: u32,
-) -> bool
-    ensures number { number_of job.new ≡ number_of job.old }
-    ensures more { result ≡ false → number_of job.new < count → is_done job.new ≡ true }
-{
-    if job.done() {
-        return false;
-    }
-    let rests = job.rests(reach.net());
-    (rests || !turn_finishes(rt, reach, board, pace, job)) && job.number() < count
-}
-
 // Gives each job a turn that hasn't finished, in order, and answers whether one of the first so many needs more.
 fn give_round<N: Naming<Plan, TlmLaw>, P: Pace, R: Wait>(
     rt: &R,
@@ -215,7 +176,7 @@ fn give_round<N: Naming<Plan, TlmLaw>, P: Pace, R: Wait>(
 {
     let mut more = false;
     for job in jobs.iter_mut() {
-        if turn_leaves_more(rt, net, board, pace, job, count) {
+        if job.visit(rt, net, board, pace, count) {
             more = true;
         }
     }
