@@ -251,6 +251,8 @@ module _ (table tokens : TableId) (frame : Frame Plan) (stay : ActorsStay) (acto
           note = note;
           has_note = refl;
           back = back;
+          knew = did.knew;
+          knows = did.saw;
           why = did.waits q;
           may = waits_rightly table tokens frame was is note back before after (history_in frame.world old) (its n was at).keeps.keeps ((its n was at).member open_flag) ((its n was at).going open_flag) did.rounds (did.waits q) (core.come n was at);
         }

@@ -1,6 +1,7 @@
 -- What is seen of a core over a net, and its steps.
 use Rattle.std.specs.Prelude.{ℕ, ◌≡◌, ◌⊎◌, ◌+◌, ◌-◌, ◌^◌, ◌<◌, min, Bool, true, false, List, [], ◌∷◌, ◌++◌, length, replicate, Option, Some, None, MatchOption, slice_get, slice_set}
 use Rattle.atomic_table.specs.Seated.{TableId}
+use Rattle.view_lists.specs.Lists.{Within}
 use Rattle.one_history.specs.declared.entry.Entry.{Entry as HistoryEntry}
 use Rattle.one_history.specs.declared.view.Frame.{Frame}
 use Rattle.one_history.specs.Closing.{Numbered}
@@ -138,7 +139,7 @@ pub record HasMadeEntry (p : Plan) (old : NetView) (n : ℕ) (new : NetView) (po
   pub at_end : position ≡ length (known_in old)
   pub finished : new.finished ≡ old.finished
 
--- it has found nothing that it could do, and the history is as it was
+-- It has found nothing that it could do, and the history is as it was. The note by which it found that knows the history and nothing else.
 pub record HasWaited (frame : Frame Plan) (tokens : TableId) (old : NetView) (n : ℕ) (new : NetView) : Type 0 where
   pub moved : HasMoved old n new
   pub same : known_in new ≡ known_in old
@@ -146,6 +147,8 @@ pub record HasWaited (frame : Frame Plan) (tokens : TableId) (old : NetView) (n 
   pub note : Held Content Plan
   pub has_note : old.note ≡ Some note
   pub back : Held Content Plan
+  pub knew : Within note.knows.known back.knows.known
+  pub knows : Within back.knows.known (known_in new)
   pub why : WaitsFor frame tokens moved.was moved.is note back new.rounds
   pub may : MayWait frame.world (history_in frame.world old) old.rounds moved.was
 
