@@ -1,5 +1,5 @@
 // All actors of a net, before their first steps.
-ghost use Rattle.std.specs.Prelude.{◌≡◌, ◌≢◌, ◌+◌, ◌<◌, ◌≤◌, ◌^◌, true, false, length, replicate, IfOk, OnOk, IsSomeAnd, Some, slice_get, slice_set};
+ghost use Rattle.std.specs.Prelude.{◌≡◌, ◌≢◌, ◌+◌, ◌<◌, true, false, length, replicate, IfOk, OnOk, IsSomeAnd, Some, slice_get, slice_set};
 ghost use Rattle.tlm_model.specs.declared.platform.Style.TheVariants as Styles;
 ghost use Rattle.plat_build.specs.Kept.{IsBlank, IsStart, all_waiting};
 ghost use Rattle.stepped_actors.specs.Begin.{HasBegun, HaveBegun, actors_of};
