@@ -1,7 +1,7 @@
 //! A four-phase initiator (IEEE 1666-2011, clauses 11.1.2, 14.5 and 15.2) over a net.
 //!
 //! - `Port` is a four-phase initiator under way with its note. `pump` makes its moves up to where a pump ends, `advance`
-//!   the next one, and `finish` gives up its note, its wallet and how it ended. `into_parts` gives up all that it has, wherever it has come.
+//!   the next one, and `finish` gives up its note, its wallet and how it ended.
 //! - `SteppedPort` is one that is stepped an entry at a time, with the note of who steps it (`steps`). Its moves are the same, but an
 //!   invalidation is told by one step, and each grant that it ends is closed by one of the next (`closes`).
 //! - `moves` makes its next move: one of those of `port_moves` for what it works on, and else it goes on in its script
@@ -24,5 +24,5 @@ mod revokes;
 mod steps;
 mod takes;
 
-pub use port::{Port, PortParts};
+pub use port::Port;
 pub use steps::SteppedPort;

@@ -1,6 +1,5 @@
 // A port: a four-phase initiator under way.
 ghost use Rattle.std.specs.Prelude.{◌≡◌, ◌<◌, ◌≤◌, IfOk, Some, length, slice_get};
-ghost use Rattle.view_lists.specs.Lists.{AreDistinct};
 ghost use Rattle.tlm_model.specs.Plan.{Initiator, initiators_of};
 ghost use Rattle.script_engine.specs.State.{next_of};
 ghost use Rattle.port_model.specs.Ends.{IsEndOfPort};
@@ -13,11 +12,10 @@ ghost use Rattle.port_moves.specs.declared.hand.Pumped.TheVariants as Pumps;
 
 use crate::moves::advance;
 use crate::onwards::may_move;
-use cargo_model::Cargo;
 use cargo_net::TlmLaw;
 use generic_payload::Payload;
 use plat_net::{Net, PlatNote};
-use port_moves::{Hand, Moved, PortState, Pumped, StateParts};
+use port_moves::{Moved, PortState, Pumped};
 use route_plan::Plan;
 use script_engine::{Engine, Part};
 use shared_object::Naming;
@@ -59,18 +57,6 @@ impl<N: Naming<Plan, TlmLaw>> Drop for Port<N> {
             of: _,
         } = self;
     }
-}
-
-/// What a port has, wherever it has come: how many sequence numbers its script has taken, its note and its wallet, the numbers of
-/// the accesses that are outstanding, the last one first, what it works on, and the request that was refused, if there is one.
-#[derive(Drop)]
-pub struct PortParts {
-    pub seq: u64,
-    pub note: PlatNote,
-    pub wallet: Wallet,
-    pub away: Vec<u64>,
-    pub hand: Hand,
-    pub held: Option<Cargo>,
 }
 
 // Room for all that a script may have outstanding or refused.
@@ -166,34 +152,5 @@ impl<N: Naming<Plan, TlmLaw>> Port<N> {
         let Port { state, note, of: _ } = self;
         let (wallet, end) = state.into_end();
         (note.unwrap(), wallet, end)
-    }
-
-    /// All that it has, wherever it has come.
-    pub fn into_parts(self) -> PortParts
-        ensures port { IsPort N.table N.tokens N.frame (with_note self.state result.note) }
-        ensures seq { result.seq ≡ self.port.engine.seq }
-        ensures note { self.note ≡ Some result.note }
-        ensures wallet { result.wallet ≡ self.wallet }
-        ensures away { result.away.items ≡ self.port.away }
-        ensures distinct { AreDistinct result.away.items }
-        ensures hand { result.hand ≡ self.hand }
-        ensures held { result.held ≡ self.held }
-    {
-        let Port { state, note, of: _ } = self;
-        let StateParts {
-            seq,
-            wallet,
-            away,
-            hand,
-            held,
-        } = state.into_parts();
-        PortParts {
-            seq,
-            note: note.unwrap(),
-            wallet,
-            away,
-            hand,
-            held,
-        }
     }
 }

@@ -1,6 +1,6 @@
 // The numbers of the accesses that are outstanding.
 ghost use Rattle.std.specs.Prelude.{◌≡◌, ◌<◌, ◌≤◌, [], ◌∷◌, length, IfOk, ◌↔◌, IsTrue, IfSome, IfNone, Some, slice_get};
-ghost use Rattle.view_lists.specs.Lists.{AreDistinct, Has};
+ghost use Rattle.view_lists.specs.Lists.{Has};
 ghost use Rattle.flow_model.specs.Events.{Among};
 ghost use Rattle.port_moves.specs.Away.{TakesOff};
 
@@ -69,14 +69,6 @@ impl Away {
             }
             None => false,
         }
-    }
-
-    /// The numbers.
-    pub fn into_numbers(self) -> Vec<u64>
-        ensures numbers { result.items ≡ self.numbers }
-        ensures distinct { AreDistinct result.items }
-    {
-        self.numbers
     }
 }
 

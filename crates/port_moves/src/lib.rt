@@ -2,7 +2,7 @@
 //! they work on. `fourphase_port` goes on in its script with them.
 //!
 //! - `PortState` is what an initiator has beside its note: where its script stands, its times, what is outstanding, what it
-//!   works on, and its wallet. `new` makes it, `into_end` and `into_parts` take it apart.
+//!   works on, and its wallet. `new` makes it, `into_end` takes it apart.
 //! - `Hand` is what it works on between two moves, and `Moved` what a move comes to. The moves of an access under way are those
 //!   down to the first hop (`down`: acquire, begin), at a memory that answers at once (`serve`), and back from there (`back`:
 //!   fetch, end, stow; `returns`: take_back).
@@ -32,4 +32,4 @@ mod wallets;
 
 pub use hand::{Hand, Moved, Pumped};
 pub use places::pool_place;
-pub use state::{PortState, StateParts};
+pub use state::PortState;

@@ -1,7 +1,6 @@
 // A port without its note.
 ghost use Rattle.std.specs.Prelude.{◌≡◌, ◌↔◌, [], IfOk, IsSome, IsTrue, None, Some, length};
 ghost use Rattle.std.specs.Borrow.{sem};
-ghost use Rattle.view_lists.specs.Lists.{AreDistinct};
 ghost use Rattle.token_book.specs.Purse.{HasRoomForAll, IsOf, empty_purse};
 ghost use Rattle.script_engine.specs.State.{next_of};
 ghost use Rattle.port_model.specs.Ends.{IsEndOfPort};
@@ -81,17 +80,6 @@ impl Drop for PortState {
             purse: _purse,
         } = self;
     }
-}
-
-/// What a port has beside its note, wherever it has come: how many sequence numbers its script has taken, its wallet, the numbers of the
-/// accesses that are outstanding, the last one first, what it works on, and the request that was refused, if there is one.
-#[derive(Drop)]
-pub struct StateParts {
-    pub seq: u64,
-    pub wallet: Wallet,
-    pub away: Vec<u64>,
-    pub hand: Hand,
-    pub held: Option<Cargo>,
 }
 
 // What a port has room in, with nothing in it.
@@ -276,36 +264,5 @@ impl PortState {
             end: self.time.max(self.latest),
             refused,
         })
-    }
-
-    /// All that it has, wherever it has come.
-    pub fn into_parts(self) -> StateParts
-        ensures seq { result.seq ≡ self.port.engine.seq }
-        ensures wallet { result.wallet ≡ self.wallet }
-        ensures away { result.away.items ≡ self.port.away }
-        ensures distinct { AreDistinct result.away.items }
-        ensures hand { result.hand ≡ self.hand }
-        ensures held { result.held ≡ self.held }
-    {
-        let PortState {
-            engine,
-            waiting: _,
-            time: _,
-            latest: _,
-            away,
-            refused: _refused,
-            hand,
-            held,
-            payload: _payload,
-            wallet,
-            purse: _purse,
-        } = self;
-        StateParts {
-            seq: engine.transactions(),
-            wallet,
-            away: away.into_numbers(),
-            hand,
-            held,
-        }
     }
 }

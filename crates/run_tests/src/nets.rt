@@ -3,6 +3,8 @@ ghost use Rattle.std.specs.Prelude.{◌≡◌, ◌<◌, length};
 ghost use Rattle.plat_net.specs.Objects.{frame_of};
 
 use crate::bench::plan_of;
+use crate::phase_schedules::ON_BUS;
+use node_hops::Node;
 use plat_build::{Opened, build, close_unused};
 use plat_net::{Net, TlmLaw};
 use route_plan::Plan;
@@ -15,14 +17,7 @@ use std::sync::Wait;
 use target_node::TargetNode;
 use tlm_types::Memory;
 
-/// A four-phase initiator before a router and a memory.
-const BUS: &str = "version = 1\n\
-                   [[initiator]]\nname = 'dma'\nstyle = 'fourphase'\nscript = 'a'\nbind = 'bus'\n\
-                   [[router]]\nname = 'bus'\n\
-                   [[router.window]]\nfirst = 0\nlast = 0xf\nto = 'ram'\n\
-                   [[memory]]\nname = 'ram'\nsize = 16\n";
-
-// A router and a memory of a net that were just made hold nothing.
+// A router of a net that was just made holds nothing, and a memory has nothing to do.
 fn expect_idle<N: Naming<Plan, TlmLaw>>(rt: &impl Abort, alloc: Global, net: &Net<N>)
     requires router { 0 < length N.frame.world.platform.routers }
     requires memory { 0 < length N.frame.world.platform.memories }
@@ -30,8 +25,7 @@ fn expect_idle<N: Naming<Plan, TlmLaw>>(rt: &impl Abort, alloc: Global, net: &Ne
     let router = RouterNode::new(alloc, net, 0).expect(rt, "memory");
     router.finish();
     let target = TargetNode::new(alloc, net, 0).expect(rt, "memory");
-    let (queue, held) = target.into_parts();
-    assert!(rt; queue.is_empty() && held.is_none());
+    assert!(rt; !target.may_move(net));
 }
 
 // How many entries the history of a new net has, whose router and memory are idle. The call picks N.
@@ -55,7 +49,7 @@ fn entries_of_new<N: Naming<Plan, TlmLaw>, R: Wait + Abort>(
 
 #[test]
 fn history_of_a_new_net_is_empty(rt: HostRuntime) {
-    let plan = plan_of(rt.alloc(), BUS, &["write 0x0 aabb\n"]).expect(&rt, "a plan");
+    let plan = plan_of(rt.alloc(), ON_BUS, &["write 0x0 aabb\n"]).expect(&rt, "a plan");
     let opened = Opened::new(rt.alloc(), &plan).expect(&rt, "a history");
     let entries = entries_of_new::<Brand, HostRuntime>(&rt, rt.alloc(), &plan, opened);
     assert!(rt; entries == Ok(0));

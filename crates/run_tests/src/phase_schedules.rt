@@ -150,8 +150,8 @@ fn a_lane_is_free_after_end_resp(rt: HostRuntime) {
     bench.expect_each(&whole, &TWO_WRITES, &[(2, 0, 10, 0)], 0, &[0xaa, 0xbb]);
 }
 
-/// Hop 0 leads to the router, hop 1 from it to the memory.
-const ON_BUS: &str = "version = 1\n\
+/// A four-phase initiator before a router and a memory. Hop 0 leads to the router, hop 1 from it to the memory.
+pub(crate) const ON_BUS: &str = "version = 1\n\
     [[initiator]]\nname = 'dma'\nstyle = 'fourphase'\nscript = 'a'\nbind = 'bus'\n\
     [[router]]\nname = 'bus'\nlatency = 5\n\
     [[router.window]]\nfirst = 0\nlast = 0xff\nto = 'ram'\n\

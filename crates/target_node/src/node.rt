@@ -216,23 +216,6 @@ impl TargetNode {
         self.held = Some(response);
         (true, note)
     }
-
-    /// All that it holds, wherever it has come: the requests that wait to be served, by the times in picoseconds at
-    /// which their responses are due, and the response that was refused.
-    pub fn into_parts(self) -> (EventQueue<MemoryRequest>, Option<MemoryResponse>)
-        ensures queue { result.0 ≡ self.queue }
-        ensures held { result.1 ≡ self.held }
-    {
-        let TargetNode {
-            memory: _,
-            hops: _hops,
-            accepts: _,
-            latency: _,
-            queue,
-            held,
-        } = self;
-        (queue, held)
-    }
 }
 
 impl<N: Naming<Plan, TlmLaw>> Node<N> for TargetNode {
