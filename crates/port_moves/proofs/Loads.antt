@@ -1,6 +1,6 @@
 -- The access that is next was taken: its payload is filled, and its tickets have left the port's wallet.
 use Rattle.std.proofs.Common.{◌≡◌, ℕ, ◌+◌, ◌*◌, ◌-◌, if◌then◌else◌, Bool, Option, Some, None, refl, sym, ap, ◌∙◌, subst, inl, inr, arith}
-use Rattle.std.specs.Prelude.{slice_get}
+use Rattle.std.specs.Prelude.{is_some, slice_get}
 use Rattle.std.proofs.lemmas.Bool.{cases_eq, eq-eqb, ne_eqb}
 use Rattle.atomic_table.specs.Seated.{TableId}
 use Rattle.tlm_model.specs.Plan.{Plan, Initiator, initiators_of}
@@ -27,20 +27,22 @@ use Rattle.port_moves.specs.Returned.{with_port}
 use Rattle.port_moves.specs.State.{StateView}
 use Rattle.port_moves.specs.Stocks.{HasPaid, IsStocked}
 
-pub loaded : (tokens : TableId) (w p : Plan) → p ≡ w → (s g t v : StateView) (x : Transfer) (b : Baton) (y : PayloadView) (z : Purse) (n : ℕ) → n ≡ s.port.engine.initiator → y ≡ payload_of s.port.engine 4096
+pub loaded : (tokens : TableId) (w : Plan) (s g t v : StateView) (x : Transfer) (b : Baton) (y : PayloadView) (z : Purse) (n : ℕ) → n ≡ s.port.engine.initiator → y ≡ payload_of s.port.engine 4096
     → g ≡ (let wallet = g.wallet in record s { wallet = wallet }) → HasPaid tokens w n x.address (payload_cost y) s.wallet g.wallet → IsStocked tokens w n x.address (payload_cost y) z
-    → ((i : Initiator) → slice_get (initiators_of p) g.port.engine.initiator ≡ Some i → t ≡ with_port g (port_taken p i g.port x (is_fenced_kind x.kind)))
+    → (routed : Bool) → routed ≡ is_some (route_at w n x.address)
+    → ((p : Plan) (i : Initiator) → slice_get (initiators_of p) g.port.engine.initiator ≡ Some i → routed ≡ is_some (route_at p g.port.engine.initiator x.address) → t ≡ with_port g (port_taken p i g.port x (is_fenced_kind x.kind)))
     → v ≡ record t { hand = Taken (record b { payload = y; wallet = z }) } → IsLoaded tokens w x b s v
-loaded tokens w p plan s g t v x b y z n number filled gave paid stocked noted is = record {
+loaded tokens w s g t v x b y z n number filled gave paid stocked routed tells noted is = record {
   stock = z;
   left = g.wallet;
   is = λ i q. (
       let u = g.wallet in
-      let there : slice_get (initiators_of p) g.port.engine.initiator ≡ Some i = ap (λ (k : StateView). slice_get (initiators_of p) k.port.engine.initiator) gave ∙ (ap (λ (k : Plan). slice_get (initiators_of k) s.port.engine.initiator) plan ∙ q) in
-      is ∙ (ap (λ (k : StateView). record k { hand = Taken (record b { payload = y; wallet = z }) }) (noted i there)
-      ∙ (ap (λ (k : StateView). record (with_port k (port_taken p i k.port x (is_fenced_kind x.kind))) { hand = Taken (record b { payload = y; wallet = z }) }) gave
-      ∙ (ap (λ (k : Plan). record s { port = port_taken k i s.port x (is_fenced_kind x.kind); hand = Taken (record b { payload = y; wallet = z }); wallet = u }) plan
-      ∙ ap (λ (k : PayloadView). record s { port = port_taken w i s.port x (is_fenced_kind x.kind); hand = Taken (record b { payload = k; wallet = z }); wallet = u }) filled)))
+      let same : g.port.engine.initiator ≡ s.port.engine.initiator = ap (λ (k : StateView). k.port.engine.initiator) gave in
+      let there : slice_get (initiators_of w) g.port.engine.initiator ≡ Some i = ap (slice_get (initiators_of w)) same ∙ q in
+      let told : routed ≡ is_some (route_at w g.port.engine.initiator x.address) = subst (λ (k : ℕ). routed ≡ is_some (route_at w k x.address)) (number ∙ sym same) tells in
+      is ∙ (ap (λ (k : StateView). record k { hand = Taken (record b { payload = y; wallet = z }) }) (noted w i there told)
+      ∙ (ap (λ (k : StateView). record (with_port k (port_taken w i k.port x (is_fenced_kind x.kind))) { hand = Taken (record b { payload = y; wallet = z }) }) gave
+      ∙ ap (λ (k : PayloadView). record s { port = port_taken w i s.port x (is_fenced_kind x.kind); hand = Taken (record b { payload = k; wallet = z }); wallet = u }) filled))
       );
   paid = subst (λ (k : PayloadView). HasPaid tokens w s.port.engine.initiator x.address (payload_cost k) s.wallet g.wallet) filled (subst (λ (k : ℕ). HasPaid tokens w k x.address (payload_cost y) s.wallet g.wallet) number paid);
   stocked = subst (λ (k : PayloadView). IsStocked tokens w s.port.engine.initiator x.address (payload_cost k) z) filled (subst (λ (k : ℕ). IsStocked tokens w k x.address (payload_cost y) z) number stocked);

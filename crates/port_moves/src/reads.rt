@@ -131,7 +131,8 @@ impl PortState {
         ensures { (i : Initiator) → slice_get (initiators_of plan.now) self.old.port.engine.initiator ≡ Some i →
             self.new ≡ with_port self.old (port_read plan.now i self.old.port transfer) }
     {
-        self.note_refusal(plan, transfer, true, Command::Read);
+        let routed = plan.route(self.initiator(), transfer.address).is_some();
+        self.note_refusal(transfer, routed, true, Command::Read);
         self.go_past();
     }
 }

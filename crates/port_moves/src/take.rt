@@ -1,15 +1,17 @@
 // What a port does where it takes an access.
-ghost use Rattle.std.specs.Prelude.{◌≡◌, ℕ, ◌<◌, ◌≤◌, ◌⊎◌, [], ◌∷◌, ◌++◌, true, false, length, Some, slice_get};
+ghost use Rattle.std.specs.Prelude.{◌≡◌, ℕ, ◌<◌, ◌≤◌, ◌⊎◌, [], ◌∷◌, ◌++◌, true, false, is_some, length, Some, slice_get};
 ghost use Rattle.view_lists.specs.Lists.{Has};
 ghost use Rattle.token_book.specs.Account.{amount_of};
 ghost use Rattle.token_book.specs.Purse.{HasPlace, HasRoom, IsOf, empty_purse, left_of};
 ghost use Rattle.token_book.specs.Ticket.{IsTicket};
 ghost use Rattle.cargo_model.specs.Tickets.{Pulls};
+ghost use Rattle.tlm_model.specs.Plan as model;
 ghost use Rattle.tlm_model.specs.Plan.{Initiator, initiators_of};
 ghost use Rattle.region_object.specs.Call.{payload_cost};
 ghost use Rattle.script_engine.specs.declared.part.Part.TheVariants.{Asks};
 ghost use Rattle.script_engine.specs.Part.{is_debug_kind, is_fenced_kind};
 ghost use Rattle.script_engine.specs.State.{is_fenced, next_of, op_of, passed_by, payload_of};
+ghost use Rattle.plat_net.specs.Calls.{route_at};
 ghost use Rattle.port_model.specs.Laws.{next_request, refused_for};
 ghost use Rattle.port_moves.specs.Loaded.{IsAccessOf, IsLoaded};
 ghost use Rattle.port_moves.specs.Moves.{port_taken};
@@ -99,7 +101,7 @@ impl PortState {
         self.engine.fill(payload);
     }
 
-    // Moves the tickets of the access that is next out of its wallet into that of the payload.
+    // Moves the tickets of the access that is next out of its wallet into that of the payload. Answers whether it has a route.
     pub(crate) fn give<N: Naming<Plan, TlmLaw>>(
         &mut self,
         net: &Net<N>,
@@ -107,7 +109,7 @@ impl PortState {
         address: u64,
         payload: &Payload,
         to: &mut Wallet,
-    )
+    ) -> bool
         requires initiator { initiator < length N.frame.world.platform.initiators }
         requires tables { IsOf N.tokens self.old.wallet × IsOf N.tokens to.old }
         requires empty { to.old ≡ empty_purse 12 }
@@ -115,29 +117,28 @@ impl PortState {
         ensures state { self.new ≡ (let wallet = self.new.wallet in record self.old { wallet = wallet }) }
         ensures paid { HasPaid N.tokens N.frame.world initiator address (payload_cost payload.now) self.old.wallet self.new.wallet }
         ensures stocked { IsStocked N.tokens N.frame.world initiator address (payload_cost payload.now) to.new }
+        ensures routed { result ≡ is_some (route_at N.frame.world initiator address) }
     {
-        stock(net, initiator, address, payload, &mut self.wallet, to);
+        stock(net, initiator, address, payload, &mut self.wallet, to)
     }
 
-    // Tells a transfer that is next as refused, where its address has no route.
+    // Tells a transfer that is next as refused, unless its address has a route.
     pub(crate) fn note_refusal(
         &mut self,
-        plan: &Plan,
         transfer: Transfer,
+        routed: bool,
         debug: bool,
         command: Command,
     )
         requires next { next_of self.old.port.engine ≡ Asks transfer }
         requires debug { debug ≡ is_debug_kind transfer.kind }
         requires command { command ≡ (payload_of self.old.port.engine 4096).command }
-        requires initiator { self.old.port.engine.initiator < length plan.now.platform.initiators }
         requires room { length self.old.port.refused < self.old.room }
         ensures keeps { self.new ≡ (let port = self.old.port in with_port self.old (record port { refused = self.new.port.refused })) }
-        ensures told { (i : Initiator) → slice_get (initiators_of plan.now) self.old.port.engine.initiator ≡ Some i →
-            self.new ≡ (let port = self.old.port in with_port self.old (record port { refused = port.refused ++ refused_for plan.now i (next_request port transfer) port.time })) }
+        ensures told { (p : model.Plan) (i : Initiator) → slice_get (initiators_of p) self.old.port.engine.initiator ≡ Some i → routed ≡ is_some (route_at p self.old.port.engine.initiator transfer.address) →
+            self.new ≡ (let port = self.old.port in with_port self.old (record port { refused = port.refused ++ refused_for p i (next_request port transfer) port.time })) }
     {
-        let initiator = self.engine.initiator();
-        if plan.route(initiator, transfer.address).is_none() {
+        if !routed {
             self.refuse(transfer, debug, command);
         }
     }
@@ -156,19 +157,18 @@ impl PortState {
         });
     }
 
-    // Notes the access that is next as outstanding, and as refused where its address has no route, and goes
+    // Notes the access that is next as outstanding, and as refused unless its address has a route, and goes
     // on in the script, or waits where the access is fenced.
-    pub(crate) fn note_taken(&mut self, plan: &Plan, transfer: Transfer, command: Command)
+    pub(crate) fn note_taken(&mut self, transfer: Transfer, routed: bool, command: Command)
         requires next { next_of self.old.port.engine ≡ Asks transfer }
         requires access { IsAccessOf transfer.kind }
         requires command { command ≡ (payload_of self.old.port.engine 4096).command }
-        requires initiator { self.old.port.engine.initiator < length plan.now.platform.initiators }
         requires new { Has self.old.port.away self.old.port.engine.seq → ⊥ }
         requires room { (length self.old.port.away < self.old.room) × (length self.old.port.refused < self.old.room) }
-        ensures { (i : Initiator) → slice_get (initiators_of plan.now) self.old.port.engine.initiator ≡ Some i →
-            self.new ≡ with_port self.old (port_taken plan.now i self.old.port transfer (is_fenced_kind transfer.kind)) }
+        ensures { (p : model.Plan) (i : Initiator) → slice_get (initiators_of p) self.old.port.engine.initiator ≡ Some i → routed ≡ is_some (route_at p self.old.port.engine.initiator transfer.address) →
+            self.new ≡ with_port self.old (port_taken p i self.old.port transfer (is_fenced_kind transfer.kind)) }
     {
-        self.note_refusal(plan, transfer, false, command);
+        self.note_refusal(transfer, routed, false, command);
         self.note_away(transfer.seq);
         if is_fenced(transfer) {
             self.wait_for_it();
@@ -193,14 +193,14 @@ impl PortState {
         let mut baton = baton;
         self.fill(&mut baton.payload);
         let initiator = self.engine.initiator();
-        self.give(
+        let routed = self.give(
             net,
             initiator,
             transfer.address,
             &baton.payload,
             &mut baton.wallet,
         );
-        self.note_taken(net.plan(), transfer, baton.payload.command());
+        self.note_taken(transfer, routed, baton.payload.command());
         self.turn_to(Hand::Taken(baton));
     }
 }

@@ -1,4 +1,5 @@
 use Rattle.std.proofs.Common.{◌≡◌, ◌⊎◌, ℕ, ◌+◌, ◌*◌, ◌≤◌, length, Some, None, refl, sym, ap, subst}
+use Rattle.std.specs.Prelude.{is_some}
 use Rattle.atomic_table.specs.Seated.{TableId}
 use Rattle.token_book.specs.Purse.{HasPlace, HasRoom, IsOf, bytes_of}
 use Rattle.region_object.specs.Call.{payload_cost}
@@ -36,3 +37,9 @@ returns-clause-paid g c = paid_some g.N.Naming.tokens g.N.Naming.frame.world c.a
 
 pub returns-clause-stocked : goal.returns-clause-stocked
 returns-clause-stocked g c = stocked_some g.N.Naming.tokens g.N.Naming.frame.world c.args.initiator c.args.address (payload_cost c.args.payload.now) c.args.from.now c.args.to.now c.requires.may c.requires.empty c.stock_hops-hops.new.from c.stock_hops-hops.new.to c.stock_hops-hops.ensures.moved c.hand_over.new.from c.hand_over.new.to (gives_as c.tickets.result.now g.N.Naming.tokens c.pool_place.result (own_pool g.N.Naming.frame.world c.args.initiator) (2 * c.stock_hops-hops.result + 1) (2 * length (hops_at g.N.Naming.frame.world c.args.initiator c.args.address) + 1) 0 0 c.stock_hops-hops.new.from c.hand_over.new.from c.tickets.ensures c.pool_place.ensures (ap (λ (k : ℕ). 2 * k + 1) c.stock_hops-hops.ensures.count) refl c.hand_over.ensures.from) (gets_as c.tickets.result.now g.N.Naming.tokens c.pool_place.result (own_pool g.N.Naming.frame.world c.args.initiator) (2 * c.stock_hops-hops.result + 1) (2 * length (hops_at g.N.Naming.frame.world c.args.initiator c.args.address) + 1) 0 0 c.stock_hops-hops.new.to c.hand_over.new.to c.tickets.ensures c.pool_place.ensures (ap (λ (k : ℕ). 2 * k + 1) c.stock_hops-hops.ensures.count) refl c.hand_over.ensures.to) c.hand_over.ensures.from_in (subst (λ (n : ℕ). (o : ℕ) → HasPlace c.hand_over.new.to o → HasPlace c.stock_hops-hops.new.to o ⊎ (o ≡ n)) c.pool_place.ensures c.hand_over.ensures.to_in) c.in-Some.route (route_told c.plan.result.now c.args.net.now g.N.Naming.frame.world c.args.initiator c.args.address c.route.result (Some c.in-Some.route) c.plan.ensures.plan c.plan.ensures.world c.route.ensures c.in-Some.is) c.hand_one.new.from c.hand_one.new.to (gives_as c.tickets-2.result.now g.N.Naming.tokens c.in-Some.route.memory c.in-Some.route.memory 1 1 c.payload_cost-cost.result (payload_cost c.args.payload.now) c.hand_over.new.from c.hand_one.new.from c.tickets-2.ensures refl refl c.payload_cost-cost.ensures c.hand_one.ensures.from) (gets_as c.tickets-2.result.now g.N.Naming.tokens c.in-Some.route.memory c.in-Some.route.memory 1 1 c.payload_cost-cost.result (payload_cost c.args.payload.now) c.hand_over.new.to c.hand_one.new.to c.tickets-2.ensures refl refl c.payload_cost-cost.ensures c.hand_one.ensures.to) c.hand_one.ensures.from_in
+
+pub returns-in_default-clause-routed : goal.returns-in_default-clause-routed
+returns-in_default-clause-routed g c = sym (ap is_some (route_told c.plan.result.now c.args.net.now g.N.Naming.frame.world c.args.initiator c.args.address c.route.result None c.plan.ensures.plan c.plan.ensures.world c.route.ensures c.in_default.is))
+
+pub returns-clause-routed : goal.returns-clause-routed
+returns-clause-routed g c = sym (ap is_some (route_told c.plan.result.now c.args.net.now g.N.Naming.frame.world c.args.initiator c.args.address c.route.result (Some c.in-Some.route) c.plan.ensures.plan c.plan.ensures.world c.route.ensures c.in-Some.is))
