@@ -1,5 +1,5 @@
 -- The entries that the moves of a port add are its own.
-use Rattle.std.proofs.Common.{◌≡◌, ℕ, Bool, true, false, List, Some, refl, sym, ap, ◌∙◌, subst}
+use Rattle.std.proofs.Common.{◌≡◌, ℕ, true, false, List, Some, refl, sym, ap, ◌∙◌, subst}
 use Rattle.atomic_table.specs.Seated.{TableId}
 use Rattle.one_history.specs.Held.{Held}
 use Rattle.one_history.specs.declared.entry.Entry.{Entry}

@@ -2,11 +2,8 @@
 use Rattle.std.proofs.Common.{List, Option, Some, None, ℕ}
 use Rattle.atomic_table.specs.Seated.{TableId}
 use Rattle.view_lists.specs.Lists.{Within}
-use Rattle.one_history.specs.Held.{Held}
-use Rattle.one_history.specs.Lists.{StandBelow}
 use Rattle.one_history.specs.declared.entry.Entry.{Entry}
 use Rattle.one_history.specs.declared.view.Frame.{Frame}
-use Rattle.shared_object.specs.Steps.{IsNote}
 use Rattle.tlm_types.specs.declared.entry.Content.{Content}
 use Rattle.tlm_types.specs.declared.words.Phase.TheVariants.{BeginResp}
 use Rattle.tlm_types.specs.declared.words.TlmSync.{TlmSync}
@@ -30,7 +27,7 @@ use Rattle.cargo_net.specs.Begins.{HasOwedLeg}
 use Rattle.cargo_net.proofs.Grown.{asked_at}
 use Rattle.port_model.specs.Way.{Port}
 use Rattle.port_moves.specs.Laws.{PortKnowsMore}
-use Rattle.port_moves.specs.State.{IsBegun, IsInHand, IsPort, IsReleased, IsTakenUp, StateView, with_note}
+use Rattle.port_moves.specs.State.{IsBegun, IsInHand, IsReleased, IsTakenUp}
 use Rattle.port_moves.specs.declared.hand.Hand.{Hand}
 use Rattle.port_moves.specs.declared.hand.Hand.TheVariants.{Free, Taken, Acquired, Begun, Owed, Ended, Released}
 use Rattle.port_moves.proofs.Goes.{goes_on}

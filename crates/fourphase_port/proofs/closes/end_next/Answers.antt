@@ -7,7 +7,7 @@ use Rattle.dmi_grants.specs.Made.{IsRoomyFor}
 use Rattle.dmi_grants.specs.Revoking.{IsRevoking}
 use Rattle.port_moves.specs.Returned.{TakesAll}
 use Rattle.fourphase_port.proofs.Revoked.{room_for_none}
-use Rattle.fourphase_port.proofs.Closings.{close_memory, close_passage, close_passes, close_tickets, close_told, closed_port, closes_on}
+use Rattle.fourphase_port.proofs.Closings.{close_memory, close_passage, close_tickets, close_told, closed_port, closes_on}
 use Rattle.fourphase_port.proofs.closes.end_next.Goals as goal
 
 pub end_next_grant-ending-requires-clause-memory : goal.end_next_grant-ending-requires-clause-memory
