@@ -12,7 +12,7 @@ use std::thread::Threads;
 use tlm_types::TxnId;
 
 /// Two initiators before a router of 5 ps with two memories of 10 and 20 ps, with a quantum of 50 ps.
-const BUS: &str = "version = 1\nquantum = 50\n\
+pub(crate) const BUS: &str = "version = 1\nquantum = 50\n\
                    [[initiator]]\nname = 'one'\nstyle = 'blocking'\nscript = 'a'\nbind = 'bus'\n\
                    [[initiator]]\nname = 'two'\nstyle = 'blocking'\nscript = 'b'\nbind = 'bus'\n\
                    [[router]]\nname = 'bus'\nlatency = 5\n\
@@ -86,20 +86,6 @@ fn the_pace_is_told_of_every_access(rt: HostRuntime) {
     assert!(rt; pace.told() == 2 * ACCESSES && pace.wrong() == 0);
 }
 
-/// Two initiators on one memory that run far ahead of one another.
-const TWO_AHEAD: &str = "version = 1\nquantum = 1000000\n\
-    [[initiator]]\nname = 'one'\nstyle = 'blocking'\nscript = 'a'\nbind = 'ram'\n\
-    [[initiator]]\nname = 'two'\nstyle = 'blocking'\nscript = 'b'\nbind = 'ram'\n\
-    [[memory]]\nname = 'ram'\nsize = 16\n";
-
-/// Four of them.
-const FOUR_AHEAD: &str = "version = 1\nquantum = 1000000\n\
-    [[initiator]]\nname = 'one'\nstyle = 'blocking'\nscript = 'a'\nbind = 'ram'\n\
-    [[initiator]]\nname = 'two'\nstyle = 'blocking'\nscript = 'b'\nbind = 'ram'\n\
-    [[initiator]]\nname = 'three'\nstyle = 'blocking'\nscript = 'c'\nbind = 'ram'\n\
-    [[initiator]]\nname = 'four'\nstyle = 'blocking'\nscript = 'd'\nbind = 'ram'\n\
-    [[memory]]\nname = 'ram'\nsize = 16\n";
-
 // With logs that are forgotten the same comes of a run, by one worker and by several, but its history can't be read. The
 // first share of turns has an access, after which the memories forget for the first time.
 #[test]
@@ -113,6 +99,21 @@ fn what_is_forgotten_is_counted(rt: HostRuntime) {
     }
 }
 
+// The plan of as many blocking initiators on one memory as there are scripts, with this quantum.
+fn side_by_side(rt: &impl Abort, alloc: Global, quantum: u32, scripts: &[&str]) -> Plan {
+    let mut platform = format!(in alloc;
+        "version = 1\nquantum = {quantum}\n[[memory]]\nname = 'ram'\nsize = 16\n"
+    ).expect(rt, "room");
+    for number in 0..scripts.len() {
+        write!(
+            platform,
+            "[[initiator]]\nname = 'i{number}'\nstyle = 'blocking'\nscript = 'a'\nbind = 'ram'\n"
+        )
+        .expect(rt, "room");
+    }
+    plan_of(alloc, platform.as_str(), scripts).expect(rt, "a plan")
+}
+
 // The initiator of the entry at position 0, which is that one's first access.
 fn first_of(rt: &impl Abort, alloc: Global, history: &MergedLog) -> u32 {
     assert!(rt; history.is_whole());
@@ -124,16 +125,15 @@ fn first_of(rt: &impl Abort, alloc: Global, history: &MergedLog) -> u32 {
     initiator
 }
 
-// Runs initiators that make two accesses each, by as many workers. All but one are held until that one
-// has announced its second: then its first comes before theirs.
+// Runs initiators that make two accesses each and run far ahead of one another, by as many workers. All but one are held
+// until that one has announced its second: then its first comes before theirs.
 fn expect_first<R: Threads + Wait + Abort + Sync>(
     rt: &R,
     alloc: Global,
-    platform: &str,
     scripts: &[&str],
     free: u32,
 ) {
-    let plan = plan_of(alloc, platform, scripts).expect(rt, "a plan");
+    let plan = side_by_side(rt, alloc, 1_000_000, scripts);
     assert!(rt; scripts.len() <= 4);
     let count = scripts.len() as u32;
     let pace = Holding::all_but(free);
@@ -148,40 +148,22 @@ fn expect_first<R: Threads + Wait + Abort + Sync>(
 fn two_at_once(rt: HostRuntime) {
     let one = "write 0x0 aa\nfence\nread 0x1 1\n";
     let two = "write 0x1 bb\nfence\nread 0x0 1\n";
-    expect_first(&rt, rt.alloc(), TWO_AHEAD, &[one, two], 1);
-    expect_first(&rt, rt.alloc(), TWO_AHEAD, &[one, two], 0);
+    expect_first(&rt, rt.alloc(), &[one, two], 1);
+    expect_first(&rt, rt.alloc(), &[one, two], 0);
 }
 
 // With four workers, three initiators can be held while the fourth goes on.
 #[test]
 fn four_at_once(rt: HostRuntime) {
     let script = "read 0x0 1\nread 0x0 1\n";
-    expect_first(&rt, rt.alloc(), FOUR_AHEAD, &[script; 4], 3);
+    expect_first(&rt, rt.alloc(), &[script; 4], 3);
 }
-
-/// Two initiators on one memory with a sync after each access.
-const TWO_IN_STEP: &str = "version = 1\nquantum = 0\n\
-    [[initiator]]\nname = 'one'\nstyle = 'blocking'\nscript = 'a'\nbind = 'ram'\n\
-    [[initiator]]\nname = 'two'\nstyle = 'blocking'\nscript = 'b'\nbind = 'ram'\n\
-    [[memory]]\nname = 'ram'\nsize = 16\n";
-
-/// Three of them.
-const THREE_IN_STEP: &str = "version = 1\nquantum = 0\n\
-    [[initiator]]\nname = 'one'\nstyle = 'blocking'\nscript = 'a'\nbind = 'ram'\n\
-    [[initiator]]\nname = 'two'\nstyle = 'blocking'\nscript = 'b'\nbind = 'ram'\n\
-    [[initiator]]\nname = 'three'\nstyle = 'blocking'\nscript = 'c'\nbind = 'ram'\n\
-    [[memory]]\nname = 'ram'\nsize = 16\n";
 
 const FOUR_READS: &str = "read 0x0 1\nread 0x0 1\nread 0x0 1\nread 0x0 1\n";
 
-// Runs initiators in step, of which the first is held: each other one is held back after its second access.
-fn expect_held<R: Threads + Wait + Abort + Sync>(
-    rt: &R,
-    alloc: Global,
-    platform: &str,
-    scripts: &[&str],
-) {
-    let plan = plan_of(alloc, platform, scripts).expect(rt, "a plan");
+// Runs initiators that sync after each access, of which the first is held: each other one is held back after its second.
+fn expect_held<R: Threads + Wait + Abort + Sync>(rt: &R, alloc: Global, scripts: &[&str]) {
+    let plan = side_by_side(rt, alloc, 0, scripts);
     assert!(rt; scripts.len() <= 4);
     let count = scripts.len() as u32;
     let others = u64::from(count.saturating_sub(1));
@@ -194,13 +176,13 @@ fn expect_held<R: Threads + Wait + Abort + Sync>(
 
 #[test]
 fn rounds_hold(rt: HostRuntime) {
-    expect_held(&rt, rt.alloc(), TWO_IN_STEP, &[FOUR_READS; 2]);
-    expect_held(&rt, rt.alloc(), THREE_IN_STEP, &[FOUR_READS; 3]);
+    expect_held(&rt, rt.alloc(), &[FOUR_READS; 2]);
+    expect_held(&rt, rt.alloc(), &[FOUR_READS; 3]);
 }
 
-// Runs two initiators in step, which make four accesses in all, by one worker and by two.
+// Runs two initiators that sync after each access, which make four accesses in all, by one worker and by two.
 fn expect_four<R: Threads + Wait + Abort + Sync>(rt: &R, alloc: Global, scripts: &[&str]) {
-    let plan = plan_of(alloc, TWO_IN_STEP, scripts).expect(rt, "a plan");
+    let plan = side_by_side(rt, alloc, 0, scripts);
     for workers in 1..3 {
         let outcome = run_of(rt, alloc, &plan, workers, Pacing::Free);
         assert!(rt; outcome.history.len() == 4);

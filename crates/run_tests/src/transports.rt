@@ -10,6 +10,7 @@ ghost use Rattle.plat_net.specs.Calls.{CanPay, HasNoPassage, route_at};
 ghost use Rattle.run_tests.specs.Bag.{IsBag};
 
 use crate::bench::blocking_plan;
+use crate::runs::BUS;
 use blocking_path::{b_transport, transport_dbg};
 use generic_payload::Payload;
 use plat_build::{Built, Kept, Opened, Start, build};
@@ -24,17 +25,7 @@ use std::sync::Wait;
 use tlm_types::{Ps, Response, TxnId};
 use token_book::Wallet;
 
-/// Two initiators before a router of 5 ps with two memories of 10 and 20 ps.
-const BUS: &str = "version = 1\n\
-                   [[initiator]]\nname = 'one'\nstyle = 'blocking'\nscript = 'a'\nbind = 'bus'\n\
-                   [[initiator]]\nname = 'two'\nstyle = 'blocking'\nscript = 'a'\nbind = 'bus'\n\
-                   [[router]]\nname = 'bus'\nlatency = 5\n\
-                   [[router.window]]\nfirst = 0\nlast = 0xff\nto = 'ram'\n\
-                   [[router.window]]\nfirst = 0x100\nlast = 0x1ff\nto = 'far'\n\
-                   [[memory]]\nname = 'ram'\nsize = 16\nlatency = 10\n\
-                   [[memory]]\nname = 'far'\nsize = 16\nlatency = 20\n";
-
-/// What each of them asks for.
+/// What each of the two initiators asks for.
 const SCRIPT: &str = "write 0x104 aabb\ndebug 0x105 2\n";
 
 /// What an initiator goes about with.
