@@ -7,8 +7,9 @@
 //! - `runs` has runs by 1 to 4 workers: that they end, that workers run at once, that rounds hold
 //!   initiators back, whom the pace is told of, and that a run whose logs are forgotten ends as any other.
 //!   `paces` has the paces that hold initiators and count.
-//! - `phases` has runs of four-phase initiators, some beside blocking ones, by 1, 2, 4 and 16 workers.
-//! - `reports` has a report whose lines are written by hand, each of which is one piece for the sink.
+//! - `phases` has runs of initiators of all styles by 1, 2, 4 and 16 workers.
+//! - `reports` has a report whose lines are written by hand, each of which is one piece for the sink, and compares the
+//!   reports of a core and of a worker.
 //! - `step_bench` compares what schedules make with rows that were made by hand, each beginning of a schedule too.
 //!   `schedules` has a blocking initiator that is stepped, `phase_schedules` four-phase initiators, routers and memories,
 //!   `grant_schedules` direct initiators, invalidations and rounds.
