@@ -1,9 +1,7 @@
 -- A pump is made of moves, each of which brings it nearer to its end.
 use Rattle.std.proofs.Common.{◌≡◌, ◌⊎◌, ℕ, suc, ◌<◌, Bool, true, false, List, [], length, Option, Some, None, slice_get, refl, sym, ap, ◌∙◌, subst, inl, inr, arith}
 use Rattle.atomic_table.specs.Seated.{TableId}
-use Rattle.one_history.specs.Held.{Held}
 use Rattle.one_history.specs.declared.view.Frame.{Frame}
-use Rattle.tlm_types.specs.declared.entry.Content.{Content}
 use Rattle.tlm_model.specs.Plan.{Plan, Initiator, initiators_of}
 use Rattle.cargo_model.specs.declared.cargo.Cargo.{Cargo}
 use Rattle.script_engine.specs.declared.op.Op.{Op}
@@ -21,9 +19,8 @@ use Rattle.port_model.specs.Way.{Port}
 use Rattle.port_moves.specs.Moved.{after_begin, ends, ends_made, made, went}
 use Rattle.port_moves.specs.Moves.{Fetches, FindsNone, HasGone, IsDue, IsFetched, IsToStow, KeepsPort, PutsStray, Settles, TakesBack, port_back, port_read, port_taken}
 use Rattle.fourphase_port.specs.Moves.{IsItsInitiator}
-use Rattle.fourphase_port.specs.Pumps.{DoesKind, DoesNext, GoesOn, GoesOnIn, HasFinished, IsMove, IsMoveOf, IsMoved, IsPump, TakesNext, TriesBegin, empty_handed, moves_left, unheld}
-use Rattle.port_moves.specs.State.{PortView, StateView, with_note}
-use Rattle.fourphase_port.specs.Rest.{IsAtRest, RestView}
+use Rattle.fourphase_port.specs.Pumps.{DoesKind, DoesNext, GoesOn, GoesOnIn, HasFinished, IsMove, IsMoveOf, IsPump, TakesNext, TriesBegin, empty_handed, moves_left, unheld}
+use Rattle.port_moves.specs.State.{IsPort, PortView, StateView, with_note}
 use Rattle.port_moves.specs.declared.hand.Hand.{Hand}
 use Rattle.port_moves.specs.declared.hand.Hand.TheVariants.{Free, Taken, Acquired, Begun, Owed, Ended, Released}
 use Rattle.port_moves.specs.declared.hand.Moved.{Moved}
@@ -291,46 +288,28 @@ module _ (frame : Frame Plan) (n : ℕ) (i : Initiator) (its : slice_get (initia
   number_of (Released b ticket end) fetched old new m g is = number_kept (with_note (empty_handed old.state) old.note) new g.0.keeps is
 
 -- A pump that has come to here: what ends it from here on ends it from its beginning on.
-pub record HasPumped (table tokens : TableId) (frame : Frame Plan) (first now : RestView) (fetched : Bool) : Type 0 where
-  pub rest : IsAtRest table tokens frame now
+pub record HasPumped (table tokens : TableId) (frame : Frame Plan) (first now : PortView) (fetched : Bool) : Type 0 where
+  pub is_port : IsPort table tokens frame now
   pub number : now.port.engine.initiator ≡ first.port.engine.initiator
-  pub goes : (n k : Held Content Plan) → first.note ≡ Some n → now.note ≡ Some k → (new : PortView) (pumped : Pumped) → IsPump frame fetched (with_note now.state k) new pumped → IsPump frame false (with_note first.state n) new pumped
+  pub goes : (new : PortView) (pumped : Pumped) → IsPump frame fetched now new pumped → IsPump frame false first new pumped
 
-pub begins : (table tokens : TableId) (frame : Frame Plan) (first : RestView) → IsAtRest table tokens frame first → HasPumped table tokens frame first first false
-begins table tokens frame first rest = record {
-  rest = rest;
-  number = refl;
-  goes = λ n k q r new pumped is. subst (λ (x : Held Content Plan). IsPump frame false (with_note first.state x) new pumped) (one k n (sym r ∙ q)) is;
-}
-  where
-    one : (a b : Held Content Plan) → Some a ≡ Some b → a ≡ b
-    one a b q = cc
+pub begins : (table tokens : TableId) (frame : Frame Plan) (first : PortView) → IsPort table tokens frame first → HasPumped table tokens frame first first false
+begins table tokens frame first is_port = record { is_port = is_port; number = refl; goes = λ new pumped is. is }
 
-module _ (table tokens : TableId) (frame : Frame Plan) (first now then : RestView) (fetched : Bool) (h : HasPumped table tokens frame first now fetched) (rest : IsAtRest table tokens frame then) (m : Moved) (moved : IsMoved frame fetched now then m) where
-  -- the move that was made
-  move : (k : Held Content Plan) → then.note ≡ Some k → IsMove frame fetched (with_note now.state h.rest.its_note) (with_note then.state k) m
-  move k q = moved h.rest.its_note k h.rest.has_note q
-
+module _ (table tokens : TableId) (frame : Frame Plan) (first now then : PortView) (fetched : Bool) (h : HasPumped table tokens frame first now fetched) (m : Moved) (move : IsMove frame fetched now then m) where
   -- the port is that of the same initiator
   pub keeps_number : then.port.engine.initiator ≡ first.port.engine.initiator
-  keeps_number =
-      let port = h.rest.is_port in
-      number_of frame now.port.engine.initiator port.initiator port.is now.hand fetched (with_note now.state h.rest.its_note) (with_note then.state rest.its_note) m (move rest.its_note rest.has_note) refl
-      ∙ h.number
+  keeps_number = number_of frame now.port.engine.initiator h.is_port.initiator h.is_port.is now.hand fetched now then m move refl ∙ h.number
 
-  pub goes_further : m.pumped ≡ None → HasPumped table tokens frame first then true
-  goes_further none = record {
-    rest = rest;
+  pub goes_further : IsPort table tokens frame then → m.pumped ≡ None → HasPumped table tokens frame first then true
+  goes_further is_port none = record {
+    is_port = is_port;
     number = keeps_number;
-    goes = λ n k q r new pumped is. h.goes n h.rest.its_note q h.rest.has_note new pumped
-        (record { more = suc is.more; moves = (with_note then.state k, record { moved = m; is = move k r; goes_on = none }, is.moves) });
+    goes = λ new pumped is. h.goes new pumped (record { more = suc is.more; moves = (then, record { moved = m; is = move; goes_on = none }, is.moves) });
   }
 
-  pub comes_nearer : m.pumped ≡ None → moves_left then.hand true < moves_left now.hand fetched
-  comes_nearer none = nearer frame fetched (with_note now.state h.rest.its_note) (with_note then.state rest.its_note) m (move rest.its_note rest.has_note) none
-
-  pub is_pumped : (pumped : Pumped) → m.pumped ≡ Some pumped → (n k : Held Content Plan) → first.note ≡ Some n → then.note ≡ Some k → IsPump frame false (with_note first.state n) (with_note then.state k) pumped
-  is_pumped pumped ended n k q r = h.goes n h.rest.its_note q h.rest.has_note (with_note then.state k) pumped (record { more = 0; moves = record { moved = m; is = move k r; ends_it = ended } })
+  pub is_pumped : (pumped : Pumped) → m.pumped ≡ Some pumped → IsPump frame false first then pumped
+  is_pumped pumped ended = h.goes then pumped (record { more = 0; moves = record { moved = m; is = move; ends_it = ended } })
 
   pub pump_finished : (pumped : Pumped) → m.pumped ≡ Some pumped → pumped ≡ Finished → HasFinished then.state
-  pump_finished pumped ended is = has_finished frame fetched (with_note now.state h.rest.its_note) (with_note then.state rest.its_note) m (move rest.its_note rest.has_note) (ended ∙ ap (λ (x : Pumped). Some x) is)
+  pump_finished pumped ended is = has_finished frame fetched now then m move (ended ∙ ap (λ (x : Pumped). Some x) is)

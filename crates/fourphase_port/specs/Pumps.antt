@@ -141,10 +141,7 @@ module _ (frame : Frame Plan) where
     pub more : ℕ
     pub moves : AreMoves more fetched old new pumped
 
--- of a port between its moves, which has its note
-abbrev pub IsMoved : Frame Plan → Bool → RestView → RestView → Moved → Type 0
-IsMoved frame fetched old new m = (n k : Held Content Plan) → old.note ≡ Some n → new.note ≡ Some k → IsMove frame fetched (with_note old.state n) (with_note new.state k) m
-
+-- of a port between its pumps, which has its note
 abbrev pub IsPumped : Frame Plan → RestView → RestView → Pumped → Type 0
 IsPumped frame old new pumped = (n k : Held Content Plan) → old.note ≡ Some n → new.note ≡ Some k → IsPump frame false (with_note old.state n) (with_note new.state k) pumped
 

@@ -1,9 +1,10 @@
-// The next move of a port.
-ghost use Rattle.std.specs.Prelude.{◌≡◌};
+// The next move of a port, and a pump, which makes moves up to one that ends it.
+ghost use Rattle.std.specs.Prelude.{◌≡◌, false};
 ghost use Rattle.view_lists.specs.Lists.{Within};
 ghost use Rattle.fourphase_port.specs.Moves.{AddsOwn};
-ghost use Rattle.fourphase_port.specs.Pumps.{IsMove};
+ghost use Rattle.fourphase_port.specs.Pumps.{HasFinished, IsMove, IsPump};
 ghost use Rattle.port_moves.specs.State.{IsPort, with_note};
+ghost use Rattle.port_moves.specs.declared.hand.Pumped.TheVariants as Pumps;
 
 use crate::onwards::go_on;
 use cargo_net::TlmLaw;
@@ -15,6 +16,7 @@ use std::sync::Wait;
 
 /// The next move: what it works on goes on; else it looks for a response, once in a pump; else it goes on
 /// in its script.
+#[inline(always)]
 pub(crate) fn advance<N: Naming<Plan, TlmLaw>, R: Wait>(
     state: &mut PortState,
     rt: &R,
@@ -42,5 +44,30 @@ pub(crate) fn advance<N: Naming<Plan, TlmLaw>, R: Wait>(
         Hand::Owed { cargo, leg, at } => state.end(rt, net, note, cargo, leg, at),
         Hand::Ended { cargo, end } => state.take_back(rt, net, note, cargo, end),
         Hand::Released { baton, ticket, end } => state.stow(rt, net, note, baton, ticket, end),
+    }
+}
+
+/// Moves up to the one that ends the pump, and what it came to. The note is handed from move to move.
+pub(crate) fn pump<N: Naming<Plan, TlmLaw>, R: Wait>(
+    state: &mut PortState,
+    rt: &R,
+    net: &Net<N>,
+    note: PlatNote,
+) -> (Pumped, PlatNote)
+    requires port { IsPort N.table N.tokens N.frame (with_note state.old note) }
+    ensures port { IsPort N.table N.tokens N.frame (with_note state.new result.1) }
+    ensures pumped { IsPump N.frame false (with_note state.old note) (with_note state.new result.1) result.0 }
+    ensures finished { result.0 ≡ Pumps.Finished → HasFinished state.new }
+    ensures number { state.new.port.engine.initiator ≡ state.old.port.engine.initiator }
+{
+    let mut note = note;
+    let mut fetched = false;
+    loop {
+        let (moved, next) = advance(state, rt, net, note, fetched);
+        note = next;
+        if let Some(pumped) = moved.pumped {
+            return (pumped, note);
+        }
+        fetched = true;
     }
 }

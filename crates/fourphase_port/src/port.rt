@@ -5,17 +5,17 @@ ghost use Rattle.script_engine.specs.State.{next_of};
 ghost use Rattle.port_model.specs.Ends.{IsEndOfPort};
 ghost use Rattle.port_model.specs.Stages.{count_of};
 ghost use Rattle.fourphase_port.specs.Fresh.{IsFresh};
-ghost use Rattle.fourphase_port.specs.Pumps.{HasFinished, IsMoved, IsPumped, asks_for};
+ghost use Rattle.fourphase_port.specs.Pumps.{HasFinished, IsPumped, asks_for};
 ghost use Rattle.port_moves.specs.State.{IsPort, begun_state, with_note};
 ghost use Rattle.fourphase_port.specs.Rest.{IsAtRest};
 ghost use Rattle.port_moves.specs.declared.hand.Pumped.TheVariants as Pumps;
 
-use crate::moves::advance;
+use crate::moves::pump;
 use crate::onwards::may_move;
 use cargo_net::TlmLaw;
 use generic_payload::Payload;
 use plat_net::{Net, PlatNote};
-use port_moves::{Moved, PortState, Pumped};
+use port_moves::{PortState, Pumped};
 use route_plan::Plan;
 use script_engine::{Engine, Part};
 use shared_object::Naming;
@@ -108,18 +108,6 @@ impl<N: Naming<Plan, TlmLaw>> Port<N> {
         may_move(&self.state, net)
     }
 
-    /// The next move, which makes one entry at most, or those of one invalidation. `fetched` says that this pump has already looked for a
-    /// response. It takes no memory.
-    pub fn advance<R: Wait>(&mut self, rt: &R, net: &Net<N>, fetched: bool) -> Moved
-        ensures moved { IsMoved N.frame fetched self.old self.new result }
-        ensures rest { IsAtRest N.table N.tokens N.frame self.new }
-    {
-        let note = self.note.take().unwrap();
-        let (moved, note) = advance(&mut self.state, rt, net, note, fetched);
-        self.note = Some(note);
-        moved
-    }
-
     /// Moves up to where a pump ends: a response that waits on its hop is taken back; else a request that was
     /// refused is tried again; else the next operation is begun or done, where nothing has to be waited for. It
     /// takes no memory. `Finished` comes once the script has ended, nothing is outstanding and no slot of the
@@ -130,15 +118,10 @@ impl<N: Naming<Plan, TlmLaw>> Port<N> {
         ensures rest { IsAtRest N.table N.tokens N.frame self.new }
         ensures number { self.new.port.engine.initiator ≡ self.old.port.engine.initiator }
     {
-        let _ = &self.note;
-        let mut fetched = false;
-        loop {
-            let moved = self.advance(rt, net, fetched);
-            if let Some(pumped) = moved.pumped {
-                return pumped;
-            }
-            fetched = true;
-        }
+        let note = self.note.take().unwrap();
+        let (pumped, note) = pump(&mut self.state, rt, net, note);
+        self.note = Some(note);
+        pumped
     }
 
     /// Its note, its own wallet, and how its initiator ended, with no syncs.

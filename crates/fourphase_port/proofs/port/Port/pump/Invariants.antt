@@ -1,9 +1,0 @@
-use Rattle.fourphase_port.specs.Pumps.{moves_left}
-use Rattle.fourphase_port.proofs.Pumping.{HasPumped}
-use Rattle.fourphase_port.proofs.port.Port.pump.Given as goal
-
-abbrev pub invariant-loop-pumped : goal.invariant-loop-pumped
-invariant-loop-pumped g l = HasPumped g.N.Naming.table g.N.Naming.tokens g.N.Naming.frame l.fn.self l.self l.fetched
-
-abbrev pub decreases-loop-pumped : goal.decreases-loop-pumped
-decreases-loop-pumped g l = moves_left l.self.hand l.fetched
