@@ -21,7 +21,6 @@ impl<T> Hop<T> {
 
     /// BEGIN_REQ. Busy comes exactly where a request is open or no lane is free, and changes nothing.
     /// Else the entry's time is the greater of `at` and that of the last call that ended a request.
-    #[inline(always)]
     pub fn begin_req(
         &mut self,
         tokens: &Tokens,

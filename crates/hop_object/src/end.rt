@@ -18,7 +18,6 @@ impl<T> Hop<T> {
 
     /// END_REQ by a leg whose lane is Requested. It answers the leg, whose lane is then Waiting, and the
     /// entry's time: the greater of `at` and the time of the lane's last call.
-    #[inline(always)]
     pub fn end_req(&mut self, tokens: &Tokens, position: u64, leg: Leg, at: Ps) -> (Leg, Ps)
         requires tokens { self.old.book.table ≡ tokens.now }
         requires leg { IsLegOf self.old leg Requested }
@@ -47,7 +46,6 @@ impl<T> Hop<T> {
 
     /// END_RESP by a leg whose lane is Responding. It answers the entry's time: the greater of `at` and
     /// the time of the lane's last call.
-    #[inline(always)]
     pub fn end_resp(&mut self, tokens: &Tokens, position: u64, leg: Leg, at: Ps) -> Ps
         requires tokens { self.old.book.table ≡ tokens.now }
         requires leg { IsLegOf self.old leg Responding }

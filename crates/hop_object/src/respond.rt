@@ -21,7 +21,6 @@ impl<T> Hop<T> {
     /// BEGIN_RESP by a leg whose lane is Requested or Waiting. Busy comes exactly where another lane is
     /// Responding, and changes nothing. Else the entry's time is the greatest of `at`, the time of the
     /// lane's last call, and those of all calls that ended a response.
-    #[inline(always)]
     pub fn begin_resp(
         &mut self,
         tokens: &Tokens,
