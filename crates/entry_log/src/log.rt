@@ -3,6 +3,7 @@ ghost use Rattle.std.specs.Prelude.{◌≡◌, ◌≢◌, ◌+◌, ◌^◌, ◌<
 ghost use Rattle.entry_log.specs.LogItem.{HasParts, IsLast};
 ghost use Rattle.tlm_types.specs.Entries.{access_by, enables_of, entry_at, facts_of, got_of, head_of, is_access, plain_of, read_at, read_sends, sent_of};
 ghost use Rattle.entry_log.specs.Log.{with_entry};
+ghost use Rattle.tlm_types.specs.declared.entry.What.TheVariants.{Call};
 ghost use Rattle.tlm_types.specs.declared.words.Command.TheVariants.{Read};
 
 mod item;
@@ -15,7 +16,7 @@ use long::{Span, plain_event};
 use past::Past;
 use std::alloc::Global;
 use std::marker::Model;
-use tlm_types::{Facts, Head, Memory, TxnId, What};
+use tlm_types::{Facts, Head, Memory, Phase, TlmSync, TxnId, What};
 
 /// An access of a log, with its bytes. What a read sent isn't kept, so of a read `sent` says nothing.
 #[derive(Clone, Copy)]
@@ -141,6 +142,16 @@ impl Log {
         ensures roomy { length self.old.entries < self.old.room → IsOk result }
     {
         self.items.push_event(head, plain_event(what))
+    }
+
+    /// Appends the entry of a call at a hop, as `push` does.
+    #[inline(always)]
+    pub fn push_call(&mut self, head: Head, phase: Phase, answer: TlmSync) -> Result<(), Memory>
+        ensures ok { OnOk result (self.new ≡ with_entry self.old (entry_at head (Call phase answer))) }
+        ensures err { OnErr result (self.new ≡ self.old) }
+        ensures roomy { length self.old.entries < self.old.room → IsOk result }
+    {
+        self.items.push_call(head, phase, answer)
     }
 
     /// Appends the entry of an access, with the bytes that it sent, its byte enables, and a read's

@@ -2,13 +2,13 @@
 ghost use Rattle.std.specs.Prelude.{◌≡◌, ◌<◌, true, false, Some, None};
 ghost use Rattle.tlm_types.specs.declared.words.Phase.TheVariants.{BeginReq, BeginResp};
 ghost use Rattle.tlm_types.specs.declared.words.TlmSync.TheVariants.{Updated, Completed};
-ghost use Rattle.base_phases.specs.declared.phases.LaneState.TheVariants.{Free, Responding};
+ghost use Rattle.base_phases.specs.declared.phases.LaneState.TheVariants.{Free, Responding, Waiting};
 ghost use Rattle.base_phases.specs.Phases.{next_state};
 ghost use Rattle.hop_object.specs.States.{is_down};
 
 use crate::answer::{request_answer, request_end_begun};
 use crate::call::{Begun, Leg};
-use crate::hop::{Hop, push_call};
+use crate::hop::Hop;
 use crate::lane::{Lane, any_responding, put, requester};
 use crate::legs::issue;
 use base_phases::LaneState;
@@ -21,6 +21,7 @@ impl<T> Hop<T> {
 
     /// BEGIN_REQ. Busy comes exactly where a request is open or no lane is free, and changes nothing.
     /// Else the entry's time is the greater of `at` and that of the last call that ended a request.
+    #[inline(always)]
     pub fn begin_req(
         &mut self,
         tokens: &Tokens,
@@ -66,7 +67,7 @@ impl<T> Hop<T> {
                 }
             }
             TlmSync::Updated(_) => {
-                self.leave(position, txn, at, LaneState::Waiting, item);
+                self.leave_ended(position, txn, at, item);
                 Begun::Left { answer, at: time }
             }
         }
@@ -89,7 +90,7 @@ impl<T> Hop<T> {
             txn,
             time,
         };
-        push_call(&mut self.log, head, Phase::BeginReq, answer, 0);
+        self.log.push_call(head, Phase::BeginReq, answer, 0);
         self.request_end = request_end_begun(self.request_end, answer, time);
         let lane = Lane {
             txn,
@@ -102,8 +103,18 @@ impl<T> Hop<T> {
         put(&mut self.lanes, lane);
     }
 
+    // The same, where the answer ends the request. This and the next two aren't made part of the caller, which would grow very
+    // large.
+    fn leave_ended(&mut self, position: u64, txn: TxnId, at: Ps, item: T)
+        requires can { can_begin self.old ≡ true }
+        requires may { MayCall self.old position }
+        requires next { next_state Free BeginReq (begin_answer self.old) ≡ Some Waiting }
+        ensures { self.new ≡ entered self.old (begin_entry self.old position txn at (begin_answer self.old)) (begin_answer self.old) Waiting (Some item) self.old.book }
+    {
+        self.leave(position, txn, at, LaneState::Waiting, item);
+    }
+
     // A BEGIN_REQ that is answered with BEGIN_RESP: the leg goes back at once.
-    #[inline(always)]
     fn answer_now(&mut self, tokens: &Tokens, position: u64, txn: TxnId, at: Ps) -> Leg
         requires tokens { self.old.book.table ≡ tokens.now }
         requires can { can_begin self.old ≡ true }
@@ -120,7 +131,7 @@ impl<T> Hop<T> {
             txn,
             time,
         };
-        push_call(&mut self.log, head, Phase::BeginReq, answer, 0);
+        self.log.push_call(head, Phase::BeginReq, answer, 0);
         self.request_end = time;
         let lane = Lane {
             txn,
@@ -135,7 +146,6 @@ impl<T> Hop<T> {
     }
 
     // A BEGIN_REQ that ends the transaction.
-    #[inline(always)]
     fn complete_now(&mut self, position: u64, txn: TxnId, at: Ps)
         requires can { can_begin self.old ≡ true }
         requires may { MayCall self.old position }
@@ -149,7 +159,8 @@ impl<T> Hop<T> {
             txn,
             time,
         };
-        push_call(&mut self.log, head, Phase::BeginReq, TlmSync::Completed, 0);
+        self.log
+            .push_call(head, Phase::BeginReq, TlmSync::Completed, 0);
         self.request_end = time;
     }
 }

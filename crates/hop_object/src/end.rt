@@ -5,7 +5,7 @@ ghost use Rattle.base_phases.specs.declared.phases.LaneState.TheVariants.{Reques
 ghost use Rattle.hop_object.specs.Lanes.{has_leg};
 
 use crate::call::Leg;
-use crate::hop::{Hop, push_call};
+use crate::hop::Hop;
 use crate::lane::{change, let_go, take_out};
 use crate::legs::{issue, redeem};
 use base_phases::LaneState;
@@ -18,6 +18,7 @@ impl<T> Hop<T> {
 
     /// END_REQ by a leg whose lane is Requested. It answers the leg, whose lane is then Waiting, and the
     /// entry's time: the greater of `at` and the time of the lane's last call.
+    #[inline(always)]
     pub fn end_req(&mut self, tokens: &Tokens, position: u64, leg: Leg, at: Ps) -> (Leg, Ps)
         requires tokens { self.old.book.table ≡ tokens.now }
         requires leg { IsLegOf self.old leg Requested }
@@ -35,7 +36,8 @@ impl<T> Hop<T> {
             txn,
             time,
         };
-        push_call(&mut self.log, head, Phase::EndReq, TlmSync::Accepted, 0);
+        self.log
+            .push_call(head, Phase::EndReq, TlmSync::Accepted, 0);
         self.request_end = time;
         let next = LaneState::Waiting;
         let was = change(&mut self.lanes, index, next, time, position, None);
@@ -46,6 +48,7 @@ impl<T> Hop<T> {
 
     /// END_RESP by a leg whose lane is Responding. It answers the entry's time: the greater of `at` and
     /// the time of the lane's last call.
+    #[inline(always)]
     pub fn end_resp(&mut self, tokens: &Tokens, position: u64, leg: Leg, at: Ps) -> Ps
         requires tokens { self.old.book.table ≡ tokens.now }
         requires leg { IsLegOf self.old leg Responding }
@@ -62,7 +65,8 @@ impl<T> Hop<T> {
             txn,
             time,
         };
-        push_call(&mut self.log, head, Phase::EndResp, TlmSync::Completed, 0);
+        self.log
+            .push_call(head, Phase::EndResp, TlmSync::Completed, 0);
         self.response_end = self.response_end.max(time);
         let was = take_out(&mut self.lanes, index);
         let_go(was);

@@ -16,6 +16,7 @@ impl<T> Hop<T> {
 
     /// Of the items that wait for the component downstream the one with the least time, equal times in
     /// order of arrival, with its leg and the state of its lane. None comes exactly where none waits.
+    #[inline(always)]
     pub fn fetch_down(&mut self, tokens: &Tokens) -> Option<(Leg, LaneState, TxnId, Ps, T)>
         requires { self.old.book.table ≡ tokens.now }
         ensures { FetchesDown self.old self.new result }
@@ -26,6 +27,7 @@ impl<T> Hop<T> {
 
     /// Of the responses that wait for the component upstream the first, in the same order. The leg is
     /// there exactly where END_RESP is owed. None comes exactly where none waits.
+    #[inline(always)]
     pub fn fetch_up(&mut self, tokens: &Tokens) -> Option<(Option<Leg>, TxnId, Ps, T)>
         requires { self.old.book.table ≡ tokens.now }
         ensures { FetchesUp self.old self.new result }

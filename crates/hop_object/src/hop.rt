@@ -175,12 +175,3 @@ impl<T> Hop<T> {
         all_ended(&self.lanes, txn)
     }
 }
-
-// Adds the entry of a call with its mark, for which there is room.
-#[inline(always)]
-pub(crate) fn push_call(log: &mut NumberedLog, head: Head, phase: Phase, answer: TlmSync, mark: u32)
-    requires { length log.old.events < log.old.room }
-    ensures { log.new ≡ with_event log.old (event_of (entry_at head (Call phase answer)) mark) }
-{
-    log.push(head, What::Call { phase, answer }, mark);
-}

@@ -13,8 +13,7 @@ impl<T> Hop<T> {
     ghost use Rattle.hop_object.specs.Hops.{MayCall};
     ghost use Rattle.hop_object.specs.Objects.{is_admitted, Applied, IsFit};
 
-    // Makes a call. Its kind is known where this is inlined, which the compiler leaves out for a very large function: so the
-    // calls of each kind aren't made part of it.
+    // Makes a call. Its kind is known where this is inlined.
     #[inline(always)]
     fn answer(&mut self, tokens: &Tokens, position: u64, call: HopCall<T>) -> HopReply<T>
         requires tokens { self.old.book.table ≡ tokens.now }

@@ -8,7 +8,7 @@ use crate::answer::{
     mark_of, request_end_responded, response_answer, response_end_responded, state_by,
 };
 use crate::call::{Leg, Responded};
-use crate::hop::{Hop, push_call};
+use crate::hop::Hop;
 use crate::lane::{any_responding, change, let_go, responder};
 use crate::legs::redeem;
 use tlm_types::{Head, ObjectNo, Phase, Ps};
@@ -21,6 +21,7 @@ impl<T> Hop<T> {
     /// BEGIN_RESP by a leg whose lane is Requested or Waiting. Busy comes exactly where another lane is
     /// Responding, and changes nothing. Else the entry's time is the greatest of `at`, the time of the
     /// lane's last call, and those of all calls that ended a response.
+    #[inline(always)]
     pub fn begin_resp(
         &mut self,
         tokens: &Tokens,
@@ -66,13 +67,8 @@ impl<T> Hop<T> {
             txn,
             time,
         };
-        push_call(
-            &mut self.log,
-            head,
-            Phase::BeginResp,
-            answer,
-            mark_of(state),
-        );
+        self.log
+            .push_call(head, Phase::BeginResp, answer, mark_of(state));
         self.request_end = request_end_responded(self.request_end, state, answer, time);
         self.response_end = response_end_responded(self.response_end, answer, time);
         let next = state_by(answer);

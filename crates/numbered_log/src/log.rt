@@ -1,13 +1,14 @@
 // A log whose entries have numbers.
 ghost use Rattle.std.specs.Prelude.{◌≡◌, ◌<◌, true, false, [], length, map, IfOk};
 ghost use Rattle.tlm_types.specs.Entries.{entry_at, is_access};
+ghost use Rattle.tlm_types.specs.declared.entry.What.TheVariants.{Call};
 ghost use Rattle.flow_model.specs.Events.{entries};
 ghost use Rattle.numbered_log.specs.Logged.{event_of, with_event};
 
 use entry_log::Log;
 use std::alloc::Global;
 use std::marker::Model;
-use tlm_types::{Head, Memory, What};
+use tlm_types::{Head, Memory, Phase, TlmSync, What};
 
 /// A log without accesses, and the number of each entry. Contracts see its entries with their numbers,
 /// and for how many there is room.
@@ -66,6 +67,18 @@ impl NumberedLog {
         self.log
     }
 
+    /// Appends the entry of a call at a hop with its number. The room for it is there.
+    #[inline(always)]
+    pub fn push_call(&mut self, head: Head, phase: Phase, answer: TlmSync, number: u32)
+        requires { length self.old.events < self.old.room }
+        ensures { self.new ≡ with_event self.old (event_of (entry_at head (Call phase answer)) number) }
+    {
+        let Ok(()) = self.log.push_call(head, phase, answer) else {
+            unreachable!()
+        };
+        self.numbers.push_reserved(number);
+    }
+
     /// Appends an entry with its number. The room for it is there.
     #[inline(always)]
     pub fn push(&mut self, head: Head, what: What, number: u32)
@@ -76,8 +89,6 @@ impl NumberedLog {
         let Ok(()) = self.log.push(head, what) else {
             unreachable!()
         };
-        let Ok(()) = self.numbers.push(number) else {
-            unreachable!()
-        };
+        self.numbers.push_reserved(number);
     }
 }

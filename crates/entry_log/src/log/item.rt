@@ -4,6 +4,7 @@
 ghost use Rattle.std.specs.Prelude.{◌≡◌, ◌+◌, ◌^◌, ◌<◌, length, Some, IfSome, IsTrue};
 ghost use Rattle.entry_log.specs.LogItem.{access_in, facts_from, full_access, full_head, full_way, head_in, item_for, long_form, plain_in, short_facts, short_span, stored_at, IsOrdered, FitsItems, IsShortFor};
 ghost use Rattle.entry_log.specs.declared.log.long.Event.TheVariants as events;
+ghost use Rattle.entry_log.specs.declared.log.long.Plain.TheVariants.{Call};
 ghost use Rattle.tlm_types.specs.declared.words.ObjectNo.TheVariants.{Memory};
 
 use super::long::{LongItem, PlacedAccess, Plain, Span, access_of, facts_of, head_of, what_of};
@@ -208,18 +209,18 @@ pub(super) fn short_access(head: Head, facts: Facts, span: Span) -> Option<Item>
     let (ObjectNo::Memory(memory), Response::Ok) = (head.object, facts.status) else {
         return None;
     };
-    if !has_short_numbers(&facts) || !has_data_alone(&facts, &span) {
+    if !is_short(&head, memory) || !has_short_numbers(&facts) || !has_data_alone(&facts, &span) {
         return None;
     }
     let length = facts.length as u16;
     let access = ShortAccess {
         command: facts.command,
-        initiator: in_one_byte(head.txn.initiator)?,
-        object: in_two_bytes(memory)?,
+        initiator: head.txn.initiator as u8,
+        object: memory as u16,
         start: span.start,
         offset: facts.offset as u32,
     };
-    let head = short_head(&head)?;
+    let head = short_head(&head);
     Some(match facts.way {
         Way::Direct(gate) => Item::Direct {
             gate: in_one_byte(gate)?,
@@ -236,42 +237,76 @@ pub(super) fn short_access(head: Head, facts: Facts, span: Span) -> Option<Item>
     })
 }
 
+// A call at a hop in the short form, where it has one.
+#[inline(always)]
+pub(super) fn short_call(head: Head, phase: Phase, answer: TlmSync) -> Option<Item>
+    ensures { IfSome result (IsShortFor (item_for head 0 (events.Plain (Call phase answer)))) }
+{
+    let ObjectNo::Hop(hop) = head.object else {
+        return None;
+    };
+    if !is_short(&head, hop) {
+        return None;
+    }
+    Some(Item::Call {
+        phase,
+        answer,
+        initiator: head.txn.initiator as u8,
+        object: hop as u16,
+        head: short_head(&head),
+    })
+}
+
 // An entry that is no access in the short form, where it has one.
 #[inline(always)]
 pub(super) fn short_event(head: Head, event: Plain) -> Option<Item>
     ensures { IfSome result (IsShortFor (item_for head 0 (events.Plain event))) }
 {
-    let short = short_head(&head)?;
-    let initiator = in_one_byte(head.txn.initiator)?;
-    match (event, head.object) {
-        (Plain::Call { phase, answer }, ObjectNo::Hop(hop)) => Some(Item::Call {
-            phase,
-            answer,
+    if let Plain::Call { phase, answer } = event {
+        return short_call(head, phase, answer);
+    }
+    let ObjectNo::Pool(pool) = head.object else {
+        return None;
+    };
+    if !is_short(&head, pool) {
+        return None;
+    }
+    let initiator = head.txn.initiator as u8;
+    let object = pool as u16;
+    let head = short_head(&head);
+    match event {
+        Plain::Take { slot } => Some(Item::Take {
             initiator,
-            object: in_two_bytes(hop)?,
-            head: short,
-        }),
-        (Plain::Take { slot }, ObjectNo::Pool(pool)) => Some(Item::Take {
-            initiator,
-            object: in_two_bytes(pool)?,
+            object,
             slot,
-            head: short,
+            head,
         }),
-        (Plain::Acquire { slot }, ObjectNo::Pool(pool)) => Some(Item::Acquire {
+        Plain::Acquire { slot } => Some(Item::Acquire {
             initiator,
-            object: in_two_bytes(pool)?,
+            object,
             slot,
-            head: short,
+            head,
         }),
-        (Plain::Release { slot, freed }, ObjectNo::Pool(pool)) => Some(Item::Release {
+        Plain::Release { slot, freed } => Some(Item::Release {
             freed,
             initiator,
-            object: in_two_bytes(pool)?,
+            object,
             slot,
-            head: short,
+            head,
         }),
         _ => None,
     }
+}
+
+// The numbers of an entry at the object of this number are as small as the short form asks.
+#[inline(always)]
+fn is_short(head: &Head, object: u32) -> bool
+    ensures { IsTrue result → (head.now.position < 2 ^ 32) × (head.now.txn.seq < 2 ^ 32) × (head.now.txn.initiator < 2 ^ 8) × (object < 2 ^ 16) }
+{
+    head.position <= u32::MAX as u64
+        && head.txn.seq <= u32::MAX as u64
+        && head.txn.initiator <= u8::MAX as u32
+        && object <= u16::MAX as u32
 }
 
 #[inline(always)]
@@ -357,19 +392,17 @@ fn short_span(command: Command, start: u32, length: u16) -> Span
     }
 }
 
-// The head in the short form, where it has one.
+// The head in the short form.
 #[inline(always)]
-fn short_head(head: &Head) -> Option<ShortHead>
-    ensures { IfSome result (λ short. short ≡ record { time = head.now.time; position = head.now.position; seq = head.now.txn.seq }) }
+fn short_head(head: &Head) -> ShortHead
+    requires { (head.now.position < 2 ^ 32) × (head.now.txn.seq < 2 ^ 32) }
+    ensures { result ≡ record { time = head.now.time; position = head.now.position; seq = head.now.txn.seq } }
 {
-    if head.position > u32::MAX as u64 || head.txn.seq > u32::MAX as u64 {
-        return None;
-    }
-    Some(ShortHead {
+    ShortHead {
         time: head.time,
         position: head.position as u32,
         seq: head.txn.seq as u32,
-    })
+    }
 }
 
 #[inline(always)]
@@ -420,14 +453,4 @@ fn in_one_byte(number: u32) -> Option<u8>
         return None;
     }
     Some(number as u8)
-}
-
-#[inline(always)]
-fn in_two_bytes(number: u32) -> Option<u16>
-    ensures { IfSome result (λ bytes. bytes ≡ number) }
-{
-    if number > u16::MAX as u32 {
-        return None;
-    }
-    Some(number as u16)
 }

@@ -2,12 +2,13 @@
 ghost use Rattle.std.specs.Prelude.{◌≡◌, ◌^◌, ◌<◌, [], ◌∷◌, ◌++◌, length, Some, IsOk, IfOk, OnOk, OnErr, slice_get, option_map, option_and_then};
 ghost use Rattle.entry_log.specs.LogItem.{access_in, facts_from, head_in, item_for, long_form, plain_in, stored_at, IsOrdered, FitsItems};
 ghost use Rattle.entry_log.specs.declared.log.long.Event.TheVariants as events;
+ghost use Rattle.entry_log.specs.declared.log.long.Plain.TheVariants.{Call};
 
-use super::item::{Item, short_access, short_event};
+use super::item::{Item, short_access, short_call, short_event};
 use super::long::{Event, LongItem, PlacedAccess, Plain, Span, long_item, stored_access};
 use std::alloc::Global;
 use std::marker::Model;
-use tlm_types::{Facts, Head, Memory, What};
+use tlm_types::{Facts, Head, Memory, Phase, TlmSync, What};
 
 // Contracts see the list of the items in their long form, and the room that was made for them.
 #[derive(Drop)]
@@ -68,6 +69,27 @@ impl Items {
         match short_event(head, event) {
             Some(item) => self.push_short(item),
             None => self.push_long(long_item(head, 0, Event::Plain(event))),
+        }
+    }
+
+    // Appends a call at a hop, as `push_event` does.
+    #[inline(always)]
+    pub(super) fn push_call(
+        &mut self,
+        head: Head,
+        phase: Phase,
+        answer: TlmSync,
+    ) -> Result<(), Memory>
+        ensures ok { OnOk result (self.new ≡ record self.old { items = self.old.items ++ item_for head 0 (events.Plain (Call phase answer)) ∷ [] }) }
+        ensures err { OnErr result (self.new ≡ self.old) }
+        ensures roomy { length self.old.items < self.old.room → IsOk result }
+    {
+        match short_call(head, phase, answer) {
+            Some(item) => self.push_short(item),
+            None => {
+                let event = Event::Plain(Plain::Call { phase, answer });
+                self.push_long(long_item(head, 0, event))
+            }
         }
     }
 

@@ -13,15 +13,14 @@ unreachable-requires c =
     let ok = rw c.in_default.is at (c.push.ensures.roomy below) in
     cc
 
-pub unreachable-requires-in_default-push : goal.unreachable-requires-in_default-push
-unreachable-requires-in_default-push c =
+pub push_reserved-requires : goal.push_reserved-requires
+push_reserved-requires c =
     let s = c.self.inside in
     let len = length-events_of s.log.entries s.numbers.items in
     let room = subst (λ (l : LoggedView). length l.events < l.room) (sym c.self.view_is) c.requires.room in
-    let full = c.in_default-push.ensures.full in
     omega (arith, s.numbers.ok.0)
 
 pub returns : goal.returns
 returns c =
     let s = c.self.inside in
-    rw (c.in-Ok.ensures.ok, c.in-Ok-push.ensures.items, ← c.self.view_is, events_of-push s.log.entries s.numbers.items (entry_at c.args.head c.args.what) c.args.number c.self.invariant.same) refl
+    rw (c.in-Ok.ensures.ok, c.push_reserved.ensures.items, ← c.self.view_is, events_of-push s.log.entries s.numbers.items (entry_at c.args.head c.args.what) c.args.number c.self.invariant.same) refl
