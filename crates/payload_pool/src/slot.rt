@@ -10,6 +10,7 @@ use std::alloc::Global;
 use std::marker::Model;
 use tlm_types::{Memory, TxnId};
 use token_book::Wallet;
+use view_lists::take_from;
 
 /// How many places a wallet has.
 pub(crate) const PLACES: u32 = 12;
@@ -162,7 +163,7 @@ impl Slot {
         let Some(place) = place_in(&self.out, number) else {
             unreachable!()
         };
-        self.out.remove(place);
+        take_from(&mut self.out, place);
         self.is_free()
     }
 }

@@ -14,6 +14,7 @@ use crate::tokens::{Book, Token, Tokens};
 use std::alloc::Global;
 use std::marker::Model;
 use tlm_types::Memory;
+use view_lists::take_from;
 
 /// What is in a wallet. It has a place for each object of which it holds some, and its places are made with
 /// it. Contracts see how many places it has, and what it holds of each object.
@@ -61,7 +62,7 @@ fn drop_empty(places: &mut Vec<ObjectRights>, i: usize)
     ensures capacity { vec_capacity places.new ≡ vec_capacity places.old }
 {
     if places[i].is_empty() {
-        places.remove(i);
+        take_from(places, i);
     }
 }
 
@@ -204,7 +205,8 @@ impl Places {
         if self.places.is_empty() {
             return None;
         }
-        Some(self.places.remove(self.places.len() - 1))
+        let last = self.places.len() - 1;
+        Some(take_from(&mut self.places, last))
     }
 
     // Puts in what another wallet had of one object.
@@ -246,7 +248,7 @@ impl Places {
         let Some(i) = index_of(&self.places, object) else {
             return None;
         };
-        Some(self.places.remove(i))
+        Some(take_from(&mut self.places, i))
     }
 
     /// Retires all tickets and bytes that it holds of the owner of a book into that book. What it holds of

@@ -25,4 +25,4 @@ returns-clause-slot c =
     let s = c.self.inside in
     let p : ℕ → Bool = λ m. m == c.args.number in
     let f = found_in p s.out.items c.deref.result.now c.place_in.result c.in-Some.place c.deref.ensures.value c.place_in.ensures c.in-Some.is in
-    rw (c.or.ensures, c.take.ensures.value, c.remove.ensures.items, ← c.self.view_is, map_or c.args.kept s.kept, f.first) refl
+    rw (c.or.ensures, c.take.ensures.value, c.take_from.ensures.items, ← c.self.view_is, map_or c.args.kept s.kept, f.first) refl
