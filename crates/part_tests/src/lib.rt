@@ -8,7 +8,7 @@
 //! - `types` has the common types of `tlm_types`: with ample memory each call that may answer want of memory
 //!   gives its value. `memory` has the libraries, sinks and paces in memory of `outside`, and `files` real files and
 //!   streams, of which no contract tells the content.
-//! - `sequences` has rows of four-phase calls by the checks of `flow_check`.
+//! - `sequences` has rows of four-phase calls by the checks of `flow_check`. `lists` takes items out of a list.
 //! - `laws` has a run by hand that leaves what the law of ended runs wants (`joined_traffic`).
 //! - `boards` has the rounds of `time_board`, `queues` the jobs of `run_queue`: by one thread, and by two at
 //!   once, which meet at their locks.
@@ -32,6 +32,8 @@ mod keepers;
 #[cfg(test)]
 mod lanes;
 pub mod laws;
+#[cfg(test)]
+mod lists;
 #[cfg(test)]
 mod memory;
 #[cfg(test)]
