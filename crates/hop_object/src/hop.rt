@@ -1,11 +1,8 @@
 // A hop, and what is read of it.
-ghost use Rattle.std.specs.Prelude.{◌≡◌, ℕ, ◌<◌, ◌≤◌, [], true, not, length, All, IfOk};
+ghost use Rattle.std.specs.Prelude.{◌≡◌, ℕ, ◌≤◌, [], true, not, length, All, IfOk};
 ghost use Rattle.std.specs.List.{list_all, list_any};
-ghost use Rattle.tlm_types.specs.declared.entry.What.TheVariants.{Call};
-ghost use Rattle.tlm_types.specs.Entries.{entry_at};
 ghost use Rattle.token_book.specs.Account.{out_of};
 ghost use Rattle.flow_model.specs.Events.{Event, entries};
-ghost use Rattle.numbered_log.specs.Logged.{event_of, with_event};
 ghost use Rattle.hop_object.specs.Lanes.{any_responding, has_leg, is_ended};
 
 use crate::call::{HopTraits, Leg};
@@ -14,7 +11,7 @@ use entry_log::Log;
 use numbered_log::NumberedLog;
 use std::alloc::Global;
 use std::marker::Model;
-use tlm_types::{Head, Memory, ObjectNo, Phase, Ps, ReqMode, RespMode, TlmSync, TxnId, What};
+use tlm_types::{Memory, ObjectNo, Ps, ReqMode, RespMode, TxnId};
 use token_book::Book;
 
 /// A bound pair of sockets (clause 11.1.2) with its lanes in use, the time of the last call that ended

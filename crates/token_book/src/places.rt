@@ -202,11 +202,8 @@ impl Places {
         ensures fewer { IfSome result (λ _. map.len self.new.held < map.len self.old.held) }
         ensures none { IfNone result ((self.old ≡ empty_purse self.old.places) × (self.new ≡ self.old)) }
     {
-        if self.places.is_empty() {
-            return None;
-        }
-        let last = self.places.len() - 1;
-        Some(take_from(&mut self.places, last))
+        let place = self.places.pop()?;
+        Some(place)
     }
 
     // Puts in what another wallet had of one object.

@@ -12,7 +12,7 @@
 
 ghost use Rattle.std.specs.Prelude.{◌≡◌, ◌+◌, ◌<◌, remove, slice_index_or, vec_capacity, vec_len};
 
-/// Takes out the item at a place. What stands behind it closes up; most often nothing does, and nothing is moved.
+/// Takes out the item at a place. What stands behind it closes up; where nothing does, nothing is moved.
 pub fn take_from<T>(list: &mut Vec<T>, at: usize) -> T
     requires { at < vec_len list.old }
     ensures value { result ≡ slice_index_or list.old.items at result }
