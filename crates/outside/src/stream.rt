@@ -178,6 +178,34 @@ impl<W: Write + Drop> StreamSink<W> {
         }
         Ok(())
     }
+
+    // Writes a piece that can't wait as it is: what waits goes to the stream first. After a failure it is refused, unless
+    // it is empty.
+    #[cold]
+    #[inline(never)]
+    fn write_on(&mut self, bytes: &[u8]) -> Result<(), Failed>
+        ensures gathered { OnOk result (Appends (collected self.old) (collected self.new) bytes.now) }
+        ensures cut_short { OnErr result
+            (AppendsPrefix (collected self.old) (collected self.new) bytes.now) }
+        ensures bounded { length self.new.waiting ≤ STREAM_ROOM }
+        ensures stopped { IsTrue self.old.failed → HasStopped self.old self.new
+            × (IsOk result ↔ (bytes.now ≡ [])) }
+        ensures counted { self.new.faults
+            ≡ (if is_ok result then self.old.faults else next_count self.old.faults) }
+        ensures marked { self.new.failed ≡ (self.old.failed || is_err result) }
+    {
+        if self.failed && bytes.is_empty() {
+            return Ok(());
+        }
+        if self.failed || !self.pour() {
+            return self.fail();
+        }
+        if bytes.len() > STREAM_ROOM {
+            return self.pass(bytes);
+        }
+        self.collect(bytes);
+        Ok(())
+    }
 }
 
 impl<W: Stream + Drop> StreamSink<W> {
@@ -232,18 +260,8 @@ impl<W: Stream + Drop> Sink for StreamSink<W> {
         ensures later { self.old.faults ≤ self.new.faults }
         ensures failed { OnErr result (Rose self.old.faults self.new.faults) }
     {
-        if self.failed && !bytes.is_empty() {
-            return self.fail();
-        }
-        if self.has_room(bytes) {
-            self.collect(bytes);
-            return Ok(());
-        }
-        if !self.pour() {
-            return self.fail();
-        }
-        if bytes.len() > STREAM_ROOM {
-            return self.pass(bytes);
+        if self.failed || !self.has_room(bytes) {
+            return self.write_on(bytes);
         }
         self.collect(bytes);
         Ok(())
