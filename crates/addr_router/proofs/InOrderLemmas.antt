@@ -1,6 +1,6 @@
--- Windows in order: what is found by halves is what is found in the rows.
-use Rattle.std.proofs.Common.{◌≡◌, ℕ, zero, suc, ◌-◌, ◌<◌, ◌≤◌, Bool, true, false, cond, leb, List, [], ◌∷◌, length, get_or, Option, None, Some, All, find, count_by, refl, sym, ◌∙◌, ap, arith}
-use Rattle.std.specs.List.Sorted.{IsPartitionPoint, IsPermutation}
+-- Windows in order: what is found there is what is found in the rows.
+use Rattle.std.proofs.Common.{◌≡◌, ℕ, zero, suc, ◌+◌, ◌-◌, ◌<◌, ◌≤◌, Bool, true, false, cond, leb, List, [], ◌∷◌, length, get_or, Option, None, Some, All, find, count_by, refl, sym, ◌∙◌, ap, arith}
+use Rattle.std.specs.List.Sorted.{IsNonDecreasingBy, IsPartitionPoint, IsPermutation}
 use Rattle.std.proofs.lemmas.Bool.{cond-false, false_from_ne_true, le-leb, leb-true}
 use Rattle.std.proofs.lemmas.List.{get_or_default}
 use Rattle.std.proofs.lemmas.List.Sorted.{All-permutation, IsPermutation-sym, sum_by-IsPermutation}
@@ -71,6 +71,38 @@ in_order rows sorted valid order = record {
   each = All-permutation IsProper rows sorted order.same valid.each;
   once = λ a. (let e = sum_by-IsPermutation (λ (w : Window). cond (is_within w a) 1 0) rows sorted order.same in let few = count_once (λ (w : Window). is_within w a) rows (λ i j d below inside s t. valid.apart i j d below inside a s t) in omega arith);
 }
+
+-- of windows in order those that begin at the address or before it come first
+pub begun_first : (windows : List Window) (a : ℕ) → IsNonDecreasingBy (λ (w : Window). w.first) windows → (count_by (λ (w : Window). leb w.first a) windows ≤ length windows) × IsPartitionPoint (λ (w : Window). leb w.first a ≡ true) (λ (w : Window). leb w.first a ≡ false) windows (count_by (λ (w : Window). leb w.first a) windows)
+begun_first [] a rises = (omega arith, ((λ k d low high. absurd (omega (arith, high))), (λ k d low high. absurd (omega (arith, high)))))
+begun_first (w ∷ ws) a rises = by (leb w.first a) refl (begun_first ws a (λ i j d low inside. rises (suc i) (suc j) d (omega (arith, low)) (omega (arith, inside))))
+  where
+    p : Window → Bool
+    p v = leb v.first a
+
+    Goal : List Window → Type 0
+    Goal vs = (count_by p vs ≤ length vs) × IsPartitionPoint (λ (v : Window). leb v.first a ≡ true) (λ (v : Window). leb v.first a ≡ false) vs (count_by p vs)
+
+    by : (b : Bool) → leb w.first a ≡ b → Goal ws → Goal (w ∷ ws)
+    by true is rest = (omega (arith, one, rest.0), (below, past))
+      where
+        one : count_by p (w ∷ ws) ≡ 1 + count_by p ws
+        one = count_yes p w ws is
+
+        below : (k : ℕ) (d : Window) → 0 ≤ k → k < count_by p (w ∷ ws) → leb (get_or (w ∷ ws) k d).first a ≡ true
+        below zero d low high = is
+        below (suc k) d low high = rest.1.0 k d (omega arith) (omega (arith, one, high))
+
+        past : (k : ℕ) (d : Window) → count_by p (w ∷ ws) ≤ k → k < length (w ∷ ws) → leb (get_or (w ∷ ws) k d).first a ≡ false
+        past zero d low high = absurd (omega (arith, one, low))
+        past (suc k) d low high = rest.1.1 k d (omega (arith, one, low)) (omega (arith, high))
+    by false is rest = (omega (arith, none), ((λ k d low high. absurd (omega (arith, none, high))), (λ k d low high. off k d high)))
+      where
+        off : (k : ℕ) (d : Window) → k < length (w ∷ ws) → leb (get_or (w ∷ ws) k d).first a ≡ false
+        off k d inside = false_from_ne_true (leb (get_or (w ∷ ws) k d).first a) (λ t. let up = rises 0 k d (omega arith) inside in let low = leb-true (get_or (w ∷ ws) k d).first a t in absurd (let c : false ≡ true = sym is ∙ le-leb w.first a (omega (arith, up, low)) in cc c))
+
+        none : count_by p (w ∷ ws) ≡ 0
+        none = count_none p (w ∷ ws) w (λ k inside. off k w inside)
 
 -- the last window that begins at the address or before it is the one that may have it
 module _ (windows : List Window) (a : ℕ) (order : IsInOrder windows) where

@@ -1,5 +1,5 @@
 // The windows of a router.
-ghost use Rattle.std.specs.Prelude.{◌≡◌, ◌≢◌, ◌==◌, ◌↔◌, [], length, position, find, option_copied, IfOk, IsOk};
+ghost use Rattle.std.specs.Prelude.{◌≡◌, ◌≢◌, ◌==◌, ◌↔◌, [], length, position, find, count_by, leb, option_copied, IfOk, IsOk};
 ghost use Rattle.std.specs.Result.{result_err};
 ghost use Rattle.addr_router.specs.InOrder.{IsInOrder, IsOrderOf, KeepsOrder};
 ghost use Rattle.addr_router.specs.Windows.{HasOneWindow, IsValid, decoded, first_fault, is_overlapping, is_within, overlap_fault, row_fault, translated_up, window_fault};
@@ -19,7 +19,7 @@ const NO_WINDOW: Window = Window {
 };
 
 /// The windows of a router. Contracts see the list of their rows. Up to 16 are kept in order of their first
-/// addresses, too, and an address is looked up there by halves.
+/// addresses, too, and an address is looked up there.
 #[derive(Drop)]
 pub struct Windows {
     rows: Vec<Window>,
@@ -86,7 +86,7 @@ impl Windows {
         if count > MOST_IN_ORDER {
             return first_at(rows, address);
         }
-        by_halves(&self.in_order[..count], address)
+        last_begun(&self.in_order[..count], address)
     }
 
     /// The addresses for which the target at this port sees the range from `first` to `last`, both
@@ -174,12 +174,25 @@ fn first_at(rows: &[Window], address: u64) -> Option<&Window>
     rows.iter().find(|window| window.contains(address))
 }
 
+// How many of these windows begin at the address or before it. It looks at all of them, since branches that addresses
+// foretell badly would cost more.
+#[inline(always)]
+fn begun(windows: &[Window], address: u64) -> usize
+    ensures { result ≡ count_by (λ w. leb w.first address) windows.now }
+{
+    let mut count = 0;
+    for window in windows {
+        count += (window.first <= address) as usize;
+    }
+    count
+}
+
 // The window that has the address, of windows in order: it can only be the last one that doesn't begin past it.
-fn by_halves(windows: &[Window], address: u64) -> Option<&Window>
+fn last_begun(windows: &[Window], address: u64) -> Option<&Window>
     requires { IsInOrder windows.now }
     ensures { option_copied result ≡ find (λ w. is_within w address) windows.now }
 {
-    let after = windows.partition_point(|window| window.first <= address);
+    let after = begun(windows, address);
     if after == 0 {
         return None;
     }
