@@ -1,6 +1,6 @@
 -- What an engine's parts stand for.
 use Rattle.std.specs.Prelude.{drop}
-use Rattle.script_engine.specs.declared.engine.Engine.TheInside.{Inside}
+use Rattle.script_engine.specs.declared.walk.ScriptWalk.TheInside.{Inside}
 use Rattle.script_engine.specs.State.{State, due_at}
 
 abbrev pub state_of : Inside → State

@@ -2,49 +2,38 @@
 ghost use Rattle.std.specs.Prelude.{◌≡◌, ◌≤◌, length, true, false};
 ghost use Rattle.script_engine.specs.State.{IsRead, begun_engine, is_fenced, length_of, op_of, passed_by, payload_of, told_by};
 
-use crate::buffer::Buffer;
 use crate::op::Op;
-use crate::operations::{due_after, fenced_access, fill_for, numbers_of, op_for};
+use crate::walk::ScriptWalk;
 use generic_payload::Payload;
 use std::marker::Model;
-use tlm_types::Command;
-use traffic_script::{Cursor, Script};
+use traffic_script::Script;
 
 /// What an initiator asks for, operation by operation, as its script says.
+// What is next is looked up as soon as it is known, long before it is asked for: by then it is in the caches.
 pub struct Engine {
-    initiator: u32,
-    cursor: Cursor,
-    seq: u64,
-    due: Option<u64>,
-    buffer: Buffer,
-    ended: bool,
+    walk: ScriptWalk,
+    next: Op,
 }
 
 // Written out, so that the crates above call it: how each part is let go of is proved here alone.
 impl Drop for Engine {
     fn drop(self) {
         let Engine {
-            initiator: _,
-            cursor: _,
-            seq: _,
-            due: _,
-            buffer: _,
-            ended: _,
+            walk: _walk,
+            next: _,
         } = self;
     }
 }
 
 impl Model for Engine {
-    ghost use Rattle.script_engine.specs.State.{State};
+    ghost use Rattle.std.specs.Prelude.{◌≡◌};
+    ghost use Rattle.script_engine.specs.State.{State, op_of};
 
     ghost Value = { State };
 
-    ghost use Rattle.script_engine.specs.Parts.{state_of};
-    ghost use Rattle.script_engine.specs.Ready.{IsReady};
+    ghost view = { λ e. e.walk };
 
-    ghost view = { state_of };
-
-    ghost invariant = { λ e. IsReady (state_of e) };
+    ghost invariant = { λ e. e.next ≡ op_of e.walk };
 }
 
 impl Engine {
@@ -52,14 +41,9 @@ impl Engine {
     pub fn new(initiator: u32, script: Script) -> Engine
         ensures { result ≡ begun_engine initiator script }
     {
-        Engine {
-            initiator,
-            cursor: Cursor::new(script),
-            seq: 0,
-            due: None,
-            buffer: Buffer::new(),
-            ended: false,
-        }
+        let walk = ScriptWalk::new(initiator, script);
+        let next = walk.next();
+        Engine { walk, next }
     }
 
     /// What is next. It stays until it was passed, or its reply was told.
@@ -67,14 +51,7 @@ impl Engine {
     pub fn next(&self) -> Op
         ensures { result ≡ op_of self.now }
     {
-        if let Some(address) = self.due {
-            let length = self.buffer.as_slice().len() as u32;
-            return fenced_access(self.seq, address, length, Command::Write);
-        }
-        match self.cursor.current() {
-            Some(operation) => op_for(self.seq, operation),
-            None => Op::Done,
-        }
+        self.next
     }
 
     /// Makes it the payload of the access or debug read that is next, with the status INCOMPLETE. It is
@@ -84,15 +61,7 @@ impl Engine {
         requires { 4096 ≤ payload.old.room }
         ensures { payload.new ≡ payload_of self.now payload.old.room }
     {
-        if let Some(address) = self.due {
-            let bytes = self.buffer.as_slice();
-            payload.set_write(address, bytes, bytes.len() as u64);
-            return;
-        }
-        match self.cursor.current() {
-            Some(operation) => fill_for(operation, payload),
-            None => payload.reset(),
-        }
+        self.walk.fill(payload);
     }
 
     /// Goes on after the reply to a fenced access, whose payload has the bytes that a read got, as many as
@@ -102,15 +71,8 @@ impl Engine {
         requires whole { IsRead (op_of self.old) → length payload.now.bytes ≡ length_of (op_of self.old) }
         ensures { self.new ≡ told_by self.old payload.now.bytes }
     {
-        self.ended = self.due.is_some();
-        self.seq += 1;
-        if self.ended {
-            self.due = None;
-        } else if let Some(operation) = self.cursor.current() {
-            self.due = due_after(operation, payload.bytes(), &mut self.buffer);
-            self.ended = self.due.is_none();
-            self.cursor.advance();
-        }
+        self.walk.told(payload);
+        self.next = self.walk.next();
     }
 
     /// Goes on after anything else: after an access or a debug read once its payload was filled, and
@@ -120,11 +82,8 @@ impl Engine {
         requires { is_fenced (op_of self.old) ≡ false }
         ensures { self.new ≡ passed_by self.old }
     {
-        if let Some(operation) = self.cursor.current() {
-            self.seq += numbers_of(operation);
-            self.cursor.advance();
-            self.ended = true;
-        }
+        self.walk.passed();
+        self.next = self.walk.next();
     }
 
     /// Whether an operation of the script has just ended: not before the first one ends, and not between
@@ -132,20 +91,20 @@ impl Engine {
     pub fn at_end_of_operation(&self) -> bool
         ensures { result ≡ self.now.ended }
     {
-        self.ended
+        self.walk.at_end_of_operation()
     }
 
     /// The number of the initiator.
     pub fn initiator(&self) -> u32
         ensures { result ≡ self.now.initiator }
     {
-        self.initiator
+        self.walk.initiator()
     }
 
     /// How many sequence numbers are taken so far: one for each access, debug read and invalidation.
     pub fn transactions(&self) -> u64
         ensures { result ≡ self.now.seq }
     {
-        self.seq
+        self.walk.transactions()
     }
 }

@@ -22,6 +22,7 @@ pub mod laws;
 mod op;
 mod operations;
 mod part;
+mod walk;
 
 pub use engine::Engine;
 pub use op::Op;

@@ -1,10 +1,10 @@
 use Rattle.std.proofs.Common.{sym, arith}
 use Rattle.std.proofs.lemmas.Grind.{common_steps}
 use Rattle.script_engine.proofs.Remaining.{drop_past, first_proper, left}
-use Rattle.script_engine.proofs.engine.Engine.next.Goals as goal
+use Rattle.script_engine.proofs.walk.ScriptWalk.fill.Goals as goal
 
-pub op_for-requires : goal.op_for-requires
-op_for-requires c = first_proper c.self.inside.cursor c.in-Some-current.operation.now c.in-Some-current.ensures.next c.self.invariant.proper
+pub fill_for-requires-clause-proper : goal.fill_for-requires-clause-proper
+fill_for-requires-clause-proper c = first_proper c.self.inside.cursor c.in-Some-current.operation.now c.in-Some-current.ensures.next c.self.invariant.proper
 
 pub returns-in-Some-current : goal.returns-in-Some-current
 returns-in-Some-current c = grind (arith, common_steps, left c.self.inside.cursor c.in-Some-current.operation.now c.in-Some-current.ensures.next)

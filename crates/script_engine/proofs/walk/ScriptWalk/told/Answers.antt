@@ -3,7 +3,7 @@ use Rattle.script_engine.specs.State.{State, due_at}
 use Rattle.script_engine.specs.Ready.{IsReady}
 use Rattle.script_engine.proofs.Remaining.{first_proper}
 use Rattle.script_engine.proofs.States.{first_whole, no_due, none_due, not_fenced, ready_told, told_to}
-use Rattle.script_engine.proofs.engine.Engine.told.Goals as goal
+use Rattle.script_engine.proofs.walk.ScriptWalk.told.Goals as goal
 
 pub due_after-self-inside-requires-clause-proper : goal.due_after-self-inside-requires-clause-proper
 due_after-self-inside-requires-clause-proper c = first_proper c.self.inside.cursor c.in-Some.operation.now c.in-Some.ensures.next c.self.invariant.proper

@@ -3,7 +3,7 @@ use Rattle.script_engine.specs.State.{State, due_at}
 use Rattle.script_engine.specs.Ready.{IsReady}
 use Rattle.script_engine.proofs.Remaining.{first_proper, left}
 use Rattle.script_engine.proofs.States.{passed_past, passed_to, ready_passed}
-use Rattle.script_engine.proofs.engine.Engine.passed.Goals as goal
+use Rattle.script_engine.proofs.walk.ScriptWalk.passed.Goals as goal
 
 pub numbers_of-requires : goal.numbers_of-requires
 numbers_of-requires c = first_proper c.self.inside.cursor c.in-Some.operation.now c.in-Some.ensures.next c.self.invariant.proper
