@@ -1,4 +1,3 @@
 mod Accesses
-mod ShortForms
 mod Pasts
 mod Stored

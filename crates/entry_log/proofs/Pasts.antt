@@ -4,9 +4,9 @@ use Rattle.std.proofs.lemmas.List.{length-map}
 use Rattle.std.proofs.lemmas.List.Elements.{All-append}
 use Rattle.tlm_types.specs.declared.entry.Entry.{Entry}
 use Rattle.entry_log.specs.declared.log.Log.TheInside.{Inside}
-use Rattle.entry_log.specs.declared.log.long.LongItem.{LongItem}
 use Rattle.entry_log.specs.Log.{LogView}
-use Rattle.entry_log.specs.LogItem.{item_entry, entries_of, IsPast}
+use Rattle.entry_log.specs.LogBytes.{IsPast}
+use Rattle.log_items.specs.Items.{FullItem, item_entry, entries_of}
 use Rattle.entry_log.proofs.Stored.{entries_timed}
 
 -- a list without elements adds none
@@ -26,9 +26,9 @@ pub stored_whole : (s : Inside) (log : LogView) → IsPast s.past.entries s.forg
 stored_whole s log past seen whole = sym (none_before s.past.entries (entries_of s.bytes.items s.items.items) (forgot_whole s log past seen whole)) ∙ ap (λ (l : LogView). l.entries) seen
 
 -- the entries that a log forgot and those in store have times that there are
-pub timed_all : (past : List Entry) (bytes : List ℕ) (items : List LongItem) → All (λ (e : Entry). e.time < 2 ^ 64) past → All (λ (i : LongItem). i.time < 2 ^ 64) items → All (λ (e : Entry). e.time < 2 ^ 64) (past ++ entries_of bytes items)
+pub timed_all : (past : List Entry) (bytes : List ℕ) (items : List FullItem) → All (λ (e : Entry). e.time < 2 ^ 64) past → All (λ (i : FullItem). i.item.time < 2 ^ 64) items → All (λ (e : Entry). e.time < 2 ^ 64) (past ++ entries_of bytes items)
 timed_all past bytes items given timed = All-append (λ (e : Entry). e.time < 2 ^ 64) past (entries_of bytes items) given (entries_timed bytes items timed)
 
 -- and there are so many of them
-pub count_all : (past : List Entry) (bytes : List ℕ) (items : List LongItem) → length (past ++ entries_of bytes items) ≡ length past + length items
+pub count_all : (past : List Entry) (bytes : List ℕ) (items : List FullItem) → length (past ++ entries_of bytes items) ≡ length past + length items
 count_all past bytes items = omega (arith, length-append past (entries_of bytes items), length-map items (item_entry bytes))

@@ -1,18 +1,15 @@
 // The log of an object: its entries in order, kept without a list of bytes for each.
 ghost use Rattle.std.specs.Prelude.{◌≡◌, ◌≢◌, ◌+◌, ◌^◌, ◌<◌, ◌≤◌, [], ◌++◌, length, true, false, All, Ok, Some, IsOk, IsSome, IsSomeAnd, IfSome, IfOk, IfErr, OnOk, OnErr, IsTrue, ◌↔◌, slice_get, slice_range, option_map, vec_len, vec_capacity};
-ghost use Rattle.entry_log.specs.LogItem.{HasParts, IsLast};
+ghost use Rattle.entry_log.specs.LogBytes.{HasParts, IsLast, Reads};
+ghost use Rattle.log_items.specs.Items.{IsOrdered};
 ghost use Rattle.tlm_types.specs.Entries.{access_by, enables_of, entry_at, facts_of, got_of, head_of, is_access, plain_of, read_at, read_sends, sent_of};
 ghost use Rattle.entry_log.specs.Log.{with_entry};
 ghost use Rattle.tlm_types.specs.declared.entry.What.TheVariants.{Call};
 ghost use Rattle.tlm_types.specs.declared.words.Command.TheVariants.{Read};
 
-mod item;
-mod items;
-mod long;
 mod past;
 
-use items::Items;
-use long::{Span, plain_event};
+use log_items::{Items, PlacedAccess, Span, WORD, plain_event};
 use past::Past;
 use std::alloc::Global;
 use std::marker::Model;
@@ -60,7 +57,8 @@ impl Drop for Log {
 impl Model for Log {
     ghost use Rattle.std.specs.Prelude.{◌++◌, eqb, vec_capacity};
     ghost use Rattle.entry_log.specs.Log.{LogView};
-    ghost use Rattle.entry_log.specs.LogItem.{entries_of, IsStored};
+    ghost use Rattle.entry_log.specs.LogBytes.{IsStored};
+    ghost use Rattle.log_items.specs.Items.{entries_of};
 
     ghost Value = { LogView };
 
@@ -177,6 +175,9 @@ impl Log {
         if facts.length >= LARGE {
             return self.push_large(copied_head(&head), copied_facts(&facts), sent, enables, got);
         }
+        if facts.length <= WORD as u64 && self.push_word(head, facts, sent, enables, got)? {
+            return Ok(());
+        }
         self.push_new(head, facts, sent, enables, got)
     }
 
@@ -235,6 +236,30 @@ impl Log {
         let count = (span.end - span.start) as u64;
         self.room_bytes = self.room_bytes.saturating_sub(count);
         Ok(true)
+    }
+
+    // Appends an access whose bytes fit into its item, and answers whether they do.
+    #[inline(always)]
+    fn push_word(
+        &mut self,
+        head: Head,
+        facts: Facts,
+        sent: &[u8],
+        enables: &[u8],
+        got: &[u8],
+    ) -> Result<bool, Memory>
+        requires { facts.command ≡ Read → sent.now ≡ [] }
+        ensures word { result ≡ Ok true → self.new ≡ with_entry self.old
+            (entry_at head (access_by facts sent.now enables.now got.now)) }
+        ensures not { result ≡ Ok false → self.new ≡ self.old }
+        ensures err { OnErr result (self.new ≡ self.old) }
+        ensures roomy { length self.old.entries < self.old.room → IsOk result }
+    {
+        let is_word = self.items.push_word(head, facts, sent, enables, got)?;
+        if is_word {
+            self.room_bytes = self.room_bytes.saturating_sub(facts.length);
+        }
+        Ok(is_word)
     }
 
     // Appends an access with its bytes.
@@ -320,15 +345,21 @@ impl Log {
         ensures enables { IfSome result (λ a. read_at enables_of self.now.entries index ≡ Some a.enables.now) }
         ensures got { IfSome result (λ a. read_at got_of self.now.entries index ≡ Some a.got.now) }
     {
-        let access = self.items.access(index as usize)?;
-        let span = access.span;
+        self.read(index as usize)
+    }
+
+    // The access at this index with its bytes, which stand in its item or among those of all accesses.
+    #[inline(always)]
+    fn read(&self, index: usize) -> Option<LoggedAccess<'_>>
+        requires whole { self.now.whole ≡ true }
+        requires index { index < length self.now.entries }
+        ensures { Reads self.now.entries index result }
+    {
+        let (access, own) = self.items.access(index)?;
         let bytes = self.bytes.as_slice();
-        Some(LoggedAccess {
-            head: access.head,
-            facts: access.facts,
-            sent: &bytes[span.start as usize..span.enables_start as usize],
-            enables: &bytes[span.enables_start as usize..span.got_start as usize],
-            got: &bytes[span.got_start as usize..span.end as usize],
+        Some(match own {
+            Some(own) => logged(access, own),
+            None => logged(access, bytes),
         })
     }
 
@@ -366,6 +397,26 @@ impl Log {
             Some(access) => access.got,
             None => &[],
         }
+    }
+}
+
+// The access whose parts stand there among these bytes.
+#[inline(always)]
+fn logged<'a>(access: PlacedAccess, bytes: &'a [u8]) -> LoggedAccess<'a>
+    requires ordered { IsOrdered access.span }
+    requires within { access.span.end ≤ length bytes.now }
+    ensures plain { (result.head ≡ access.head) × (result.facts ≡ access.facts) }
+    ensures sent { result.sent.now ≡ slice_range bytes.now access.span.start access.span.enables_start }
+    ensures enables { result.enables.now ≡ slice_range bytes.now access.span.enables_start access.span.got_start }
+    ensures got { result.got.now ≡ slice_range bytes.now access.span.got_start access.span.end }
+{
+    let span = access.span;
+    LoggedAccess {
+        head: access.head,
+        facts: access.facts,
+        sent: &bytes[span.start as usize..span.enables_start as usize],
+        enables: &bytes[span.enables_start as usize..span.got_start as usize],
+        got: &bytes[span.got_start as usize..span.end as usize],
     }
 }
 
@@ -517,7 +568,7 @@ fn append(bytes: &mut Vec<u8>, sent: &[u8], enables: &[u8], got: &[u8])
     append_part(bytes, got);
 }
 
-// Most accesses have bytes in one part alone, and are of a word or of two, which take no call.
+// Most accesses have bytes in one part alone.
 #[inline(always)]
 fn append_part(bytes: &mut Vec<u8>, part: &[u8])
     requires { vec_len bytes.old + length part.now ≤ vec_capacity bytes.old }
@@ -528,9 +579,5 @@ fn append_part(bytes: &mut Vec<u8>, part: &[u8])
     if part.is_empty() {
         return;
     }
-    match part.len() {
-        4 => bytes.extend_from_slice(&part[..4]).unwrap(),
-        8 => bytes.extend_from_slice(&part[..8]).unwrap(),
-        _ => bytes.extend_from_slice(part).unwrap(),
-    }
+    bytes.extend_from_slice(part).unwrap();
 }

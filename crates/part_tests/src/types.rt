@@ -224,6 +224,32 @@ fn a_log_reads_back_blocks_that_it_keeps_once(rt: HostRuntime) {
     assert!(rt; has_data(&log, 2, NINES) && has_data(&log, 3, &like));
 }
 
+// A read whose bytes fit into an item.
+const WORD_READ: Facts = Facts {
+    way: Way::Debug,
+    command: Command::Read,
+    offset: 0x10,
+    length: 8,
+    width: 8,
+    status: Response::Ok,
+};
+
+#[test]
+fn a_log_reads_back_words(rt: HostRuntime) {
+    let mut log = Log::with_room(rt.alloc(), 3, 20).expect(&rt, "memory");
+    let write = log.push_access(WRITE_HEAD, WRITE, SENT, &[], &[]);
+    let read = log.push_access(WRITE_HEAD, WORD_READ, &[], &[], &BLOCK[..8]);
+    let late = Head {
+        time: WIDE,
+        ..WRITE_HEAD
+    };
+    let later = log.push_access(late, WORD_READ, &[], &[], &NINES[..8]);
+    assert!(rt; write.is_ok() && read.is_ok() && later.is_ok() && log.room_bytes() == 0);
+    assert!(rt; has_data(&log, 0, SENT) && has_data(&log, 1, &BLOCK[..8]));
+    assert!(rt; has_data(&log, 2, &NINES[..8]));
+    assert!(rt; log.len() == 3 && log.is_whole() && log.head(2) == late);
+}
+
 #[test]
 fn a_log_that_forgot_counts_what_it_has_and_is_not_whole(rt: HostRuntime) {
     let mut log = Log::with_room(rt.alloc(), 2, 6).expect(&rt, "memory");

@@ -1,8 +1,7 @@
 use Rattle.std.proofs.Common.{◌^◌, ◌<◌, List, length, append-nil, All, ap, arith, subst, sym, ◌∙◌}
 use Rattle.std.proofs.lemmas.List.Elements.{All-nil}
 use Rattle.tlm_types.specs.declared.entry.Entry.{Entry}
-use Rattle.entry_log.specs.declared.log.long.LongItem.{LongItem}
-use Rattle.entry_log.specs.LogItem.{IsKept}
+use Rattle.log_items.specs.Items.{FullItem, IsWithin}
 use Rattle.entry_log.proofs.log.Log.forget.Goals as goal
 
 pub invariant_of-self : goal.invariant_of-self
@@ -15,8 +14,8 @@ invariant_of-self c =
         timed = subst (λ (es : List Entry). All (λ (e : Entry). e.time < 2 ^ 64) es) (sym c.of-past.ensures) c.len-count.ensures.timed;
         few = omega arith;
       };
-      timed = rw c.clear.ensures (All-nil (λ (i : LongItem). i.time < 2 ^ 64));
-      kept = rw c.clear.ensures (All-nil (λ i. IsKept (length c.clear-2.new.self.items) i.start i.event));
+      timed = rw c.clear.ensures (All-nil (λ (i : FullItem). i.item.time < 2 ^ 64));
+      kept = rw c.clear.ensures (All-nil (IsWithin c.clear-2.new.self.items));
       roomy = omega arith;
       small = omega arith;
     }

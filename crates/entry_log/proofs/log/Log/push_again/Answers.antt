@@ -1,7 +1,8 @@
 use Rattle.std.proofs.Common.{arith, ℕ, ◌≡◌, ◌+◌, ◌-◌, List, [], ◌∷◌, length, append_assoc, refl, subst}
 use Rattle.tlm_types.specs.Entries.{access_by, entry_at}
-use Rattle.entry_log.specs.LogItem.{entries_of, stored_at, HasParts}
-use Rattle.entry_log.specs.declared.log.long.Event.TheVariants.{Access}
+use Rattle.entry_log.specs.LogBytes.{HasParts}
+use Rattle.log_items.specs.Items.{entries_of, stored_at}
+use Rattle.log_items.specs.declared.long.Event.TheVariants.{Access}
 use Rattle.entry_log.proofs.Stored.{entries_of-again, kept-again, kept_of-access_by, timed-more}
 use Rattle.entry_log.proofs.log.Log.push_again.Goals as goal
 

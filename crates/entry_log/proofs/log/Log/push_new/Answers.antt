@@ -1,6 +1,7 @@
 use Rattle.std.proofs.Common.{arith, ℕ, ◌≡◌, ◌+◌, ◌-◌, ◌++◌, List, [], ◌∷◌, length, length-append, append_assoc, ap, refl, ◌∙◌}
-use Rattle.entry_log.specs.LogItem.{IsLast, entries_of, stored_at}
-use Rattle.entry_log.specs.declared.log.long.Event.TheVariants.{Access}
+use Rattle.entry_log.specs.LogBytes.{IsLast}
+use Rattle.log_items.specs.Items.{entries_of, stored_at}
+use Rattle.log_items.specs.declared.long.Event.TheVariants.{Access}
 use Rattle.tlm_types.specs.Entries.{access_by, entry_at}
 use Rattle.entry_log.proofs.Stored.{entries_of-access, kept-access, kept_of-access_by, timed-more}
 use Rattle.entry_log.proofs.log.Log.push_new.Goals as goal
@@ -31,11 +32,11 @@ invariant_of-self-2 c =
     let bytes : c.append.new.bytes.items ≡ s.bytes.items ++ (sent ++ (enables ++ got)) = c.append.ensures.items ∙ ap (λ (xs : List ℕ). xs ++ (sent ++ (enables ++ got))) c.in_ok-reserve_beyond.ensures.items in
     let all : length c.append.new.bytes.items ≡ length s.bytes.items + (length sent + (length enables + length got)) = ap length bytes ∙ simp length-append in
     let count : length c.append.new.bytes.items ≡ span.end = omega (arith, last.start, last.enables_start, last.got_start, last.end) in
-    let items = kept-access (length s.bytes.items) (length c.append.new.bytes.items) (length sent) (length enables) (length got) s.items.items c.args.head c.args.facts span c.self.invariant.kept last count in
+    let items = kept-access s.bytes.items sent enables got s.items.items c.args.head c.args.facts span c.self.invariant.kept last in
     record {
       before = c.self.invariant.before;
       timed = rw c.in_ok-push_access.ensures.ok (timed-more s.items.items c.args.head span.start (Access (stored_at c.args.facts span)) c.self.invariant.timed (omega arith));
-      kept = rw c.in_ok-push_access.ensures.ok items;
+      kept = rw (c.in_ok-push_access.ensures.ok, bytes) items;
       roomy = omega (arith, last.start, last.enables_start, last.got_start, last.end);
       small = omega (arith, last.start, last.enables_start, last.got_start, last.end);
     }

@@ -1,18 +1,18 @@
 // The items that a log keeps of its entries. A long history is as large as its items, so what most
 // entries have is kept in a short form, and the fields of an item are in an order that leaves no room
 // between them.
-ghost use Rattle.std.specs.Prelude.{◌≡◌, ◌+◌, ◌^◌, ◌<◌, length, Some, IfSome, IsTrue};
-ghost use Rattle.entry_log.specs.LogItem.{access_in, facts_from, full_access, full_head, full_way, head_in, item_for, long_form, plain_in, short_facts, short_span, stored_at, IsOrdered, FitsItems, IsShortFor};
-ghost use Rattle.entry_log.specs.declared.log.long.Event.TheVariants as events;
-ghost use Rattle.entry_log.specs.declared.log.long.Plain.TheVariants.{Call};
+ghost use Rattle.std.specs.Prelude.{◌≡◌, ◌+◌, ◌^◌, ◌<◌, ◌≤◌, [], length, Some, IfSome, IsTrue, option_map, slice_range};
+ghost use Rattle.log_items.specs.Items.{access_in, facts_from, full_access, full_head, full_way, head_in, item_for, long_form, plain_in, short_facts, short_span, stored_at, word_access, word_head, IsOrdered, FitsItems, IsShortFor, IsWordFor};
+ghost use Rattle.log_items.specs.declared.long.Event.TheVariants as events;
+ghost use Rattle.log_items.specs.declared.long.Plain.TheVariants.{Call};
 ghost use Rattle.tlm_types.specs.declared.words.ObjectNo.TheVariants.{Memory};
 
-use super::long::{LongItem, PlacedAccess, Plain, Span, access_of, facts_of, head_of, what_of};
+use crate::long::{LongItem, PlacedAccess, Plain, Span, access_of, facts_of, head_of, what_of};
 use std::mem::size_of;
 use tlm_types::{Command, Facts, Head, ObjectNo, Phase, Ps, Response, TlmSync, TxnId, Way, What};
 
 #[derive(Clone, Copy)]
-pub(super) enum Item {
+pub(crate) enum Item {
     // An access at a memory that answered OK, without byte enables, of just `length` bytes, whose
     // streaming width is its length, and no fetch_add.
     Access {
@@ -27,6 +27,12 @@ pub(super) enum Item {
         length: u16,
         access: ShortAccess,
         head: ShortHead,
+    },
+    // An access as in `Access`, of at most 8 bytes and at a time below 2^32, which stand in the item.
+    Word {
+        way: ShortWay,
+        length: u8,
+        word: Word,
     },
     // A call on a hop.
     Call {
@@ -65,15 +71,31 @@ const _: () = prove!(size_of::<Item>() == 32);
 // A head whose position and sequence number are below 2^32. Its initiator, below 2^8, and its object,
 // below 2^16, stand outside, since the head begins at a multiple of 8 bytes.
 #[derive(Clone, Copy)]
-pub(super) struct ShortHead {
+pub(crate) struct ShortHead {
     time: Ps,
     position: u32,
     seq: u32,
 }
 
+// An access with its bytes, and zeros behind them. Its time, position and sequence number are below 2^32.
+#[derive(Clone, Copy)]
+pub(crate) struct Word {
+    command: Command,
+    initiator: u8,
+    object: u16,
+    offset: u32,
+    position: u32,
+    seq: u32,
+    time: u32,
+    bytes: [u8; WORD],
+}
+
+/// So many bytes of an access stand in its item at most.
+pub const WORD: usize = 8;
+
 // A way that isn't direct.
 #[derive(Clone, Copy)]
-pub(super) enum ShortWay {
+pub(crate) enum ShortWay {
     Blocking,
     FourPhase,
     Debug,
@@ -82,7 +104,7 @@ pub(super) enum ShortWay {
 // What accesses of each way have alike: their bytes stand from `start` on. The length stands outside,
 // since this begins at a multiple of 4 bytes.
 #[derive(Clone, Copy)]
-pub(super) struct ShortAccess {
+pub(crate) struct ShortAccess {
     command: Command,
     initiator: u8,
     object: u16,
@@ -93,14 +115,15 @@ pub(super) struct ShortAccess {
 impl Item {
     // The entry without what happened. `long` are the long items of its log.
     #[inline(always)]
-    pub(super) fn head(&self, long: &[LongItem]) -> Head
+    pub(crate) fn head(&self, long: &[LongItem]) -> Head
         requires { FitsItems (length long.now) self.now }
-        ensures { result ≡ head_in (long_form long.now self.now) }
+        ensures { result ≡ head_in (long_form long.now self.now).item }
     {
         match self {
             Item::Access { access, head, .. } | Item::Direct { access, head, .. } => {
                 access_head(access, head)
             }
+            Item::Word { word, .. } => access_head(&word.access(), &word.head()),
             Item::Call {
                 initiator,
                 object,
@@ -130,12 +153,12 @@ impl Item {
     }
 
     // What happened, and for an access none.
-    pub(super) fn what(&self, long: &[LongItem]) -> Option<What>
+    pub(crate) fn what(&self, long: &[LongItem]) -> Option<What>
         requires { FitsItems (length long.now) self.now }
-        ensures { result ≡ plain_in (long_form long.now self.now).event }
+        ensures { result ≡ plain_in (long_form long.now self.now).item.event }
     {
         match self {
-            Item::Access { .. } | Item::Direct { .. } => None,
+            Item::Access { .. } | Item::Direct { .. } | Item::Word { .. } => None,
             Item::Call { phase, answer, .. } => Some(What::Call {
                 phase: *phase,
                 answer: *answer,
@@ -152,9 +175,9 @@ impl Item {
 
     // The plain parts of an access, and for any other entry none.
     #[inline(always)]
-    pub(super) fn facts(&self, long: &[LongItem]) -> Option<Facts>
+    pub(crate) fn facts(&self, long: &[LongItem]) -> Option<Facts>
         requires { FitsItems (length long.now) self.now }
-        ensures { result ≡ facts_from (long_form long.now self.now).event }
+        ensures { result ≡ facts_from (long_form long.now self.now).item.event }
     {
         match self {
             Item::Access {
@@ -163,6 +186,11 @@ impl Item {
                 access,
                 ..
             } => Some(short_facts(full_way(*way), *length, access)),
+            Item::Word { way, length, word } => Some(short_facts(
+                full_way(*way),
+                *length as u16,
+                &word.access(),
+            )),
             Item::Direct {
                 gate,
                 length,
@@ -174,11 +202,13 @@ impl Item {
         }
     }
 
-    // An access, with where its bytes stand, and for any other entry none.
+    // An access, with where its bytes stand, and for any other entry none. Where they stand in the item itself, it
+    // comes with those.
     #[inline(always)]
-    pub(super) fn access(&self, long: &[LongItem]) -> Option<PlacedAccess>
+    pub(crate) fn access(&self, long: &[LongItem]) -> Option<(PlacedAccess, Option<&[u8]>)>
         requires { FitsItems (length long.now) self.now }
-        ensures { result ≡ access_in (long_form long.now self.now) }
+        ensures access { option_map (λ r. r.0) result ≡ access_in (long_form long.now self.now).item }
+        ensures own { IfSome result (λ r. option_map (λ b. b.now) r.1 ≡ (long_form long.now self.now).own) }
     {
         match self {
             Item::Access {
@@ -186,15 +216,50 @@ impl Item {
                 length,
                 access,
                 head,
-            } => Some(placed_access(full_way(*way), *length, access, head)),
+            } => Some((placed_access(full_way(*way), *length, access, head), None)),
             Item::Direct {
                 gate,
                 length,
                 access,
                 head,
-            } => Some(placed_access(Way::Direct(*gate as u32), *length, access, head)),
-            Item::Long(place) => access_of(&long[*place]),
+            } => {
+                let way = Way::Direct(*gate as u32);
+                Some((placed_access(way, *length, access, head), None))
+            }
+            Item::Word { way, length, word } => {
+                let (way, length) = (full_way(*way), *length as u16);
+                let access = placed_access(way, length, &word.access(), &word.head());
+                Some((access, Some(word.bytes.as_slice())))
+            }
+            Item::Long(place) => Some((access_of(&long[*place])?, None)),
             _ => None,
+        }
+    }
+}
+
+impl Word {
+    // What it has alike with other accesses. Its bytes stand from 0 on.
+    #[inline(always)]
+    fn access(&self) -> ShortAccess
+        ensures { result ≡ word_access self.now }
+    {
+        ShortAccess {
+            command: self.command,
+            initiator: self.initiator,
+            object: self.object,
+            start: 0,
+            offset: self.offset,
+        }
+    }
+
+    #[inline(always)]
+    fn head(&self) -> ShortHead
+        ensures { result ≡ word_head self.now }
+    {
+        ShortHead {
+            time: self.time as Ps,
+            position: self.position,
+            seq: self.seq,
         }
     }
 }
@@ -202,7 +267,7 @@ impl Item {
 // An access in the short form, where it has one: it is one of a memory that answered OK, its numbers
 // are small, its width is its length, and just the bytes of its length were kept.
 #[inline(always)]
-pub(super) fn short_access(head: Head, facts: Facts, span: Span) -> Option<Item>
+pub(crate) fn short_access(head: Head, facts: Facts, span: Span) -> Option<Item>
     requires { IsOrdered span }
     ensures { IfSome result (IsShortFor (item_for head span.start (events.Access (stored_at facts span)))) }
 {
@@ -237,9 +302,69 @@ pub(super) fn short_access(head: Head, facts: Facts, span: Span) -> Option<Item>
     })
 }
 
+// An access in the short form with its bytes, where it has one.
+#[inline(always)]
+pub(crate) fn short_word(
+    head: Head,
+    facts: Facts,
+    sent: &[u8],
+    enables: &[u8],
+    got: &[u8],
+) -> Option<Item>
+    ensures { IfSome result (IsWordFor head facts sent.now enables.now got.now) }
+{
+    if facts.length > WORD as u64 || facts.width != facts.length || facts.status != Response::Ok {
+        return None;
+    }
+    let ObjectNo::Memory(memory) = head.object else {
+        return None;
+    };
+    if !is_short(&head, memory) || head.time > u32::MAX as u64 || facts.offset > u32::MAX as u64 {
+        return None;
+    }
+    let (data, other) = match facts.command {
+        Command::Read => (got, sent),
+        Command::Write | Command::Ignore => (sent, got),
+        Command::FetchAdd => return None,
+    };
+    if data.len() as u64 != facts.length || !other.is_empty() || !enables.is_empty() {
+        return None;
+    }
+    let word = Word {
+        command: facts.command,
+        initiator: head.txn.initiator as u8,
+        object: memory as u16,
+        offset: facts.offset as u32,
+        position: head.position as u32,
+        seq: head.txn.seq as u32,
+        time: head.time as u32,
+        bytes: word_of(data),
+    };
+    Some(Item::Word {
+        way: short_way(facts.way)?,
+        length: facts.length as u8,
+        word,
+    })
+}
+
+// Most data are of 4 or 8 bytes, which take no call.
+#[inline(always)]
+fn word_of(bytes: &[u8]) -> [u8; WORD]
+    requires { length bytes.now ≤ 8 }
+    ensures { (length result ≡ 8) × (slice_range result 0 (length bytes.now) ≡ bytes.now) }
+{
+    let mut word = [0; WORD];
+    match bytes.len() {
+        8 => word.copy_from_slice(bytes),
+        4 => word[..4].copy_from_slice(bytes),
+        count => word[..count].copy_from_slice(bytes),
+    }
+    word
+}
+
 // A call at a hop in the short form, where it has one.
 #[inline(always)]
-pub(super) fn short_call(head: Head, phase: Phase, answer: TlmSync) -> Option<Item>
+pub(crate) fn short_call(head: Head, phase: Phase, answer: TlmSync) -> Option<Item>
     ensures { IfSome result (IsShortFor (item_for head 0 (events.Plain (Call phase answer)))) }
 {
     let ObjectNo::Hop(hop) = head.object else {
@@ -259,7 +384,7 @@ pub(super) fn short_call(head: Head, phase: Phase, answer: TlmSync) -> Option<It
 
 // An entry that is no access in the short form, where it has one.
 #[inline(always)]
-pub(super) fn short_event(head: Head, event: Plain) -> Option<Item>
+pub(crate) fn short_event(head: Head, event: Plain) -> Option<Item>
     ensures { IfSome result (IsShortFor (item_for head 0 (events.Plain event))) }
 {
     if let Plain::Call { phase, answer } = event {

@@ -1,8 +1,8 @@
 use Rattle.std.proofs.Common.{◌≡◌, ◌∷◌, [], arith, length, refl}
 use Rattle.std.proofs.lemmas.List.{get_or_push, map_push}
-use Rattle.entry_log.specs.LogItem.{no_item}
-use Rattle.entry_log.proofs.ShortForms.{long_forms-append}
-use Rattle.entry_log.proofs.log.items.Items.push_long.Goals as goal
+use Rattle.log_items.specs.Items.{no_item}
+use Rattle.log_items.proofs.ShortForms.{long_forms-append}
+use Rattle.log_items.proofs.items.Items.push_long.Goals as goal
 
 pub returns-clause-ok : goal.returns-clause-ok
 returns-clause-ok c =

@@ -1,33 +1,34 @@
 // The long form of a log's items, which has room for any entry.
 ghost use Rattle.std.specs.Prelude.{◌≡◌, false, Some};
-ghost use Rattle.entry_log.specs.LogItem.{access_in, facts_from, facts_in, head_in, item_for, plain_in, plain_what, span_in, stored_at};
+ghost use Rattle.log_items.specs.Items.{access_in, facts_from, facts_in, head_in, item_for, plain_in, plain_what, span_in, stored_at};
 ghost use Rattle.tlm_types.specs.Entries.{is_access};
 
 use tlm_types::{
     Command, Facts, Head, Kind, ObjectNo, Phase, Ps, Response, TlmSync, TxnId, Way, What,
 };
 
-// An entry, with where the bytes of an access begin.
+/// An entry, with where the bytes of an access begin.
 #[derive(Clone, Copy)]
-pub(super) struct LongItem {
-    pub(super) position: u64,
-    pub(super) time: Ps,
-    pub(super) seq: u64,
-    pub(super) initiator: u32,
-    pub(super) start: u32,
-    pub(super) object: ObjectNo,
-    pub(super) event: Event,
+pub struct LongItem {
+    pub(crate) position: u64,
+    pub(crate) time: Ps,
+    pub(crate) seq: u64,
+    pub(crate) initiator: u32,
+    pub(crate) start: u32,
+    pub(crate) object: ObjectNo,
+    pub(crate) event: Event,
 }
 
+/// What happened.
 #[derive(Clone, Copy)]
-pub(super) enum Event {
+pub enum Event {
     Plain(Plain),
     Access(StoredAccess),
 }
 
-// What happened, where it is no access.
+/// What happened, where it is no access.
 #[derive(Clone, Copy)]
-pub(super) enum Plain {
+pub enum Plain {
     Granted {
         gate: u32,
         kind: Kind,
@@ -57,10 +58,9 @@ pub(super) enum Plain {
     },
 }
 
-// An access whose bytes stand in one list with those of the others: what it sent, its enables and
-// what it got, one after another.
+/// An access whose bytes stand one after another: what it sent, its enables and what it got.
 #[derive(Clone, Copy)]
-pub(super) struct StoredAccess {
+pub struct StoredAccess {
     offset: u64,
     length: u64,
     width: u64,
@@ -72,24 +72,24 @@ pub(super) struct StoredAccess {
     status: Response,
 }
 
-// Where the bytes of an access stand.
+/// Where the bytes of an access stand.
 #[derive(Clone, Copy)]
-pub(super) struct Span {
-    pub(super) start: u32,
-    pub(super) enables_start: u32,
-    pub(super) got_start: u32,
-    pub(super) end: u32,
+pub struct Span {
+    pub start: u32,
+    pub enables_start: u32,
+    pub got_start: u32,
+    pub end: u32,
 }
 
-// An access, with where its bytes stand.
+/// An access, with where its bytes stand.
 #[derive(Clone, Copy)]
-pub(super) struct PlacedAccess {
-    pub(super) head: Head,
-    pub(super) facts: Facts,
-    pub(super) span: Span,
+pub struct PlacedAccess {
+    pub head: Head,
+    pub facts: Facts,
+    pub span: Span,
 }
 
-pub(super) fn long_item(head: Head, start: u32, event: Event) -> LongItem
+pub(crate) fn long_item(head: Head, start: u32, event: Event) -> LongItem
     ensures { result ≡ item_for head start event }
 {
     LongItem {
@@ -103,7 +103,7 @@ pub(super) fn long_item(head: Head, start: u32, event: Event) -> LongItem
     }
 }
 
-pub(super) fn head_of(item: &LongItem) -> Head
+pub(crate) fn head_of(item: &LongItem) -> Head
     ensures { result ≡ head_in item.now }
 {
     Head {
@@ -117,7 +117,7 @@ pub(super) fn head_of(item: &LongItem) -> Head
     }
 }
 
-pub(super) fn what_of(item: &LongItem) -> Option<What>
+pub(crate) fn what_of(item: &LongItem) -> Option<What>
     ensures { result ≡ plain_in item.now.event }
 {
     match &item.event {
@@ -126,7 +126,7 @@ pub(super) fn what_of(item: &LongItem) -> Option<What>
     }
 }
 
-pub(super) fn facts_of(item: &LongItem) -> Option<Facts>
+pub(crate) fn facts_of(item: &LongItem) -> Option<Facts>
     ensures { result ≡ facts_from item.now.event }
 {
     match &item.event {
@@ -135,7 +135,7 @@ pub(super) fn facts_of(item: &LongItem) -> Option<Facts>
     }
 }
 
-pub(super) fn access_of(item: &LongItem) -> Option<PlacedAccess>
+pub(crate) fn access_of(item: &LongItem) -> Option<PlacedAccess>
     ensures { result ≡ access_in item.now }
 {
     match &item.event {
@@ -172,7 +172,7 @@ fn span_in(start: u32, access: &StoredAccess) -> Span
     }
 }
 
-pub(super) fn stored_access(facts: Facts, span: Span) -> StoredAccess
+pub(crate) fn stored_access(facts: Facts, span: Span) -> StoredAccess
     ensures { result ≡ stored_at facts span }
 {
     StoredAccess {
@@ -188,9 +188,9 @@ pub(super) fn stored_access(facts: Facts, span: Span) -> StoredAccess
     }
 }
 
-// What happened, as it is kept, where it is no access.
+/// What happened, as it is kept, where it is no access.
 #[inline(always)]
-pub(super) fn plain_event(what: What) -> Plain
+pub fn plain_event(what: What) -> Plain
     requires { is_access what ≡ false }
     ensures { plain_what result ≡ what }
 {

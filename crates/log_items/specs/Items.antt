@@ -1,24 +1,24 @@
--- How a log keeps its entries: as items, whose accesses have their bytes in one list.
-use Rattle.std.specs.Prelude.{◌≡◌, ℕ, ◌+◌, ◌^◌, ◌<◌, ◌≤◌, List, All, Option, Some, None, length, map, [], get_or, slice_range}
+-- How a log keeps its entries: as items. The bytes of an access stand in its item, or among those of all.
+use Rattle.std.specs.Prelude.{◌≡◌, ℕ, ◌+◌, ◌^◌, ◌<◌, ◌≤◌, List, ◌∷◌, ◌++◌, All, Option, Some, None, length, map, [], get_or, slice_range}
 use Rattle.tlm_types.specs.declared.entry.Entry.{Entry}
 use Rattle.tlm_types.specs.declared.entry.Facts.{Facts}
 use Rattle.tlm_types.specs.declared.entry.Head.{Head}
 use Rattle.tlm_types.specs.declared.entry.What.{What}
 use Rattle.tlm_types.specs.declared.entry.What.TheVariants as whats
-use Rattle.entry_log.specs.declared.log.item.Item.{Item}
-use Rattle.entry_log.specs.declared.log.item.Item.TheVariants as items
-use Rattle.entry_log.specs.declared.log.item.ShortAccess.{ShortAccess}
-use Rattle.entry_log.specs.declared.log.item.ShortHead.{ShortHead}
-use Rattle.entry_log.specs.declared.log.item.ShortWay.{ShortWay}
-use Rattle.entry_log.specs.declared.log.item.ShortWay.TheVariants as short_ways
-use Rattle.entry_log.specs.declared.log.long.Event.{Event}
-use Rattle.entry_log.specs.declared.log.long.Event.TheVariants.{Plain as Simple, Access}
-use Rattle.entry_log.specs.declared.log.long.LongItem.{LongItem}
-use Rattle.entry_log.specs.declared.log.long.PlacedAccess.{PlacedAccess}
-use Rattle.entry_log.specs.declared.log.long.Plain.{Plain}
-use Rattle.entry_log.specs.declared.log.long.Plain.TheVariants.{Granted, Invalidated, Closed, Call, Take, Acquire, Release}
-use Rattle.entry_log.specs.declared.log.long.Span.{Span}
-use Rattle.entry_log.specs.declared.log.long.StoredAccess.{StoredAccess}
+use Rattle.log_items.specs.declared.item.Item.{Item}
+use Rattle.log_items.specs.declared.item.Item.TheVariants as items
+use Rattle.log_items.specs.declared.item.ShortAccess.{ShortAccess}
+use Rattle.log_items.specs.declared.item.ShortHead.{ShortHead}
+use Rattle.log_items.specs.declared.item.ShortWay.{ShortWay}
+use Rattle.log_items.specs.declared.item.ShortWay.TheVariants as short_ways
+use Rattle.log_items.specs.declared.long.Event.{Event}
+use Rattle.log_items.specs.declared.long.Event.TheVariants.{Plain as Simple, Access}
+use Rattle.log_items.specs.declared.long.LongItem.{LongItem}
+use Rattle.log_items.specs.declared.long.PlacedAccess.{PlacedAccess}
+use Rattle.log_items.specs.declared.long.Plain.{Plain}
+use Rattle.log_items.specs.declared.long.Plain.TheVariants.{Granted, Invalidated, Closed, Call, Take, Acquire, Release}
+use Rattle.log_items.specs.declared.long.Span.{Span}
+use Rattle.log_items.specs.declared.long.StoredAccess.{StoredAccess}
 use Rattle.tlm_types.specs.declared.words.Command.{Command}
 use Rattle.tlm_types.specs.declared.words.Command.TheVariants.{Read, Write, Ignore, FetchAdd}
 use Rattle.tlm_types.specs.declared.words.ObjectNo.{ObjectNo}
@@ -27,6 +27,7 @@ use Rattle.tlm_types.specs.declared.words.Response.TheVariants.{Ok}
 use Rattle.tlm_types.specs.declared.words.Way.{Way}
 use Rattle.tlm_types.specs.declared.words.Way.TheVariants.{Blocking, FourPhase, Direct, Debug}
 use Rattle.tlm_types.specs.Entries.{access_by, entry_at}
+use Rattle.log_items.specs.declared.item.Word.{Word}
 
 -- the long item of an event at this place and time, and back
 abbrev pub item_for : Head → ℕ → Event → LongItem
@@ -77,10 +78,24 @@ abbrev pub what_in : List ℕ → ℕ → Event → What
 what_in bytes start (Simple plain) = plain_what plain
 what_in bytes start (Access a) = access_by (facts_in a) (slice_range bytes start a.enables_start) (slice_range bytes a.enables_start a.got_start) (slice_range bytes a.got_start a.end)
 
-abbrev pub item_entry : List ℕ → LongItem → Entry
-item_entry bytes item = entry_at (head_in item) (what_in bytes item.start item.event)
+-- an item in its long form, with the bytes of its entry where they stand in the item itself
+pub record FullItem : Type 0 where
+  pub item : LongItem
+  pub own : Option (List ℕ)
 
-abbrev pub entries_of : List ℕ → List LongItem → List Entry
+-- an item whose bytes stand elsewhere
+abbrev pub placed : LongItem → FullItem
+placed item = record { item = item; own = None }
+
+-- the bytes among which those of an item stand: its own, or else these
+abbrev pub bytes_for : List ℕ → Option (List ℕ) → List ℕ
+bytes_for bytes None = bytes
+bytes_for bytes (Some own) = own
+
+abbrev pub item_entry : List ℕ → FullItem → Entry
+item_entry bytes i = entry_at (head_in i.item) (what_in (bytes_for bytes i.own) i.item.start i.item.event)
+
+abbrev pub entries_of : List ℕ → List FullItem → List Entry
 entries_of bytes items = map (item_entry bytes) items
 
 -- the bytes of an access lie among the first n
@@ -88,38 +103,13 @@ abbrev pub IsKept : ℕ → ℕ → Event → Type 0
 IsKept n start (Simple plain) = Unit {0}
 IsKept n start (Access a) = (start ≤ a.enables_start) × (a.enables_start ≤ a.got_start) × (a.got_start ≤ a.end) × (a.end ≤ n)
 
--- what a log forgot are so many entries, each with one of the times that there are
-pub record IsPast (past : List Entry) (forgotten : ℕ) : Type 0 where
-  pub count : forgotten ≡ length past
-  pub timed : All (λ (e : Entry). e.time < 2 ^ 64) past
-  pub few : forgotten < 2 ^ 63
-
--- a log of these items and bytes, with room for so many bytes more, which forgot these entries
-pub record IsStored (past : List Entry) (forgotten : ℕ) (items : List LongItem) (bytes : List ℕ) (room_bytes capacity : ℕ) : Type 0 where
-  pub before : IsPast past forgotten
-  pub timed : All (λ (i : LongItem). i.time < 2 ^ 64) items
-  pub kept : All (λ i. IsKept (length bytes) i.start i.event) items
-  pub roomy : length bytes + room_bytes ≤ capacity
-  pub small : length bytes + room_bytes < 2 ^ 32
+-- the bytes of an item lie among those where they stand
+abbrev pub IsWithin : List ℕ → FullItem → Type 0
+IsWithin bytes i = IsKept (length (bytes_for bytes i.own)) i.item.start i.item.event
 
 -- the parts of an access's bytes stand one after another
 abbrev pub IsOrdered : Span → Type 0
 IsOrdered s = (s.start ≤ s.enables_start) × (s.enables_start ≤ s.got_start) × (s.got_start ≤ s.end)
-
--- where the bytes of an access stand that were appended to n bytes
-pub record IsLast (n sent enables got : ℕ) (s : Span) : Type 0 where
-  pub start : s.start ≡ n
-  pub enables_start : s.enables_start ≡ s.start + sent
-  pub got_start : s.got_start ≡ s.enables_start + enables
-  pub end : s.end ≡ s.got_start + got
-
--- these parts of an access stand there among the bytes, one after another
-pub record HasParts (bytes sent enables got : List ℕ) (s : Span) : Type 0 where
-  pub placed : IsLast s.start (length sent) (length enables) (length got) s
-  pub within : s.end ≤ length bytes
-  pub sent_is : slice_range bytes s.start s.enables_start ≡ sent
-  pub enables_is : slice_range bytes s.enables_start s.got_start ≡ enables
-  pub got_is : slice_range bytes s.got_start s.end ≡ got
 
 -- where the n bytes of an access stand that are its data alone: a read got them, and any other command sent them
 abbrev pub short_span : Command → ℕ → ℕ → Span
@@ -150,31 +140,52 @@ full_access way n a head = item_for (full_head head a.initiator (Memory a.object
 abbrev pub no_item : LongItem
 no_item = record { position = 0; time = 0; seq = 0; initiator = 0; start = 0; object = Memory 0; event = Simple (Closed 0) }
 
+-- what a word has alike with other short accesses: its bytes stand from 0 on
+abbrev pub word_access : Word → ShortAccess
+word_access w = record { command = w.command; initiator = w.initiator; object = w.object; start = 0; offset = w.offset }
+
+abbrev pub word_head : Word → ShortHead
+word_head w = record { time = w.time; position = w.position; seq = w.seq }
+
 -- the long form of an item, where these are the long items
-abbrev pub long_form : List LongItem → Item → LongItem
-long_form long (items.Access way n access head) = full_access (full_way way) n access head
-long_form long (items.Direct gate n access head) = full_access (Direct gate) n access head
-long_form long (items.Call phase answer initiator object head) = item_for (full_head head initiator (Hop object)) 0 (Simple (Call phase answer))
-long_form long (items.Take initiator object slot head) = item_for (full_head head initiator (Pool object)) 0 (Simple (Take slot))
-long_form long (items.Acquire initiator object slot head) = item_for (full_head head initiator (Pool object)) 0 (Simple (Acquire slot))
-long_form long (items.Release freed initiator object slot head) = item_for (full_head head initiator (Pool object)) 0 (Simple (Release slot freed))
-long_form long (items.Long place) = get_or long place no_item
+abbrev pub long_form : List LongItem → Item → FullItem
+long_form long (items.Access way n access head) = placed (full_access (full_way way) n access head)
+long_form long (items.Direct gate n access head) = placed (full_access (Direct gate) n access head)
+long_form long (items.Word way n word) = record { item = full_access (full_way way) n (word_access word) (word_head word); own = Some word.bytes }
+long_form long (items.Call phase answer initiator object head) = placed (item_for (full_head head initiator (Hop object)) 0 (Simple (Call phase answer)))
+long_form long (items.Take initiator object slot head) = placed (item_for (full_head head initiator (Pool object)) 0 (Simple (Take slot)))
+long_form long (items.Acquire initiator object slot head) = placed (item_for (full_head head initiator (Pool object)) 0 (Simple (Acquire slot)))
+long_form long (items.Release freed initiator object slot head) = placed (item_for (full_head head initiator (Pool object)) 0 (Simple (Release slot freed)))
+long_form long (items.Long place) = placed (get_or long place no_item)
 
 -- a place is one of n long items, and the bytes of a short access end below 2^32
 abbrev pub FitsItems : ℕ → Item → Type 0
 FitsItems n (items.Access way count access head) = access.start + count < 2 ^ 32
 FitsItems n (items.Direct gate count access head) = access.start + count < 2 ^ 32
+FitsItems n (items.Word way count word) = count ≤ length word.bytes
 FitsItems n (items.Long place) = place < n
 FitsItems n item = Unit {0}
 
 -- the short form of a long item, which needs no place
 pub record IsShortFor (whole : LongItem) (item : Item) : Type 0 where
-  pub same : long_form [] item ≡ whole
+  pub same : long_form [] item ≡ placed whole
+  pub placed : FitsItems 0 item
+
+-- an item has the bytes of this access itself
+pub record IsWord (head : Head) (facts : Facts) (sent enables got : List ℕ) (i : FullItem) : Type 0 where
+  pub entry : (bytes : List ℕ) → item_entry bytes i ≡ entry_at head (access_by facts sent enables got)
+  pub within : (bytes : List ℕ) → IsWithin bytes i
+  pub timed : i.item.time < 2 ^ 64
+  pub count : length sent + length enables + length got ≡ facts.length
+
+-- the short form of an access with its bytes
+pub record IsWordFor (head : Head) (facts : Facts) (sent enables got : List ℕ) (item : Item) : Type 0 where
+  pub word : IsWord head facts sent enables got (long_form [] item)
   pub placed : FitsItems 0 item
 
 -- the items of a log in their long form, and for how many there is room
 pub record ItemsView : Type 0 where
-  pub items : List LongItem
+  pub items : List FullItem
   pub room : ℕ
 
 -- lists of these items and long items, with room for so many
@@ -183,3 +194,9 @@ pub record AreItems (items : List Item) (long : List LongItem) (room items_capac
   pub few : length long ≤ length items
   pub roomy : room ≤ items_capacity
   pub roomy_long : room ≤ long_capacity
+
+-- one more item, which has the bytes of this access itself
+pub record HasWord (old new : ItemsView) (head : Head) (facts : Facts) (sent enables got : List ℕ) : Type 0 where
+  pub item : FullItem
+  pub pushed : new ≡ record old { items = old.items ++ item ∷ [] }
+  pub word : IsWord head facts sent enables got item
