@@ -19,8 +19,8 @@ use tlm_types::Memory;
 // bytes for its numbers, names and words, and for a piece behind them.
 const ROOM: usize = 16896;
 
-/// How many bytes are put as digits at once.
-pub const CHUNK: usize = PIECE_MAX / 2;
+/// How many bytes are put as digits at once: as many as an access has at most.
+pub const CHUNK: usize = 4096;
 
 /// A line that is made for a sink, and whether a write to the sink has failed. After a failure nothing
 /// more is written.
@@ -145,13 +145,13 @@ pub fn put_event_line<K: Sink>(out: &mut K, line: &mut Line, event: &EventLine<'
     line.len = write_event(&mut line.bytes, line.len, event);
 }
 
-/// Puts each of at most 64 bytes as two digits.
+/// Puts each of at most 4,096 bytes as two digits.
 pub fn put_chunk<K: Sink>(out: &mut K, line: &mut Line, source: &[u8])
-    requires { length source.now ≤ 64 }
+    requires { length source.now ≤ 4096 }
     ensures { Puts (page (K.taken out.old) (K.faults out.old) line.old)
         (page (K.taken out.new) (K.faults out.new) line.new) (hex_of source.now) }
 {
-    make_room(out, line, PIECE_MAX);
+    make_room(out, line, 2 * source.len());
     line.len = write_data(&mut line.bytes, line.len, source);
 }
 
