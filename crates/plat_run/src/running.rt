@@ -152,15 +152,17 @@ fn finish_jobs<N: Naming<Plan, TlmLaw> + Send + Sync, P: Pace + Sync, R: Threads
     Ok(dismiss_nodes(jobs, count))
 }
 
-// Gives turns to these jobs by so many workers, until the first so many have finished. Its only error is want of
-// memory, before the first turn.
+// Gives turns to these jobs by so many workers until these have left, and by the caller alone until the first so many
+// have finished. Its only error is want of memory, before the first turn.
+// It stays a function of its own: as a part of a greater one a turn takes more instructions.
+#[inline(never)]
 fn give_all_turns<N: Naming<Plan, TlmLaw> + Send + Sync, P: Pace + Sync, R: Threads + Wait + Sync>(
     rt: &R,
     alloc: Global,
     net: &mut Net<N>,
     board: &Board,
     pace: &P,
-    mut jobs: Vec<Actor<N>>,
+    jobs: Vec<Actor<N>>,
     count: u32,
     workers: u32,
     logs: Logs,
@@ -171,15 +173,37 @@ fn give_all_turns<N: Naming<Plan, TlmLaw> + Send + Sync, P: Pace + Sync, R: Thre
     ensures count { IfOk result (λ done. length done.items ≡ length jobs.items) }
     ensures enough { IfOk result (λ jobs. count ≤ count_by is_done jobs.items) }
 {
+    let mut jobs = share_turns(rt, alloc, net, board, pace, jobs, count, workers, logs)?;
+    work_alone(rt, net, board, pace, &mut jobs, count, logs);
+    Ok(jobs)
+}
+
+// Gives turns to these jobs by so many workers until these have left, if there are more than one. Its only error is want of
+// memory, before the first turn.
+#[inline(never)]
+fn share_turns<N: Naming<Plan, TlmLaw> + Send + Sync, P: Pace + Sync, R: Threads + Wait + Sync>(
+    rt: &R,
+    alloc: Global,
+    net: &Net<N>,
+    board: &Board,
+    pace: &P,
+    jobs: Vec<Actor<N>>,
+    count: u32,
+    workers: u32,
+    logs: Logs,
+) -> Result<Vec<Actor<N>>, Memory>
+    requires numbered { AreNumbered number_of jobs.items }
+    ensures numbered { IfOk result (λ jobs. AreNumbered number_of jobs.items) }
+    ensures count { IfOk result (λ shared. length shared.items ≡ length jobs.items) }
+{
     // More workers than jobs would find nothing to do.
     let workers = jobs.len().min(workers as usize);
     if workers <= 1 {
-        work_alone(rt, net, board, pace, &mut jobs, count, logs);
         return Ok(jobs);
     }
     let queue = RunQueue::new(alloc, jobs, count)?;
     work_all(rt, net, board, &queue, workers as u32, pace, logs);
-    Ok(queue.into_jobs(rt))
+    Ok(queue.into_all(rt))
 }
 
 // Lets go of the routers and memories, which come after the initiators, where as many jobs are done as there are

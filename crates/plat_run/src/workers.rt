@@ -18,9 +18,9 @@ use tlm_types::ObjectNo;
 
 /// Takes a job, gives it its share of turns, and takes the next one as it hands it in, until enough have finished, or
 /// none is in line: each of the others is out with another worker, or parked or at rest until one that is out lets
-/// it go on. Then a worker waits where that pays, and else it leaves, since it isn't needed: where rounds are short,
-/// waking it would cost more than its work. The last one stays: whoever lets others go on takes one of them, and where
-/// none is out the queue gives those that rest. Where it `forgets`, it lets memories forget now and then.
+/// it go on. Then a worker waits where more workers pay. Where they don't, it leaves, and it leaves after some shares in any
+/// case: the caller goes on alone once all have left, and is faster. Where it `forgets`, it lets memories forget now and
+/// then.
 fn work<N: Naming<Plan, TlmLaw>, P: Pace, R: Wait>(
     rt: &R,
     net: &Net<N>,
@@ -29,19 +29,25 @@ fn work<N: Naming<Plan, TlmLaw>, P: Pace, R: Wait>(
     pace: &P,
     forgets: bool,
 ) {
-    let waits = pays_to_wait(net.plan());
+    let pays = more_workers_pay(net.plan());
+    let mut left = SHARES;
     let mut reach = net;
     let mut forgetting = Forgetting::of(forgets);
     let mut next = queue.take_and_look(rt);
     for _ in rt.forever() {
         let (taken, moves) = next;
         next = match taken {
+            TakenJob::Took(job) if left == 0 => {
+                queue.give_back(rt, job);
+                return;
+            }
             TakenJob::Took(job) => {
+                left = if pays { left } else { left - 1 };
                 let handed = give_turns(rt, &mut reach, board, queue, pace, job, moves);
                 forgetting.after(rt, net, TURNS);
                 handed
             }
-            TakenJob::Nothing if waits => queue.wait_and_take(rt),
+            TakenJob::Nothing if pays => queue.wait_and_take(rt),
             TakenJob::Nothing | TakenJob::AllDone => return,
         };
     }
@@ -50,6 +56,9 @@ fn work<N: Naming<Plan, TlmLaw>, P: Pace, R: Wait>(
 // How many turns a job has at most before others that wait have theirs: the queue's lock, which is taken
 // once for all of them, costs a small part of what they do.
 const TURNS: u32 = 64;
+
+// How many shares a worker gives at most where more workers don't pay.
+const SHARES: u32 = 16;
 
 // Gives a job turns until it has finished, or can't go on, or lets others go on, or has had its share. What the last
 // turn has come to, and whether the job went on before.
@@ -124,8 +133,9 @@ fn has_large_accesses(plan: &Plan, memory: u32) -> bool
     entries > 0 && plan.logged(memory) / LARGE >= entries
 }
 
-// Whether it pays that a worker waits for its work to come back: where some memory has large accesses.
-fn pays_to_wait(plan: &Plan) -> bool {
+// Whether more workers pay: where some memory has large accesses. Small ones are made so fast that workers would mostly
+// wait for one another, since each takes a memory's lock and draws a position of the one history.
+fn more_workers_pay(plan: &Plan) -> bool {
     let memories = plan.platform().memories.as_slice().len() as u32;
     for memory in 0..memories {
         if has_large_accesses(plan, memory) {
@@ -135,8 +145,9 @@ fn pays_to_wait(plan: &Plan) -> bool {
     false
 }
 
-/// Lets so many workers work at once, each in a thread of its own but for one, which is the caller's. Where a
-/// thread can't be started, the others do its work. It takes no memory but what the system takes for a thread.
+/// Lets so many workers work at once, each in a thread of its own but for one, which is the caller's, until all have
+/// left. Where a thread can't be started, the others do its work. It takes no memory but what the system takes for a
+/// thread.
 pub(crate) fn work_all<
     N: Naming<Plan, TlmLaw> + Send + Sync,
     P: Pace + Sync,

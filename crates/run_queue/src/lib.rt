@@ -12,8 +12,8 @@
 //! Promises: the jobs in line are taken first in, first out; a parked one comes back into line when a round above
 //! its own is told, and at once where that was told before; one at rest comes back when a move is told, and at once where
 //! one was told since it was taken. A job is out at most once, and a job that is handed in
-//! while its number isn't out is dropped. In the end each job comes back once, and
-//! those that finished are done. No call but `new` can fail for want of memory.
+//! while its number isn't out is dropped. In the end each job comes back once: from `into_jobs` once
+//! enough have finished, which are done then, and from `into_all` at any time. No call but `new` can fail for want of memory.
 #![tactic(auto)]
 
 mod jobs;

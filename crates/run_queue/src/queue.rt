@@ -146,12 +146,37 @@ impl<J: Job> RunQueue<J> {
             count,
             unfinished,
         } = self;
-        if let Some(jobs) = lock.into_inner().into_jobs(count, unfinished) {
-            return jobs;
-        }
-        for _ in rt.forever() {}
-        unreachable!()
+        gathered(rt, lock.into_inner(), count, unfinished)
     }
+
+    /// Each job once, in the order of their numbers, whether enough of them are done or not. It waits without end
+    /// where a job is out.
+    pub fn into_all<R: Wait>(self, rt: &R) -> Vec<J>
+        ensures numbered { AreNumbered J.number_of result.items }
+        ensures all { vec_len result ≡ self.jobs }
+    {
+        let RunQueue {
+            lock,
+            bell: _,
+            count,
+            unfinished: _,
+        } = self;
+        gathered(rt, lock.into_inner(), count, 0)
+    }
+}
+
+// These jobs, in the order of their numbers. It waits without end where there are not so many, one is out, or not so
+// many have finished.
+fn gathered<J: Job, R: Wait>(rt: &R, jobs: Jobs<J>, count: usize, finished: u32) -> Vec<J>
+    ensures numbered { AreNumbered J.number_of result.items }
+    ensures all { vec_len result ≡ count }
+    ensures enough { finished ≤ count_by J.is_done result.items }
+{
+    if let Some(jobs) = jobs.into_jobs(count, finished) {
+        return jobs;
+    }
+    for _ in rt.forever() {}
+    unreachable!()
 }
 
 // Where a job has moved, the queue is told so: so many moves are known then to one who knew so many before.
