@@ -5,7 +5,7 @@ ghost use Rattle.run_queue.specs.Queue.{AreNumbered};
 use crate::jobs::{Job, Jobs, TakenJob};
 use std::alloc::Global;
 use std::marker::Model;
-use std::sync::{Condvar, Mutex, Wait};
+use std::sync::{Condvar, Mutex, MutexGuard, Wait};
 use tlm_types::Memory;
 
 /// Jobs under a lock, with a bell for those who wait until one is in line. Contracts see how many there are, and how many
@@ -62,7 +62,7 @@ impl<J: Job> RunQueue<J> {
     /// What `Jobs::rouse` and then `Jobs::take` do, under one lock, with how often it was told by then that a job has moved.
     /// It may wait for the lock. So do the calls below, which hand in a job before.
     pub fn take_and_look<R: Wait>(&self, rt: &R) -> (TakenJob<J>, u64) {
-        self.look(&mut self.lock.lock(rt))
+        self.look(self.lock.lock(rt))
     }
 
     /// `Jobs::bring_back` and `Jobs::give_back` before.
@@ -70,7 +70,7 @@ impl<J: Job> RunQueue<J> {
         let mut jobs = self.lock.lock(rt);
         jobs.bring_back(reached);
         jobs.give_back(job);
-        self.look(&mut jobs)
+        self.look(jobs)
     }
 
     /// The job has moved: `Jobs::wake` and `Jobs::give_back` before.
@@ -78,7 +78,7 @@ impl<J: Job> RunQueue<J> {
         let mut jobs = self.lock.lock(rt);
         jobs.wake();
         jobs.give_back(job);
-        self.look(&mut jobs)
+        self.look(jobs)
     }
 
     /// `Jobs::bring_back` and `Jobs::park`, both with this round, before.
@@ -86,7 +86,7 @@ impl<J: Job> RunQueue<J> {
         let mut jobs = self.lock.lock(rt);
         jobs.bring_back(reached);
         jobs.park(job, reached);
-        self.look(&mut jobs)
+        self.look(jobs)
     }
 
     /// `Jobs::rest` before, with what was told when the job was taken; where the job has moved since then, `Jobs::wake`
@@ -101,7 +101,7 @@ impl<J: Job> RunQueue<J> {
         let mut jobs = self.lock.lock(rt);
         let moves = tell_move(&mut jobs, moves, moved);
         jobs.rest(job, moves);
-        self.look(&mut jobs)
+        self.look(jobs)
     }
 
     /// `Jobs::bring_back`, `Jobs::wake` and `Jobs::finish` before.
@@ -112,25 +112,28 @@ impl<J: Job> RunQueue<J> {
         jobs.bring_back(reached);
         jobs.wake();
         jobs.finish(job);
-        self.look(&mut jobs)
+        self.look(jobs)
     }
 
     /// Waits until a job is in line or enough have finished, and does then what `take_and_look` does.
     pub fn wait_and_take<R: Wait>(&self, rt: &R) -> (TakenJob<J>, u64) {
         let jobs = self.lock.lock(rt);
-        let mut jobs = self.bell.wait_while(rt, jobs, |jobs| jobs.is_idle());
-        self.look(&mut jobs)
+        let jobs = self.bell.wait_while(rt, jobs, |jobs| jobs.is_idle());
+        self.look(jobs)
     }
 
     // Takes the next job, and tells how often it was told by then that a job has moved. Where more is to be taken, those
-    // who wait are told.
-    fn look(&self, jobs: &mut Jobs<J>) -> (TakenJob<J>, u64) {
+    // who wait are told, once the lock is given back: they take it as soon as they are awake.
+    fn look(&self, mut jobs: MutexGuard<'_, Jobs<J>>) -> (TakenJob<J>, u64) {
         jobs.rouse();
         let taken = jobs.take();
-        if !jobs.is_idle() {
+        let moves = jobs.moves();
+        let is_idle = jobs.is_idle();
+        MutexGuard::unlock(jobs);
+        if !is_idle {
             self.bell.notify_all();
         }
-        (taken, jobs.moves())
+        (taken, moves)
     }
 
     /// Each job once, in the order of their numbers; enough of them are done. It waits without end where

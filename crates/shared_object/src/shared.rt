@@ -11,8 +11,9 @@ use crate::locked::{Locked, Stepped};
 use crate::naming::Naming;
 use crate::object::{Object, World};
 use one_history::{History, Law, Note, ObjectSeat};
+use std::hint::spin_loop;
 use std::marker::Model;
-use std::sync::{Mutex, Wait};
+use std::sync::{Mutex, MutexGuard, Wait};
 use tlm_types::Content;
 use token_book::{Book, Ticket, Tokens};
 
@@ -130,7 +131,7 @@ impl<O: Object, G, W: Law<Content, G> + World<G, O>, N: Naming<G, W>> Shared<O, 
         ensures look { result.note.knows.looks ≡ note.knows.looks ++ (self.now.number, O.look result.reply) ∷ [] }
         ensures ticket { result.ticket ≡ unspent result.position ticket }
     {
-        let mut guard = self.lock.lock(rt);
+        let mut guard = take_lock(&self.lock, rt);
         if guard.number() != self.number || guard.own_number() != self.own {
             wait_without_end(rt)
         }
@@ -188,7 +189,7 @@ impl<O: Object, G, W: Law<Content, G> + World<G, O>, N: Naming<G, W>> Shared<O, 
         ensures look { result.note.knows.looks ≡ note.knows.looks ++ (self.now.number, O.look result.reply) ∷ [] }
         ensures ticket { result.ticket ≡ unspent result.position (Some ticket) }
     {
-        let mut guard = self.lock.lock(rt);
+        let mut guard = take_lock(&self.lock, rt);
         if guard.number() != self.number || guard.own_number() != self.own {
             wait_without_end(rt)
         }
@@ -253,7 +254,7 @@ impl<O: Object, G, W: Law<Content, G> + World<G, O>, N: Naming<G, W>> Shared<O, 
     /// The object's log may forget the entries that it has in store, so that they can't be read any more.
     /// Contracts see no change: all that they say of the object's entries stays true. The lock is taken.
     pub fn forget<R: Wait>(&self, rt: &R) {
-        let mut guard = self.lock.lock(rt);
+        let mut guard = take_lock(&self.lock, rt);
         guard.forget();
     }
 
@@ -273,6 +274,29 @@ impl<O: Object, G, W: Law<Content, G> + World<G, O>, N: Naming<G, W>> Shared<O, 
         }
         locked.into_parts()
     }
+}
+
+// How often a lock is tried before a thread falls asleep.
+const TRIES: u32 = 2000;
+
+// Takes a lock. What is done under it is short, and to wake a thread takes much longer: so it is tried for a while first.
+#[inline(always)]
+fn take_lock<'a, T, R: Wait>(lock: &'a Mutex<T>, rt: &R) -> MutexGuard<'a, T> {
+    match lock.try_lock() {
+        Some(guard) => guard,
+        None => try_for_a_while(lock, rt),
+    }
+}
+
+#[cold]
+fn try_for_a_while<'a, T, R: Wait>(lock: &'a Mutex<T>, rt: &R) -> MutexGuard<'a, T> {
+    for _ in 0..TRIES {
+        if let Some(guard) = lock.try_lock() {
+            return guard;
+        }
+        spin_loop();
+    }
+    lock.lock(rt)
 }
 
 // Never returns. A lock's contents are known by their type alone, which has no numbers in it: that the
