@@ -1,3 +1,4 @@
 pub mod Pieces
 pub mod AccessText
 pub mod EventText
+pub mod RowText

@@ -2,12 +2,13 @@
 // made once, and the place goes from word to word in a register.
 ghost use Rattle.std.specs.Prelude.{◌≡◌, ◌+◌, ◌*◌, ◌≤◌, length, IsTrue};
 ghost use Rattle.tlm_model.specs.Text.{data_word};
-ghost use Rattle.line_text.specs.AccessText.{access_text, IsShort};
+ghost use Rattle.line_text.specs.AccessText.{access_room, access_text, IsShort};
 ghost use Rattle.line_text.specs.Pieces.{Adds};
 
 use crate::pieces::{
     write_data, write_name, write_seq, write_status, write_times, write_unmasked, write_word,
 };
+use outside::Piece;
 use tlm_types::{Facts, Head};
 
 /// The words of the line of an access without byte enables.
@@ -26,8 +27,8 @@ pub const NAME_MAX: usize = 1024;
 // How many bytes its access shows at most.
 const SHOWN_MAX: usize = 4096;
 
-/// How many bytes a short line takes at most.
-pub const ACCESS_MAX: usize = 10433;
+// How many bytes its numbers and the words between them take at most.
+const WORDS_MAX: usize = 192;
 
 impl AccessLine<'_> {
     /// It is as short as the lines of a run are.
@@ -57,13 +58,13 @@ fn write_shown(bytes: &mut [u8], start: usize, shown: &[u8]) -> usize
     }
 }
 
-/// Writes the line.
+// Writes the line.
 #[inline(always)]
-pub fn write_access(bytes: &mut [u8], start: usize, line: &AccessLine<'_>) -> usize
+fn write_access(bytes: &mut [u8], start: usize, line: &AccessLine<'_>) -> usize
     requires short { IsShort line.now }
-    requires room { start + 10433 ≤ length bytes.old }
+    requires room { start + access_room line.now ≤ length bytes.old }
     ensures adds { Adds bytes.old bytes.new start result (access_text line.now) }
-    ensures within { result ≤ start + 10433 }
+    ensures within { result ≤ start + access_room line.now }
 {
     let name = write_times(bytes, start, line.head.position, line.head.time);
     let seq = write_name(bytes, name, line.initiator);
@@ -72,4 +73,22 @@ pub fn write_access(bytes: &mut [u8], start: usize, line: &AccessLine<'_>) -> us
     let shown = write_unmasked(bytes, asked, line.facts);
     let status = write_shown(bytes, shown, line.shown);
     write_status(bytes, status, line.facts.status)
+}
+
+impl Piece for AccessLine<'_> {
+    ghost text = { access_text };
+
+    ghost most = { access_room };
+
+    ghost writable = { IsShort };
+
+    #[inline(always)]
+    fn most(&self) -> usize {
+        WORDS_MAX + self.initiator.len() + self.memory.len() + 2 * self.shown.len()
+    }
+
+    #[inline(always)]
+    fn write_at(&self, bytes: &mut [u8], start: usize) -> usize {
+        write_access(bytes, start, self)
+    }
 }

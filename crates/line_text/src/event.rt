@@ -8,6 +8,7 @@ ghost use Rattle.line_text.specs.Pieces.{Adds};
 
 use crate::access::NAME_MAX;
 use crate::pieces::{write_name, write_number, write_seq, write_times, write_word};
+use outside::Piece;
 use tlm_types::{Head, Phase, TlmSync};
 
 /// The name of a hop, by those of its two ends, or of a pool, by that of its initiator.
@@ -35,8 +36,8 @@ pub struct EventLine<'a> {
     pub event: Event,
 }
 
-/// How many bytes such a line takes at most, where its names are short.
-pub const EVENT_MAX: usize = 3173;
+// How many bytes such a line takes at most, where its names are short.
+const EVENT_MAX: usize = 3173;
 
 impl EventPlace<'_> {
     // Its names are as short as those of a run are.
@@ -167,9 +168,9 @@ fn write_freed(bytes: &mut [u8], start: usize, freed: bool) -> usize
     }
 }
 
-/// Writes the line.
+// Writes the line.
 #[inline(always)]
-pub fn write_event(bytes: &mut [u8], start: usize, line: &EventLine<'_>) -> usize
+fn write_event(bytes: &mut [u8], start: usize, line: &EventLine<'_>) -> usize
     requires brief { IsBrief line.now }
     requires room { start + 3173 ≤ length bytes.old }
     ensures adds { Adds bytes.old bytes.new start result (event_text line.now) }
@@ -180,4 +181,22 @@ pub fn write_event(bytes: &mut [u8], start: usize, line: &EventLine<'_>) -> usiz
     let place = write_seq(bytes, seq, line.head.txn.seq);
     let what = write_place(bytes, place, line.place);
     write_what(bytes, what, line.event)
+}
+
+impl Piece for EventLine<'_> {
+    ghost text = { event_text };
+
+    ghost most = { λ _. 3173 };
+
+    ghost writable = { IsBrief };
+
+    #[inline(always)]
+    fn most(&self) -> usize {
+        EVENT_MAX
+    }
+
+    #[inline(always)]
+    fn write_at(&self, bytes: &mut [u8], start: usize) -> usize {
+        write_event(bytes, start, self)
+    }
 }

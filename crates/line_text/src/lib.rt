@@ -1,19 +1,21 @@
 //! Lines of a report, written at a place of some bytes.
 //!
-//! - `write_access` writes the line of an access without byte enables, which an `AccessLine` tells, and
-//!   `write_event` that of a call at a hop or an entry of a pool, which an `EventLine` tells.
+//! - An `AccessLine` is the line of an access without byte enables, an `EventLine` that of a call at a hop or of an
+//!   entry of a pool, and a `RowLine` that of some bytes of a memory. Each is a `Piece` for a sink.
 //! - `write_piece` writes a `LinePiece`, words that follow one another, `write_data` bytes as digits, and
 //!   `write_bytes` bytes as they are.
 //!
-//! Promises: each call writes just the text of the definitions (`access_text`, `event_text`, `piece_text`),
+//! Promises: each call writes just the text of the definitions (`access_text`, `event_text`, `row_text`, `piece_text`),
 //! leaves what stands before its place as it was (`Adds`), and answers the place behind what it wrote. There
-//! has to be room: `ACCESS_MAX`, `EVENT_MAX` and `PIECE_MAX` bytes are enough. No call takes memory or fails.
+//! has to be room: what a line tells, and `PIECE_MAX` bytes for other pieces. No call takes memory or fails.
 #![tactic(auto)]
 
 mod access;
 mod event;
 mod pieces;
+mod row;
 
-pub use access::{ACCESS_MAX, AccessLine, write_access};
-pub use event::{EVENT_MAX, Event, EventLine, EventPlace, write_event};
+pub use access::AccessLine;
+pub use event::{Event, EventLine, EventPlace};
 pub use pieces::{LinePiece, PIECE_MAX, write_bytes, write_data, write_piece};
+pub use row::RowLine;

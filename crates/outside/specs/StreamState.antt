@@ -1,6 +1,7 @@
 -- What is seen of a sink over a stream.
-use Rattle.std.specs.Prelude.{ℕ, ◌≡◌, ◌≤◌, Bool, true, false, List, length, take, Option, Some, None}
+use Rattle.std.specs.Prelude.{ℕ, ◌≡◌, ◌≤◌, Bool, true, false, if◌then◌else◌, List, length, take, Option, Some, None}
 use Rattle.std.specs.Io.KnownBytes.{append_known, Appends}
+use Rattle.outside.specs.Causes.{next_count}
 
 -- what the stream holds, where that is known; the bytes that wait to be written to it; whether it has
 -- failed; and how many calls have failed
@@ -32,3 +33,12 @@ abbrev pub IsToldBy : Bool → Option (List ℕ) → Type 0
 IsToldBy true None = ⊥
 IsToldBy true (Some bytes) = Unit {0}
 IsToldBy false known = Unit {0}
+
+-- What came of a write of these bytes, which was done or not. What waits follows what the stream holds, where that is known.
+pub record Wrote (old new : StreamState) (bytes : List ℕ) (done : Bool) : Type 0 where
+  pub gathered : done ≡ true → Appends (collected old) (collected new) bytes
+  pub cut_short : done ≡ false → AppendsPrefix (collected old) (collected new) bytes
+  pub bounded : length new.waiting ≤ 65536
+  pub stopped : old.failed ≡ true → HasStopped old new
+  pub counted : new.faults ≡ (if done then old.faults else next_count old.faults)
+  pub marked : new.failed ≡ (if done then old.failed else true)

@@ -56,6 +56,10 @@ impl<'a, R: Folder> FolderLibrary<'a, R> {
     }
 }
 
+// For how many bytes there is room from the beginning, so that most files are read in a few calls, and their bytes aren't moved. Room
+// that isn't used is no memory that is touched.
+const FILE_ROOM: usize = 0x10_0000;
+
 // All bytes of a file, of which at most one more than the limit is read.
 fn read_within<F: Read + Drop>(alloc: Global, file: F, limit: u64) -> Result<Vec<u8>, LoadFault>
     ensures all { IfOk result (λ v. IfSome (F.remaining file) (λ bytes. v.items ≡ bytes)) }
@@ -63,7 +67,9 @@ fn read_within<F: Read + Drop>(alloc: Global, file: F, limit: u64) -> Result<Vec
     ensures too_long { IsErrOf result LoadFault.TooLong
         → IfSome (F.remaining file) (λ bytes. limit < length bytes) }
 {
-    let mut bytes = Vec::new(alloc);
+    let Ok(mut bytes) = Vec::with_capacity(alloc, FILE_ROOM) else {
+        return Err(LoadFault::Memory);
+    };
     match file.take(limit.saturating_add(1)).read_to_end(&mut bytes) {
         Ok(_) if bytes.len() as u64 > limit => Err(LoadFault::TooLong),
         Ok(_) => Ok(bytes),

@@ -1,6 +1,7 @@
 //! What is outside the program: files to read, streams to write to, and time.
 //!
-//! - `Library` loads files by name, `Sink` takes bytes, `Pace` delays; code above is generic over them.
+//! - `Library` loads files by name, `Sink` takes bytes, `Pace` delays; code above is generic over them. A `Piece` writes
+//!   itself, so that a sink can have it made where it stays.
 //! - In memory: `MapLibrary` and `VecSink` fail where they are told to; `WillingLibrary` and
 //!   `WillingSink` never fail; `NoPace` doesn't delay.
 //! - For real: `FolderLibrary` reads the files of a `Folder`, as the system's current folder is, and
@@ -25,4 +26,4 @@ pub use libraries::{MapLibrary, NamedFile, WillingLibrary};
 pub use sinks::{FailingWrite, VecSink, WillingSink};
 pub use stream::{STREAM_ROOM, StreamSink};
 pub use streams::{Stream, Untold};
-pub use traits::{Failed, Library, LoadFault, NoPace, Pace, Sink};
+pub use traits::{Failed, Library, LoadFault, NoPace, PIECE_ROOM, Pace, Piece, Sink};

@@ -4,10 +4,11 @@ ghost use Rattle.std.specs.Bool.{OnTrue};
 ghost use Rattle.std.specs.Io.KnownBytes.{Appends, Keeps};
 ghost use Rattle.outside.specs.Causes.{next_count, Rose};
 ghost use Rattle.outside.specs.Pieces.{TakesAll, TakesPrefix};
-ghost use Rattle.outside.specs.StreamState.{StreamState, collected, told_by, AppendsPrefix, HasStopped};
+ghost use Rattle.outside.specs.declared.traits.TheConstants.{PIECE_ROOM};
+ghost use Rattle.outside.specs.StreamState.{StreamState, collected, told_by, AppendsPrefix, HasStopped, Wrote};
 
 use crate::streams::Stream;
-use crate::traits::{Failed, Sink};
+use crate::traits::{Failed, PIECE_ROOM, Piece, Sink};
 use std::alloc::Global;
 use std::io::{ErrorKind, Write};
 use std::marker::Model;
@@ -20,24 +21,26 @@ pub const STREAM_ROOM: usize = 65_536;
 /// full and at `finish`, so that a small piece costs no call of the system. After `new` none of
 /// its calls can fail for want of memory. Once the stream has failed nothing more is handed to it, so that it holds a prefix of what
 /// was given. What waits when the sink is dropped is lost: call `finish` first.
+// The buffer keeps its length, so that a piece can be made in it.
 #[derive(Drop)]
 pub struct StreamSink<W: Write + Drop> {
     inner: W,
     buffer: Vec<u8>,
+    len: usize,
     failed: bool,
     faults: u64,
 }
 
 impl<W: Write + Drop> Model for StreamSink<W> {
-    ghost use Rattle.std.specs.Prelude.{◌≤◌, vec_len, vec_capacity};
+    ghost use Rattle.std.specs.Prelude.{◌≡◌, ◌≤◌, take, vec_len};
     ghost use Rattle.outside.specs.StreamState.{StreamState};
     ghost use Rattle.outside.specs.declared.stream.TheConstants.{STREAM_ROOM};
 
     ghost Value = { StreamState };
 
-    ghost view = { λ s. record { held = W.contents s.inner; waiting = s.buffer.items; failed = s.failed; faults = s.faults } };
+    ghost view = { λ s. record { held = W.contents s.inner; waiting = take s.len s.buffer.items; failed = s.failed; faults = s.faults } };
 
-    ghost invariant = { λ s. (vec_len s.buffer ≤ STREAM_ROOM) × (STREAM_ROOM ≤ vec_capacity s.buffer) };
+    ghost invariant = { λ s. (vec_len s.buffer ≡ STREAM_ROOM) × (s.len ≤ STREAM_ROOM) };
 }
 
 // One write, tried again where a signal interrupted it. It answers how many bytes the stream took,
@@ -73,15 +76,13 @@ fn hand_over<W: Write>(stream: &mut W, bytes: &[u8]) -> usize
     taken
 }
 
-fn remove_front(buffer: &mut Vec<u8>, count: usize)
-    requires { count ≤ vec_len buffer.old }
-    ensures items { buffer.new.items ≡ drop count buffer.old.items }
-    ensures len { vec_len buffer.new ≡ vec_len buffer.old - count }
-    ensures capacity { vec_capacity buffer.new ≡ vec_capacity buffer.old }
+// Of the first `len` bytes, moves those behind the first `count` to the front.
+fn remove_front(bytes: &mut [u8], len: usize, count: usize)
+    requires count { count ≤ len }
+    requires len { len ≤ length bytes.old }
+    ensures { take (len - count) bytes.new ≡ drop count (take len bytes.old) }
 {
-    let len = buffer.len();
-    buffer.as_mut_slice().copy_within(count..len, 0);
-    buffer.truncate(len - count);
+    bytes.copy_within(count..len, 0);
 }
 
 impl<W: Write + Drop> StreamSink<W> {
@@ -91,10 +92,11 @@ impl<W: Write + Drop> StreamSink<W> {
         ensures { IfOk result (λ s. s
             ≡ record { held = W.contents inner; waiting = []; failed = false; faults = 0 }) }
     {
-        let buffer = Vec::with_capacity(alloc, STREAM_ROOM)?;
+        let buffer = vec![in alloc; 0; STREAM_ROOM]?;
         Ok(StreamSink {
             inner,
             buffer,
+            len: 0,
             failed: false,
             faults: 0,
         })
@@ -114,18 +116,24 @@ impl<W: Write + Drop> StreamSink<W> {
         self.inner
     }
 
-    // Hands what waits to the stream, and answers whether all was taken. The rest goes on waiting.
+    // Hands what waits to the stream, unless that has failed, and answers whether all was taken. The rest goes on waiting.
+    #[cold]
+    #[inline(never)]
     fn pour(&mut self) -> bool
         ensures empty { OnTrue result (self.new.waiting ≡ []) }
         ensures kept { Keeps (collected self.old) (collected self.new) }
         ensures bounded { length self.new.waiting ≤ STREAM_ROOM }
         ensures failed { self.new.failed ≡ self.old.failed }
         ensures faults { self.new.faults ≡ self.old.faults }
+        ensures stopped { IsTrue self.old.failed → (result ≡ false) × HasStopped self.old self.new }
     {
-        let taken = hand_over(&mut self.inner, &self.buffer);
-        let all = taken == self.buffer.len();
-        remove_front(&mut self.buffer, taken);
-        all
+        if self.failed {
+            return false;
+        }
+        let taken = hand_over(&mut self.inner, &self.buffer[..self.len]);
+        remove_front(&mut self.buffer, self.len, taken);
+        self.len -= taken;
+        self.len == 0
     }
 
     fn flush(&mut self) -> bool
@@ -145,10 +153,11 @@ impl<W: Write + Drop> StreamSink<W> {
         Err(Failed)
     }
 
-    fn has_room(&self, bytes: &[u8]) -> bool
-        ensures { IsTrue result ↔ (length self.now.waiting + length bytes.now ≤ STREAM_ROOM) }
+    // There is room for so many bytes behind what waits.
+    fn has_room(&self, count: usize) -> bool
+        ensures { IsTrue result ↔ (length self.now.waiting + count ≤ STREAM_ROOM) }
     {
-        bytes.len() <= STREAM_ROOM - self.buffer.len()
+        count <= STREAM_ROOM - self.len
     }
 
     // Lets a piece wait.
@@ -156,9 +165,9 @@ impl<W: Write + Drop> StreamSink<W> {
         requires { length self.old.waiting + length bytes.now ≤ STREAM_ROOM }
         ensures { self.new ≡ record self.old { waiting = self.old.waiting ++ bytes.now } }
     {
-        let Ok(()) = self.buffer.extend_from_slice(bytes) else {
-            unreachable!()
-        };
+        let end = self.len + bytes.len();
+        self.buffer[self.len..end].copy_from_slice(bytes);
+        self.len = end;
     }
 
     // Hands a piece to the stream, while nothing waits.
@@ -184,20 +193,13 @@ impl<W: Write + Drop> StreamSink<W> {
     #[cold]
     #[inline(never)]
     fn write_on(&mut self, bytes: &[u8]) -> Result<(), Failed>
-        ensures gathered { OnOk result (Appends (collected self.old) (collected self.new) bytes.now) }
-        ensures cut_short { OnErr result
-            (AppendsPrefix (collected self.old) (collected self.new) bytes.now) }
-        ensures bounded { length self.new.waiting ≤ STREAM_ROOM }
-        ensures stopped { IsTrue self.old.failed → HasStopped self.old self.new
-            × (IsOk result ↔ (bytes.now ≡ [])) }
-        ensures counted { self.new.faults
-            ≡ (if is_ok result then self.old.faults else next_count self.old.faults) }
-        ensures marked { self.new.failed ≡ (self.old.failed || is_err result) }
+        ensures wrote { Wrote self.old self.new bytes.now (is_ok result) }
+        ensures refused { IsTrue self.old.failed → (IsOk result ↔ (bytes.now ≡ [])) }
     {
         if self.failed && bytes.is_empty() {
             return Ok(());
         }
-        if self.failed || !self.pour() {
+        if !self.pour() {
             return self.fail();
         }
         if bytes.len() > STREAM_ROOM {
@@ -239,18 +241,10 @@ impl<W: Stream + Drop> Sink for StreamSink<W> {
     /// if the piece is larger than the whole buffer, the piece too. Once the stream has failed, each
     /// piece that isn't empty is refused.
     fn write(&mut self, bytes: &[u8]) -> Result<(), Failed>
-        // What waits follows what the stream holds, where that is known.
-        ensures gathered { OnOk result (Appends (collected self.old) (collected self.new) bytes.now) }
-        ensures cut_short { OnErr result
-            (AppendsPrefix (collected self.old) (collected self.new) bytes.now) }
+        ensures wrote { Wrote self.old self.new bytes.now (is_ok result) }
+        ensures refused { IsTrue self.old.failed → (IsOk result ↔ (bytes.now ≡ [])) }
         ensures waits { self.old.failed ≡ false → length self.old.waiting + length bytes.now ≤ STREAM_ROOM
             → IsOk result × (self.new ≡ record self.old { waiting = self.old.waiting ++ bytes.now }) }
-        ensures bounded { length self.new.waiting ≤ STREAM_ROOM }
-        ensures stopped { IsTrue self.old.failed → HasStopped self.old self.new
-            × (IsOk result ↔ (bytes.now ≡ [])) }
-        ensures counted { self.new.faults
-            ≡ (if is_ok result then self.old.faults else next_count self.old.faults) }
-        ensures marked { self.new.failed ≡ (self.old.failed || is_err result) }
 
         // What every sink promises.
         ensures all { OnOk result (TakesAll (told_by W.tells (collected self.old))
@@ -260,10 +254,35 @@ impl<W: Stream + Drop> Sink for StreamSink<W> {
         ensures later { self.old.faults ≤ self.new.faults }
         ensures failed { OnErr result (Rose self.old.faults self.new.faults) }
     {
-        if self.failed || !self.has_room(bytes) {
+        if self.failed || !self.has_room(bytes.len()) {
             return self.write_on(bytes);
         }
         self.collect(bytes);
+        Ok(())
+    }
+
+    /// Makes the piece behind what waits. If there may not be room, it first writes what waits to the stream. Once the
+    /// stream has failed, each piece is refused.
+    #[inline(always)]
+    fn write_piece<P: Piece>(&mut self, _lent: &mut [u8], piece: &P) -> Result<(), Failed>
+        requires writable { P.writable piece.now }
+        requires room { P.most piece.now ≤ length _lent.old }
+        requires few { P.most piece.now ≤ PIECE_ROOM }
+        ensures wrote { Wrote self.old self.new (P.text piece.now) (is_ok result) }
+        ensures refused { IsTrue self.old.failed → IsErr result }
+
+        // What every sink promises.
+        ensures all { OnOk result (TakesAll (told_by W.tells (collected self.old))
+            (told_by W.tells (collected self.new)) (P.text piece.now)) }
+        ensures part { OnErr result (TakesPrefix (told_by W.tells (collected self.old))
+            (told_by W.tells (collected self.new)) (P.text piece.now)) }
+        ensures later { self.old.faults ≤ self.new.faults }
+        ensures failed { OnErr result (Rose self.old.faults self.new.faults) }
+    {
+        if (self.failed || !self.has_room(piece.most())) && !self.pour() {
+            return self.fail();
+        }
+        self.len = piece.write_at(&mut self.buffer, self.len);
         Ok(())
     }
 }

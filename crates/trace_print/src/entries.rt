@@ -16,7 +16,7 @@ ghost use Rattle.trace_print.specs.Hops.{ends_at, object_word_by};
 ghost use Rattle.trace_print.specs.Putting.{Puts, page};
 ghost use Rattle.trace_print.specs.Told.{access_words, shown_of, text_of};
 
-use crate::line::{Line, flush, put, put_access_line, put_event_line, put_piece};
+use crate::line::{Line, flush, put, put_piece, put_whole};
 use crate::names::{ends_at, initiator_name, memory_name, place_at, put_object, put_txn};
 use crate::words::{kind_text, phase_text, put_data, put_number, put_range, put_sync, put_text};
 use entry_log::{Log, LoggedAccess};
@@ -344,8 +344,7 @@ fn put_other<K: Sink>(out: &mut K, line: &mut Line, plan: &Plan, log: &Log, inde
         (page (K.taken out.new) (K.faults out.new) line.new) (line_of (entry_words plan.now.platform e)) }
 {
     if let Some(event) = event_line(plan, log, index) {
-        put_event_line(out, line, &event);
-        flush(out, line);
+        put_whole(out, line, &event);
     } else {
         let ends = ends_at(plan, log.head(index).object);
         put_entry(out, line, plan.platform(), ends, log, index);
@@ -373,8 +372,7 @@ fn put_traced<K: Sink>(
         return;
     }
     if let Some(access) = access_line(plan.platform(), log, index) {
-        put_access_line(out, line, &access);
-        flush(out, line);
+        put_whole(out, line, &access);
     } else {
         put_other(out, line, plan, log, index);
     }

@@ -1,16 +1,11 @@
 // The line that is made for a sink.
 ghost use Rattle.std.specs.Prelude.{◌≡◌, ◌+◌, ◌≤◌, ◌∷◌, [], false, length, IfOk};
 ghost use Rattle.tlm_model.specs.Text.{hex_of};
-ghost use Rattle.line_text.specs.AccessText.{access_text, IsShort};
-ghost use Rattle.line_text.specs.EventText.{event_text, IsBrief};
 ghost use Rattle.line_text.specs.Pieces.{piece_text};
 ghost use Rattle.trace_print.specs.Putting.{Puts, page};
 
-use line_text::{
-    ACCESS_MAX, AccessLine, EVENT_MAX, EventLine, LinePiece, PIECE_MAX, write_access, write_bytes,
-    write_data, write_event, write_piece,
-};
-use outside::Sink;
+use line_text::{LinePiece, PIECE_MAX, write_bytes, write_data, write_piece};
+use outside::{Piece, Sink};
 use std::alloc::Global;
 use std::marker::Model;
 use tlm_types::Memory;
@@ -123,26 +118,30 @@ pub fn put_piece<K: Sink>(out: &mut K, line: &mut Line, piece: LinePiece)
     line.len = write_piece(&mut line.bytes, line.len, piece);
 }
 
-/// Puts the line of an access.
+/// Puts a line that writes itself, as one piece, behind all that waits.
 #[inline(always)]
-pub fn put_access_line<K: Sink>(out: &mut K, line: &mut Line, access: &AccessLine<'_>)
-    requires { IsShort access.now }
+pub fn put_whole<K: Sink, P: Piece>(out: &mut K, line: &mut Line, piece: &P)
+    requires writable { P.writable piece.now }
+    requires room { P.most piece.now ≤ 16896 }
     ensures { Puts (page (K.taken out.old) (K.faults out.old) line.old)
-        (page (K.taken out.new) (K.faults out.new) line.new) (access_text access.now) }
+        (page (K.taken out.new) (K.faults out.new) line.new) (P.text piece.now) }
 {
-    make_room(out, line, ACCESS_MAX);
-    line.len = write_access(&mut line.bytes, line.len, access);
+    flush(out, line);
+    write_whole(out, line, piece);
 }
 
-/// Puts the line of a call at a hop, or of an entry of a pool.
+// Has a sink take a line that writes itself, where nothing waits.
 #[inline(always)]
-pub fn put_event_line<K: Sink>(out: &mut K, line: &mut Line, event: &EventLine<'_>)
-    requires { IsBrief event.now }
+fn write_whole<K: Sink, P: Piece>(out: &mut K, line: &mut Line, piece: &P)
+    requires writable { P.writable piece.now }
+    requires room { P.most piece.now ≤ 16896 }
+    requires empty { line.old.waiting ≡ [] }
     ensures { Puts (page (K.taken out.old) (K.faults out.old) line.old)
-        (page (K.taken out.new) (K.faults out.new) line.new) (event_text event.now) }
+        (page (K.taken out.new) (K.faults out.new) line.new) (P.text piece.now) }
 {
-    make_room(out, line, EVENT_MAX);
-    line.len = write_event(&mut line.bytes, line.len, event);
+    if !line.failed {
+        line.failed = out.write_piece(&mut line.bytes, piece).is_err();
+    }
 }
 
 /// Puts each of at most 4,096 bytes as two digits.

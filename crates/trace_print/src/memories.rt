@@ -1,30 +1,29 @@
 // The lines of the bytes of memories.
-ghost use Rattle.std.specs.Prelude.{◌≡◌, ◌+◌, ◌/◌, ◌∷◌, [], length, map, codes};
+ghost use Rattle.std.specs.Prelude.{◌≡◌, ◌+◌, ◌/◌, ◌≤◌, ◌∷◌, [], length, codes};
 ghost use Rattle.std.specs.Fmt.{decimal};
 ghost use Rattle.report_model.specs.Report.{memory_lines, row_lines, rows_from};
-ghost use Rattle.tlm_model.specs.Text.{hex_of, line_of, offset_word};
+ghost use Rattle.tlm_model.specs.Text.{line_of};
 ghost use Rattle.trace_print.specs.Putting.{Puts, page};
 ghost use Rattle.trace_print.specs.Told.{HaveSizes, stores_lines, text_of};
 
-use crate::line::{Line, end_line, put};
-use crate::words::{put_hex, put_number, put_offset, put_text};
+use crate::line::{Line, end_line, put, put_whole};
+use crate::words::{put_number, put_text};
 use lane_copy::is_zero;
+use line_text::RowLine;
 use outside::Sink;
 use tlm_model::MemoryRow;
 use tlm_types::Bytes;
 
 // The line of 16 bytes, or of fewer at a memory's end, unless they are all zeros.
 fn put_row<K: Sink>(out: &mut K, line: &mut Line, offset: usize, row: &[u8])
+    requires { length row.now ≤ 16 }
     ensures { Puts (page (K.taken out.old) (K.faults out.old) line.old)
         (page (K.taken out.new) (K.faults out.new) line.new) (text_of (row_lines offset row.now)) }
 {
     if is_zero(row) {
         return;
     }
-    put_offset(out, line, offset);
-    put(out, line, b" ");
-    put_hex(out, line, row);
-    end_line(out, line);
+    put_whole(out, line, &RowLine { offset, bytes: row });
 }
 
 /// Puts the lines of the rows of a memory's bytes.

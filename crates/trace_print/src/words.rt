@@ -3,7 +3,7 @@ ghost use Rattle.std.specs.Prelude.{◌≡◌, ◌∷◌, [], ◌++◌, codes};
 ghost use Rattle.std.specs.Fmt.{decimal};
 ghost use Rattle.std.specs.List.{join_with_byte};
 ghost use Rattle.report_model.specs.Report.{command_word, kind_word, phase_word, range_word, style_word, sync_words};
-ghost use Rattle.tlm_model.specs.Text.{address_word, data_word, hex_of, offset_word};
+ghost use Rattle.tlm_model.specs.Text.{address_word, data_word, hex_of};
 ghost use Rattle.trace_print.specs.Putting.{Puts, page};
 
 use crate::line::{CHUNK, Line, put, put_chunk, put_piece};
@@ -104,20 +104,6 @@ pub fn put_address<K: Sink>(out: &mut K, line: &mut Line, address: u64)
         (page (K.taken out.new) (K.faults out.new) line.new) (address_word address) }
 {
     put_piece(out, line, LinePiece::Address(address));
-}
-
-/// Puts the offset of a row of bytes, which is below 2^32, as 8 digits.
-pub fn put_offset<K: Sink>(out: &mut K, line: &mut Line, offset: usize)
-    ensures { Puts (page (K.taken out.old) (K.faults out.old) line.old)
-        (page (K.taken out.new) (K.faults out.new) line.new) (offset_word offset) }
-{
-    let bytes = [
-        (offset / 16777216 % 256) as u8,
-        (offset / 65536 % 256) as u8,
-        (offset / 256 % 256) as u8,
-        (offset % 256) as u8,
-    ];
-    put_hex(out, line, &bytes);
 }
 
 /// Puts an inclusive range.

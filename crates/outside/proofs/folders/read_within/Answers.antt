@@ -9,4 +9,4 @@ returns-in-Ok-2-clause-all g c =
     let short : length bytes.items < c.take.result.limit =
     omega (arith, bytes.ok.1, bytes.small, c.take.ensures.limit, c.saturating_add.ensures, c.if-len-limit.false) in
     subst (λ file. IfSome (g.F.Read.remaining file) (λ (ys : List ℕ). bytes.items ≡ ys)) c.take.ensures.inner
-    (IfSome-take_all _ _ _ bytes.items c.new-bytes.ensures.items short c.in-Ok-2.ensures.bytes)
+    (IfSome-take_all _ _ _ bytes.items c.in-Ok.ensures.items short c.in-Ok-2.ensures.bytes)

@@ -1,16 +1,15 @@
 use Rattle.std.proofs.Common.{◌≡◌, ◌∙◌, ap, sym}
-use Rattle.std.proofs.lemmas.List.{append-nil}
 use Rattle.tlm_types.specs.declared.entry.Head.{Head}
 use Rattle.tlm_types.specs.Entries.{head_of}
 use Rattle.tlm_model.specs.declared.platform.Platform.{Platform}
 use Rattle.report_model.specs.Report.{entry_words}
 use Rattle.tlm_model.specs.Text.{line_of}
 use Rattle.trace_print.specs.Hops.{ends_at}
-use Rattle.trace_print.proofs.Putting.{puts-as, puts-more}
+use Rattle.trace_print.proofs.Putting.{puts-as}
 use Rattle.trace_print.proofs.entries.put_other.Goals as goal
 
 pub returns-in-Some : goal.returns-in-Some
-returns-in-Some g c e here = puts-as _ _ _ _ (puts-more _ _ _ _ _ c.put_event_line.ensures c.flush.ensures.puts) (append-nil _ ∙ c.in-Some.ensures.text e here)
+returns-in-Some g c e here = puts-as _ _ _ _ c.put_whole.ensures (c.in-Some.ensures.text e here)
 
 pub returns-in_default : goal.returns-in_default
 returns-in_default g c e here =

@@ -1,10 +1,9 @@
 use Rattle.std.proofs.Common.{◌∙◌, ap}
-use Rattle.std.proofs.lemmas.List.{append-nil}
 use Rattle.tlm_model.specs.declared.platform.Platform.{Platform}
 use Rattle.report_model.specs.Report.{entry_words}
 use Rattle.tlm_model.specs.Text.{line_of}
 use Rattle.trace_print.proofs.EntryLemmas.{hidden-one, shown-one}
-use Rattle.trace_print.proofs.Putting.{puts-as, puts-more, puts-nothing}
+use Rattle.trace_print.proofs.Putting.{puts-as, puts-nothing}
 use Rattle.trace_print.proofs.entries.put_traced.Goals as goal
 
 pub returns-then-not-is_shown : goal.returns-then-not-is_shown
@@ -15,7 +14,7 @@ pub returns-in-Some : goal.returns-in-Some
 returns-in-Some g c e here =
     let p = c.args.plan.now.platform in
     let shown = ap (λ (r : Platform). line_of (entry_words r e)) c.platform.ensures.same ∙ shown-one p c.args.trace e _ (c.is_shown.ensures e here) c.if-not-is_shown.false in
-    puts-as _ _ _ _ (puts-more _ _ _ _ _ c.put_access_line.ensures c.flush.ensures.puts) (append-nil _ ∙ (c.in-Some.ensures.text e here ∙ shown))
+    puts-as _ _ _ _ c.put_whole.ensures (c.in-Some.ensures.text e here ∙ shown)
 
 pub returns-in_default : goal.returns-in_default
 returns-in_default g c e here =
