@@ -3,3 +3,4 @@ pub mod VectorLemmas
 pub mod WordLemmas
 pub mod NumberLemmas
 pub mod HexLemmas
+mod CallLemmas

@@ -2,3 +2,4 @@ pub mod Pieces
 pub mod AccessText
 pub mod EventText
 pub mod RowText
+pub mod CallText

@@ -1,12 +1,13 @@
 // The line of a call at a hop, or of an entry of a pool. It is written in one go, as that of a short access is.
 ghost use Rattle.std.specs.Prelude.{◌≡◌, ◌+◌, ◌≤◌, ◌++◌, length, IsTrue, codes};
 ghost use Rattle.std.specs.Fmt.{decimal};
-ghost use Rattle.report_model.specs.Report.{phase_word, sync_words, what_words};
+ghost use Rattle.report_model.specs.Report.{what_words};
 ghost use Rattle.tlm_model.specs.Text.{line_of};
 ghost use Rattle.line_text.specs.EventText.{event_text, freed_text, place_text, what_of, IsBrief, IsBriefPlace};
 ghost use Rattle.line_text.specs.Pieces.{Adds};
 
 use crate::access::NAME_MAX;
+use crate::call::write_call;
 use crate::pieces::{write_name, write_number, write_seq, write_times, write_word};
 use outside::Piece;
 use tlm_types::{Head, Phase, TlmSync};
@@ -83,39 +84,6 @@ fn write_place(bytes: &mut [u8], start: usize, place: EventPlace<'_>) -> usize
     }
 }
 
-// A phase after a space.
-#[inline(always)]
-fn write_phase(bytes: &mut [u8], start: usize, phase: Phase) -> usize
-    requires { start + 11 ≤ length bytes.old }
-    ensures adds { Adds bytes.old bytes.new start result (codes " " ++ phase_word phase) }
-    ensures within { result ≤ start + 11 }
-{
-    match phase {
-        Phase::BeginReq => write_word(bytes, start, b" BEGIN_REQ"),
-        Phase::EndReq => write_word(bytes, start, b" END_REQ"),
-        Phase::BeginResp => write_word(bytes, start, b" BEGIN_RESP"),
-        Phase::EndResp => write_word(bytes, start, b" END_RESP"),
-    }
-}
-
-// The answer to a call after a space, with the end of the line.
-#[inline(always)]
-fn write_answer(bytes: &mut [u8], start: usize, answer: TlmSync) -> usize
-    requires { start + 20 ≤ length bytes.old }
-    ensures adds { Adds bytes.old bytes.new start result (codes " " ++ line_of (sync_words answer)) }
-    ensures within { result ≤ start + 20 }
-{
-    match answer {
-        TlmSync::Accepted => write_word(bytes, start, b" ACCEPTED\n"),
-        TlmSync::Updated(phase) => {
-            let place = write_word(bytes, start, b" UPDATED");
-            let end = write_phase(bytes, place, phase);
-            write_word(bytes, end, b"\n")
-        }
-        TlmSync::Completed => write_word(bytes, start, b" COMPLETED\n"),
-    }
-}
-
 // A word with its spaces, and the number of a slot.
 #[inline(always)]
 fn write_slot<const N: usize>(bytes: &mut [u8], start: usize, word: &[u8; N], slot: u32) -> usize
@@ -135,10 +103,7 @@ fn write_what(bytes: &mut [u8], start: usize, event: Event) -> usize
     ensures within { result ≤ start + 36 }
 {
     match event {
-        Event::Call { phase, answer } => {
-            let place = write_phase(bytes, start, phase);
-            write_answer(bytes, place, answer)
-        }
+        Event::Call { phase, answer } => write_call(bytes, start, phase, answer),
         Event::Take { slot } => {
             let end = write_slot(bytes, start, b" take ", slot);
             write_word(bytes, end, b"\n")

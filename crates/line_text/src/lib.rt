@@ -11,6 +11,7 @@
 #![tactic(auto)]
 
 mod access;
+mod call;
 mod event;
 mod pieces;
 mod row;

@@ -1,4 +1,4 @@
-use Rattle.std.proofs.Common.{◌≡◌, [], ◌∷◌, ◌++◌, append_assoc}
+use Rattle.std.proofs.Common.{◌≡◌, ◌++◌, append_assoc}
 use Rattle.std.specs.Prelude.{codes}
 use Rattle.tlm_model.specs.Text.{hex_of, offset_word}
 use Rattle.line_text.specs.RowText.{row_text}
