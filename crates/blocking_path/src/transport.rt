@@ -14,7 +14,7 @@ ghost use Rattle.region_object.specs.declared.call.RegionCall.TheVariants.{Acces
 ghost use Rattle.plat_net.specs.Calls.{CanPay, HasNoPassage, IsCalled, OneTicketLess, route_at};
 
 use generic_payload::Payload;
-use plat_net::{Carried, Net, PlatNote, Reach, TlmLaw};
+use plat_net::{Carried, Net, PlatNote, Reach, Sharing, TlmLaw};
 use region_object::RegionCall;
 use route_plan::{Plan, Route};
 use shared_object::Naming;
@@ -29,8 +29,8 @@ use token_book::Wallet;
 /// way has no window for the address, the status is ADDRESS_ERROR, there is no entry, and the latency
 /// of that router counts too. It is for initiators that aren't of four phases: the transaction passes no
 /// hop.
-pub fn b_transport<N: Naming<Plan, TlmLaw>, R: Wait>(
-    net: &Net<N>,
+pub fn b_transport<N: Naming<Plan, TlmLaw>, S: Sharing<N>, R: Wait>(
+    net: &Net<N, S>,
     rt: &R,
     who: u32,
     mut payload: Payload,
@@ -81,7 +81,7 @@ pub fn b_transport<N: Naming<Plan, TlmLaw>, R: Wait>(
 /// time of its arrival. The time that comes back is `at` and the latency of the route. Whoever has the net
 /// alone takes no lock.
 #[inline(always)]
-pub fn b_transport_along<N: Naming<Plan, TlmLaw>, B: Reach<N>, R: Wait>(
+pub fn b_transport_along<N: Naming<Plan, TlmLaw>, S: Sharing<N>, B: Reach<N, S>, R: Wait>(
     reach: &mut B,
     rt: &R,
     route: &Route,
@@ -130,8 +130,8 @@ pub fn b_transport_along<N: Naming<Plan, TlmLaw>, B: Reach<N>, R: Wait>(
 /// Makes a debug read of an initiator (clause 11.3), at the time `at`, which comes back unchanged. Along its
 /// route it is one entry of that memory, and the bytes come back at the front of the payload's data.
 /// Without a route nothing is moved, the status is ADDRESS_ERROR, and there is no entry.
-pub fn transport_dbg<N: Naming<Plan, TlmLaw>, R: Wait>(
-    net: &Net<N>,
+pub fn transport_dbg<N: Naming<Plan, TlmLaw>, S: Sharing<N>, R: Wait>(
+    net: &Net<N, S>,
     rt: &R,
     who: u32,
     payload: Payload,

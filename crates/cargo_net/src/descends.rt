@@ -9,14 +9,14 @@ ghost use Rattle.cargo_net.specs.Descends.{MayDescend};
 ghost use Rattle.cargo_net.specs.Pools.{HasAcquiredOne};
 ghost use Rattle.cargo_net.specs.Wallets.{IsTicketAt};
 
-use crate::law::TlmLaw;
+use crate::law::{LockedPool, TlmLaw};
 use crate::pools::acquire;
 use crate::wallets::pull_at;
 use cargo_model::Cargo;
 use one_history::{History, Note};
 use payload_pool::{Hold, Pool};
 use route_plan::Plan;
-use shared_object::{Naming, Shared};
+use shared_object::{Keeper, Naming, Shared};
 use std::sync::Wait;
 use tlm_types::{Content, Ps};
 use token_book::{Ticket, Tokens};
@@ -35,8 +35,8 @@ pub struct Descended {
 /// 1666-2011, clauses 14.5 and 14.7). `above` is the hop in the history that it was fetched from, where
 /// END_REQ is owed there. The tickets of both come from the payload's own wallet. The request may then go
 /// down on the next hop. It can't fail.
-pub fn descend<R: Wait, N: Naming<Plan, TlmLaw>>(
-    pool: &Shared<Pool, Plan, TlmLaw, N>,
+pub fn descend<R: Wait, N: Naming<Plan, TlmLaw>, L: Keeper<LockedPool<N>>>(
+    pool: &Shared<Pool, Plan, TlmLaw, N, L>,
     rt: &R,
     history: &History<Content, Plan, TlmLaw>,
     tickets: &Tokens,

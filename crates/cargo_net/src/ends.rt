@@ -9,13 +9,13 @@ ghost use Rattle.hop_object.specs.declared.call.HopReply.TheVariants.{EndedReq, 
 ghost use Rattle.cargo_net.specs.Hops.{HasAnswered};
 ghost use Rattle.cargo_net.specs.Ends.{HasEndedRequest, HasEndedResponse, IsEndedReq, IsEndedResp, MayEndRequest, MayEndResponse};
 
-use crate::law::TlmLaw;
+use crate::law::{LockedHop, TlmLaw};
 use crate::steps::step_hop;
 use cargo_model::Cargo;
 use hop_object::{Hop, HopCall, HopReply, Leg};
 use one_history::{History, Note};
 use route_plan::Plan;
-use shared_object::{Naming, Shared};
+use shared_object::{Keeper, Naming, Shared};
 use std::sync::Wait;
 use tlm_types::{Content, Ps};
 use token_book::{Ticket, Tokens};
@@ -36,8 +36,8 @@ fn ended_req(reply: HopReply<Cargo>) -> (Leg, Ps)
 /// spent (IEEE 1666-2011, clause 15.2). It is tried at `at` picoseconds, and answers the leg of the same
 /// lane, which waits for its response, and the time of the entry. It can't fail.
 #[inline(always)]
-pub fn end_req<R: Wait, N: Naming<Plan, TlmLaw>>(
-    hop: &Shared<Hop<Cargo>, Plan, TlmLaw, N>,
+pub fn end_req<R: Wait, N: Naming<Plan, TlmLaw>, L: Keeper<LockedHop<N>>>(
+    hop: &Shared<Hop<Cargo>, Plan, TlmLaw, N, L>,
     rt: &R,
     history: &History<Content, Plan, TlmLaw>,
     tickets: &Tokens,
@@ -89,8 +89,8 @@ fn ended_resp(reply: HopReply<Cargo>) -> Ps
 /// spent (IEEE 1666-2011, clause 15.2). It is tried at `at` picoseconds, and answers the time of the
 /// entry. It can't fail.
 #[inline(always)]
-pub fn end_resp<R: Wait, N: Naming<Plan, TlmLaw>>(
-    hop: &Shared<Hop<Cargo>, Plan, TlmLaw, N>,
+pub fn end_resp<R: Wait, N: Naming<Plan, TlmLaw>, L: Keeper<LockedHop<N>>>(
+    hop: &Shared<Hop<Cargo>, Plan, TlmLaw, N, L>,
     rt: &R,
     history: &History<Content, Plan, TlmLaw>,
     tickets: &Tokens,

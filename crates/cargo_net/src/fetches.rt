@@ -8,14 +8,14 @@ ghost use Rattle.hop_object.specs.declared.call.HopCall.TheVariants.{Ended as As
 ghost use Rattle.cargo_net.specs.Hops.{HasAnswered};
 ghost use Rattle.cargo_net.specs.Fetched.{down_reply, ended_reply, up_reply, HasFetchedRequest, HasFetchedResponse, IsDownReply, IsEndedReply, IsHopThere, IsUpReply};
 
-use crate::law::TlmLaw;
+use crate::law::{LockedHop, TlmLaw};
 use crate::steps::step_hop;
 use base_phases::LaneState;
 use cargo_model::Cargo;
 use hop_object::{Hop, HopCall, HopReply, Leg};
 use one_history::{History, Note};
 use route_plan::Plan;
-use shared_object::{Naming, Shared};
+use shared_object::{Keeper, Naming, Shared};
 use std::sync::Wait;
 use tlm_types::{Content, Ps, TxnId};
 use token_book::Tokens;
@@ -51,8 +51,8 @@ fn fetched_request(reply: HopReply<Cargo>) -> Option<FetchedRequest>
 /// Fetches the request that waits on a hop with the least time, equal times in order of arrival; none
 /// exactly where none waits. It makes no entry and spends no ticket.
 #[inline(always)]
-pub fn fetch_request<R: Wait, N: Naming<Plan, TlmLaw>>(
-    hop: &Shared<Hop<Cargo>, Plan, TlmLaw, N>,
+pub fn fetch_request<R: Wait, N: Naming<Plan, TlmLaw>, L: Keeper<LockedHop<N>>>(
+    hop: &Shared<Hop<Cargo>, Plan, TlmLaw, N, L>,
     rt: &R,
     history: &History<Content, Plan, TlmLaw>,
     tickets: &Tokens,
@@ -105,8 +105,8 @@ fn fetched_response(reply: HopReply<Cargo>) -> Option<FetchedResponse>
 /// exactly where none waits. The leg of END_RESP comes where the component upstream accepts responses.
 /// It makes no entry and spends no ticket.
 #[inline(always)]
-pub fn fetch_response<R: Wait, N: Naming<Plan, TlmLaw>>(
-    hop: &Shared<Hop<Cargo>, Plan, TlmLaw, N>,
+pub fn fetch_response<R: Wait, N: Naming<Plan, TlmLaw>, L: Keeper<LockedHop<N>>>(
+    hop: &Shared<Hop<Cargo>, Plan, TlmLaw, N, L>,
     rt: &R,
     history: &History<Content, Plan, TlmLaw>,
     tickets: &Tokens,
@@ -143,8 +143,8 @@ fn ended(reply: HopReply<Cargo>) -> bool
 /// Looks whether a transaction has ended on a hop: true exactly where no lane is held by it. It makes no
 /// entry and spends no ticket.
 #[inline(always)]
-pub fn has_ended<R: Wait, N: Naming<Plan, TlmLaw>>(
-    hop: &Shared<Hop<Cargo>, Plan, TlmLaw, N>,
+pub fn has_ended<R: Wait, N: Naming<Plan, TlmLaw>, L: Keeper<LockedHop<N>>>(
+    hop: &Shared<Hop<Cargo>, Plan, TlmLaw, N, L>,
     rt: &R,
     history: &History<Content, Plan, TlmLaw>,
     tickets: &Tokens,

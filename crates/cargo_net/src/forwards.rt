@@ -6,7 +6,7 @@ ghost use Rattle.one_history.specs.Lists.{StandBelow};
 ghost use Rattle.shared_object.specs.Steps.{IsNote};
 ghost use Rattle.cargo_net.specs.Forwards.{forwarded_note, HasForwarded, IsForwarded, MayForward};
 
-use crate::law::TlmLaw;
+use crate::law::{LockedHop, LockedMemory, TlmLaw};
 use crate::requests::{Tried, begin_req};
 use crate::serves::serve;
 use cargo_model::Cargo;
@@ -14,7 +14,7 @@ use hop_object::{Hop, Leg};
 use one_history::{History, Note};
 use region_object::Region;
 use route_plan::Plan;
-use shared_object::{Naming, Shared};
+use shared_object::{Keeper, Naming, Shared};
 use std::sync::Wait;
 use tlm_types::{Content, Ps, TlmSync, TxnId};
 use token_book::Tokens;
@@ -55,9 +55,14 @@ pub enum Forwarded {
 /// is open on the hop or no lane is free: no entry is made, and payload and tickets come back. It can't
 /// fail otherwise.
 #[inline(always)]
-pub fn forward<R: Wait, N: Naming<Plan, TlmLaw>>(
-    hop: &Shared<Hop<Cargo>, Plan, TlmLaw, N>,
-    memory: Option<&Shared<Region, Plan, TlmLaw, N>>,
+pub fn forward<
+    R: Wait,
+    N: Naming<Plan, TlmLaw>,
+    L: Keeper<LockedHop<N>>,
+    M: Keeper<LockedMemory<N>>,
+>(
+    hop: &Shared<Hop<Cargo>, Plan, TlmLaw, N, L>,
+    memory: Option<&Shared<Region, Plan, TlmLaw, N, M>>,
     latency: Ps,
     rt: &R,
     history: &History<Content, Plan, TlmLaw>,

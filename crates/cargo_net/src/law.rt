@@ -5,7 +5,7 @@ use one_history::Law;
 use payload_pool::Pool;
 use region_object::Region;
 use route_plan::Plan;
-use shared_object::{Naming, World};
+use shared_object::{Locked, Naming, World};
 use std::marker::Brand;
 use tlm_types::Content;
 
@@ -54,6 +54,15 @@ impl World<Plan, Pool> for TlmLaw {
 
     ghost more_vouch = { λ _ _ _ _ _ _ _ _ _. tt };
 }
+
+/// A memory with its seat and its book, of the history and the tokens that N names.
+pub type LockedMemory<N> = Locked<Region, Plan, TlmLaw, N>;
+
+/// A hop with its seat and its book.
+pub type LockedHop<N> = Locked<Hop<Cargo>, Plan, TlmLaw, N>;
+
+/// A pool with its seat and its book.
+pub type LockedPool<N> = Locked<Pool, Plan, TlmLaw, N>;
 
 impl Naming<Plan, TlmLaw> for Brand {
     ghost use Rattle.std.specs.Prelude.{[]};

@@ -36,7 +36,7 @@ pub use descends::{Descended, descend};
 pub use ends::{end_req, end_resp};
 pub use fetches::{FetchedRequest, FetchedResponse, fetch_request, fetch_response, has_ended};
 pub use forwards::{Forwarded, forward};
-pub use law::TlmLaw;
+pub use law::{LockedHop, LockedMemory, LockedPool, TlmLaw};
 pub use pools::{Taken, acquire, live, release, stow, take};
 pub use requests::{Tried, begin_req};
 pub use responses::{Answered, backward};

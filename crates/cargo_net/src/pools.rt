@@ -10,13 +10,13 @@ ghost use Rattle.payload_pool.specs.declared.call.PoolReply.TheVariants as Repli
 ghost use Rattle.cargo_net.specs.Pools.{HasAcquired, HasAcquiredOne, HasPooled, HasReleased, IsAcquiredReply, IsLiveReply, IsReleasedReply, IsTookReply, MayAcquire, MayRelease, MayStow, MayTake};
 ghost use Rattle.cargo_net.specs.Taken.{IsTakenAs, taken_note, took_reply};
 
-use crate::law::TlmLaw;
+use crate::law::{LockedPool, TlmLaw};
 use crate::steps::step_pool;
 use cargo_model::Cargo;
 use one_history::{History, Note};
 use payload_pool::{Baton, Hold, Pool, PoolCall, PoolReply};
 use route_plan::Plan;
-use shared_object::{Naming, Shared};
+use shared_object::{Keeper, Naming, Shared};
 use std::sync::Wait;
 use tlm_types::{Content, Ps, TxnId};
 use token_book::{Ticket, Tokens};
@@ -75,8 +75,8 @@ fn released(reply: PoolReply) -> bool
 /// the pool (IEEE 1666-2011, clause 14.5). `Full` comes exactly where all slots are live: no entry is made,
 /// and the ticket comes back. It can't fail otherwise.
 #[inline(always)]
-pub fn take<R: Wait, N: Naming<Plan, TlmLaw>>(
-    pool: &Shared<Pool, Plan, TlmLaw, N>,
+pub fn take<R: Wait, N: Naming<Plan, TlmLaw>, L: Keeper<LockedPool<N>>>(
+    pool: &Shared<Pool, Plan, TlmLaw, N, L>,
     rt: &R,
     history: &History<Content, Plan, TlmLaw>,
     tickets: &Tokens,
@@ -119,8 +119,8 @@ pub fn take<R: Wait, N: Naming<Plan, TlmLaw>>(
 /// (IEEE 1666-2011, clause 14.5). The baton comes back as part of a cargo, with the new reference. It can't
 /// fail.
 #[inline(always)]
-pub fn acquire<R: Wait, N: Naming<Plan, TlmLaw>>(
-    pool: &Shared<Pool, Plan, TlmLaw, N>,
+pub fn acquire<R: Wait, N: Naming<Plan, TlmLaw>, L: Keeper<LockedPool<N>>>(
+    pool: &Shared<Pool, Plan, TlmLaw, N, L>,
     rt: &R,
     history: &History<Content, Plan, TlmLaw>,
     tickets: &Tokens,
@@ -158,8 +158,8 @@ pub fn acquire<R: Wait, N: Naming<Plan, TlmLaw>>(
 /// Gives a reference up at `at` picoseconds, with a ticket of the pool (IEEE 1666-2011, clause 14.5), and
 /// answers whether it was the last one of its slot. It can't fail.
 #[inline(always)]
-pub fn release<R: Wait, N: Naming<Plan, TlmLaw>>(
-    pool: &Shared<Pool, Plan, TlmLaw, N>,
+pub fn release<R: Wait, N: Naming<Plan, TlmLaw>, L: Keeper<LockedPool<N>>>(
+    pool: &Shared<Pool, Plan, TlmLaw, N, L>,
     rt: &R,
     history: &History<Content, Plan, TlmLaw>,
     tickets: &Tokens,
@@ -198,8 +198,8 @@ pub fn release<R: Wait, N: Naming<Plan, TlmLaw>>(
 /// payload back (IEEE 1666-2011, clause 14.5). The baton's wallet is empty. It answers whether this was the
 /// last reference of its slot. It can't fail.
 #[inline(always)]
-pub fn stow<R: Wait, N: Naming<Plan, TlmLaw>>(
-    pool: &Shared<Pool, Plan, TlmLaw, N>,
+pub fn stow<R: Wait, N: Naming<Plan, TlmLaw>, L: Keeper<LockedPool<N>>>(
+    pool: &Shared<Pool, Plan, TlmLaw, N, L>,
     rt: &R,
     history: &History<Content, Plan, TlmLaw>,
     tickets: &Tokens,
@@ -246,8 +246,8 @@ fn counted(reply: PoolReply) -> u32
 }
 
 /// Looks how many slots of a pool are live. It makes no entry and spends no ticket.
-pub fn live<R: Wait, N: Naming<Plan, TlmLaw>>(
-    pool: &Shared<Pool, Plan, TlmLaw, N>,
+pub fn live<R: Wait, N: Naming<Plan, TlmLaw>, L: Keeper<LockedPool<N>>>(
+    pool: &Shared<Pool, Plan, TlmLaw, N, L>,
     rt: &R,
     history: &History<Content, Plan, TlmLaw>,
     tickets: &Tokens,

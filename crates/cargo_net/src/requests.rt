@@ -10,14 +10,14 @@ ghost use Rattle.cargo_net.specs.Wallets.{item_given};
 ghost use Rattle.cargo_net.specs.Begins.{IsBegunReply, MayBegin};
 ghost use Rattle.cargo_net.specs.Tried.{begun_reply, tried_note, IsTried};
 
-use crate::law::TlmLaw;
+use crate::law::{LockedHop, TlmLaw};
 use crate::steps::step_hop;
 use crate::wallets::put_back;
 use cargo_model::Cargo;
 use hop_object::{Begun, Hop, HopCall, HopReply, Leg};
 use one_history::{History, Note};
 use route_plan::Plan;
-use shared_object::{Naming, Shared};
+use shared_object::{Keeper, Naming, Shared};
 use std::sync::Wait;
 use tlm_types::{Content, Ps, TlmSync, TxnId};
 use token_book::Tokens;
@@ -67,8 +67,8 @@ fn begun_answer(reply: HopReply<Cargo>) -> Begun<Cargo>
 /// is open on the hop or no lane is free: no entry is made, and payload and tickets come back. It can't fail
 /// otherwise.
 #[inline(always)]
-pub fn begin_req<R: Wait, N: Naming<Plan, TlmLaw>>(
-    hop: &Shared<Hop<Cargo>, Plan, TlmLaw, N>,
+pub fn begin_req<R: Wait, N: Naming<Plan, TlmLaw>, L: Keeper<LockedHop<N>>>(
+    hop: &Shared<Hop<Cargo>, Plan, TlmLaw, N, L>,
     rt: &R,
     history: &History<Content, Plan, TlmLaw>,
     tickets: &Tokens,

@@ -10,14 +10,14 @@ ghost use Rattle.cargo_net.specs.Wallets.{item_given};
 ghost use Rattle.cargo_net.specs.Responds.{IsResponded, MayRespond};
 ghost use Rattle.cargo_net.specs.Answered.{answered_note, responded_reply, IsAnsweredAs};
 
-use crate::law::TlmLaw;
+use crate::law::{LockedHop, TlmLaw};
 use crate::steps::step_hop;
 use crate::wallets::put_back;
 use cargo_model::Cargo;
 use hop_object::{Hop, HopCall, HopReply, Leg, Responded};
 use one_history::{History, Note};
 use route_plan::Plan;
-use shared_object::{Naming, Shared};
+use shared_object::{Keeper, Naming, Shared};
 use std::sync::Wait;
 use tlm_types::{Content, Ps, TlmSync, TxnId};
 use token_book::Tokens;
@@ -57,8 +57,8 @@ fn responded(reply: HopReply<Cargo>) -> Responded<Cargo>
 /// payload to the component upstream. `Busy` comes exactly where a response is open on the hop: no entry
 /// is made, and leg, payload and tickets come back. It can't fail otherwise.
 #[inline(always)]
-pub fn backward<R: Wait, N: Naming<Plan, TlmLaw>>(
-    hop: &Shared<Hop<Cargo>, Plan, TlmLaw, N>,
+pub fn backward<R: Wait, N: Naming<Plan, TlmLaw>, L: Keeper<LockedHop<N>>>(
+    hop: &Shared<Hop<Cargo>, Plan, TlmLaw, N, L>,
     rt: &R,
     history: &History<Content, Plan, TlmLaw>,
     tickets: &Tokens,

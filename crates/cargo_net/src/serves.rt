@@ -7,13 +7,13 @@ ghost use Rattle.region_object.specs.declared.call.RegionReply.TheVariants.{Acce
 ghost use Rattle.cargo_net.specs.Memories.{HasServedCall, IsAccessReply};
 ghost use Rattle.cargo_net.specs.Serves.{access_call, HasServed, MayServe};
 
-use crate::law::TlmLaw;
+use crate::law::{LockedMemory, TlmLaw};
 use cargo_model::Cargo;
 use generic_payload::Payload;
 use one_history::{History, Note};
 use region_object::{Region, RegionCall, RegionReply, payload_cost};
 use route_plan::Plan;
-use shared_object::{Naming, Shared, Stepped};
+use shared_object::{Keeper, Naming, Shared, Stepped};
 use std::sync::Wait;
 use tlm_types::{Content, Ps, Way};
 use token_book::Tokens;
@@ -32,8 +32,8 @@ fn accessed(reply: RegionReply) -> Payload
 /// Makes the access of a request at its memory, with a ticket of the payload's own wallet, for its bytes
 /// (IEEE 1666-2011, clause 14). Its entry has the time `at`, in picoseconds, of the BEGIN_REQ on the hop
 /// to the memory. The payload comes back with its status and, of a read, its bytes. It can't fail.
-pub fn serve<R: Wait, N: Naming<Plan, TlmLaw>>(
-    memory: &Shared<Region, Plan, TlmLaw, N>,
+pub fn serve<R: Wait, N: Naming<Plan, TlmLaw>, L: Keeper<LockedMemory<N>>>(
+    memory: &Shared<Region, Plan, TlmLaw, N, L>,
     rt: &R,
     history: &History<Content, Plan, TlmLaw>,
     tickets: &Tokens,

@@ -9,13 +9,13 @@ ghost use Rattle.cargo_model.specs.Travel.{GoesDown, Ready};
 ghost use Rattle.cargo_net.specs.Pools.{HasAcquiredOne};
 ghost use Rattle.cargo_net.specs.Starts.{MayStart};
 
-use crate::law::TlmLaw;
+use crate::law::{LockedPool, TlmLaw};
 use crate::pools::acquire;
 use cargo_model::Cargo;
 use one_history::{History, Note};
 use payload_pool::{Baton, Pool};
 use route_plan::Plan;
-use shared_object::{Naming, Shared};
+use shared_object::{Keeper, Naming, Shared};
 use std::sync::Wait;
 use tlm_types::{Content, Ps};
 use token_book::Tokens;
@@ -23,8 +23,8 @@ use token_book::Tokens;
 /// Acquires the first reference of an access, at the time in picoseconds of its Take, with a ticket of the
 /// payload's own wallet (IEEE 1666-2011, clause 14.5). The payload may then go down on the first hop. It
 /// can't fail.
-pub fn start<R: Wait, N: Naming<Plan, TlmLaw>>(
-    pool: &Shared<Pool, Plan, TlmLaw, N>,
+pub fn start<R: Wait, N: Naming<Plan, TlmLaw>, L: Keeper<LockedPool<N>>>(
+    pool: &Shared<Pool, Plan, TlmLaw, N, L>,
     rt: &R,
     history: &History<Content, Plan, TlmLaw>,
     tickets: &Tokens,

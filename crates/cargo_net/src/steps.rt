@@ -14,21 +14,21 @@ ghost use Rattle.cargo_net.specs.Carried.{IsCarried};
 ghost use Rattle.cargo_net.specs.Hops.{HasStepped, MeetsHop};
 ghost use Rattle.cargo_net.specs.Pools.{HasPooledWith, MeetsPool};
 
-use crate::law::TlmLaw;
+use crate::law::{LockedHop, LockedPool, TlmLaw};
 use cargo_model::Cargo;
 use hop_object::{Hop, HopCall, HopReply};
 use one_history::{History, Note};
 use payload_pool::{Pool, PoolCall, PoolReply};
 use route_plan::Plan;
-use shared_object::{Naming, Shared, Stepped};
+use shared_object::{Keeper, Naming, Shared, Stepped};
 use std::sync::Wait;
 use tlm_types::Content;
 use token_book::{Ticket, Tokens};
 
 // Makes a call of a pool, by what the note knows.
 #[inline(always)]
-pub(crate) fn step_pool<R: Wait, N: Naming<Plan, TlmLaw>>(
-    pool: &Shared<Pool, Plan, TlmLaw, N>,
+pub(crate) fn step_pool<R: Wait, N: Naming<Plan, TlmLaw>, L: Keeper<LockedPool<N>>>(
+    pool: &Shared<Pool, Plan, TlmLaw, N, L>,
     rt: &R,
     history: &History<Content, Plan, TlmLaw>,
     tickets: &Tokens,
@@ -62,8 +62,8 @@ pub(crate) fn step_pool<R: Wait, N: Naming<Plan, TlmLaw>>(
 
 // Makes a call of a hop, by what the note knows.
 #[inline(always)]
-pub(crate) fn step_hop<R: Wait, N: Naming<Plan, TlmLaw>>(
-    hop: &Shared<Hop<Cargo>, Plan, TlmLaw, N>,
+pub(crate) fn step_hop<R: Wait, N: Naming<Plan, TlmLaw>, L: Keeper<LockedHop<N>>>(
+    hop: &Shared<Hop<Cargo>, Plan, TlmLaw, N, L>,
     rt: &R,
     history: &History<Content, Plan, TlmLaw>,
     tickets: &Tokens,

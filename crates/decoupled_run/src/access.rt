@@ -12,7 +12,7 @@ use crate::send::send;
 use dmi_grants::{GrantTable, UseOf};
 use generic_payload::Payload;
 use initiator_run::{InitiatorRun, NextAccess};
-use plat_net::{Carried, Net, PlatNote, Reach, TlmLaw};
+use plat_net::{Carried, Net, PlatNote, Reach, Sharing, TlmLaw};
 use route_plan::Plan;
 use script_engine::{Transfer, TransferKind};
 use shared_object::Naming;
@@ -55,7 +55,7 @@ fn wants_grant(is_direct: bool, kind: TransferKind, payload: &Payload) -> bool
 // Makes the access or the debug read that is next by transport. No grant that is held covers it, or it isn't
 // plain.
 #[inline(always)]
-fn transport<N: Naming<Plan, TlmLaw>, B: Reach<N>, R: Wait>(
+fn transport<N: Naming<Plan, TlmLaw>, S: Sharing<N>, B: Reach<N, S>, R: Wait>(
     reach: &mut B,
     rt: &R,
     run: &InitiatorRun,
@@ -90,8 +90,8 @@ fn transport<N: Naming<Plan, TlmLaw>, B: Reach<N>, R: Wait>(
 
 // Makes the access that is next by the grant at this index, which covers it, or drops the grant, which is
 // stale.
-fn use_held<N: Naming<Plan, TlmLaw>, R: Wait>(
-    net: &Net<N>,
+fn use_held<N: Naming<Plan, TlmLaw>, S: Sharing<N>, R: Wait>(
+    net: &Net<N, S>,
     rt: &R,
     run: &InitiatorRun,
     next: &NextAccess,
@@ -112,7 +112,7 @@ fn use_held<N: Naming<Plan, TlmLaw>, R: Wait>(
 }
 
 // Makes the plain access that is next: by the first grant that covers it and isn't stale, or by transport.
-fn make_plain<N: Naming<Plan, TlmLaw>, B: Reach<N>, R: Wait>(
+fn make_plain<N: Naming<Plan, TlmLaw>, S: Sharing<N>, B: Reach<N, S>, R: Wait>(
     reach: &mut B,
     rt: &R,
     run: &InitiatorRun,
@@ -176,7 +176,7 @@ fn make_plain<N: Naming<Plan, TlmLaw>, B: Reach<N>, R: Wait>(
 /// asked for.
 // Where this is inlined, the fields of `next` stay in registers: nothing is handed its address.
 #[inline(always)]
-pub(crate) fn make_next<N: Naming<Plan, TlmLaw>, B: Reach<N>, R: Wait>(
+pub(crate) fn make_next<N: Naming<Plan, TlmLaw>, S: Sharing<N>, B: Reach<N, S>, R: Wait>(
     reach: &mut B,
     rt: &R,
     run: &InitiatorRun,
@@ -207,8 +207,8 @@ pub(crate) fn make_next<N: Naming<Plan, TlmLaw>, B: Reach<N>, R: Wait>(
 
 /// Asks for a grant right after an access that wants one.
 #[inline(always)]
-pub(crate) fn ask_after<N: Naming<Plan, TlmLaw>, R: Wait>(
-    net: &Net<N>,
+pub(crate) fn ask_after<N: Naming<Plan, TlmLaw>, S: Sharing<N>, R: Wait>(
+    net: &Net<N, S>,
     rt: &R,
     run: &InitiatorRun,
     next: &NextAccess,

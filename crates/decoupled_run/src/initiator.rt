@@ -13,7 +13,7 @@ use generic_payload::Payload;
 use initiator_run::{InitiatorRun, Move, NextAccess, NextInvalidation};
 use outside::Pace;
 use plat_build::Start;
-use plat_net::{Net, PlatNote, Reach, TlmLaw};
+use plat_net::{Net, PlatNote, Reach, Sharing, TlmLaw};
 use route_plan::Plan;
 use shared_object::Naming;
 use std::alloc::Global;
@@ -63,9 +63,9 @@ impl<N: Naming<Plan, TlmLaw>> Model for DecoupledInitiator<N> {
 
 impl<N: Naming<Plan, TlmLaw>> DecoupledInitiator<N> {
     /// The blocking or direct initiator with this number, with what it starts with. Its only error is want of memory.
-    pub fn begin(
+    pub fn begin<S: Sharing<N>>(
         alloc: Global,
-        net: &Net<N>,
+        net: &Net<N, S>,
         number: u32,
         start: Start,
     ) -> Result<DecoupledInitiator<N>, Memory>
@@ -141,7 +141,12 @@ impl<N: Naming<Plan, TlmLaw>> DecoupledInitiator<N> {
     /// One operation of its script, or one access of it with the grant that is asked for after it. An invalidation ends
     /// each grant that it overlaps, whoever holds it: an own one is found stale when it is to be used. The pace is
     /// told of an access or a debug read before it is made, while no lock is held.
-    pub fn go_on<B: Reach<N>, P: Pace, R: Wait>(&mut self, rt: &R, reach: &mut B, pace: &P)
+    pub fn go_on<S: Sharing<N>, B: Reach<N, S>, P: Pace, R: Wait>(
+        &mut self,
+        rt: &R,
+        reach: &mut B,
+        pace: &P,
+    )
         ensures number { self.new.engine.initiator ≡ self.old.engine.initiator }
         ensures once { StepsOnce self.old.engine self.new.engine }
     {
@@ -157,7 +162,12 @@ impl<N: Naming<Plan, TlmLaw>> DecoupledInitiator<N> {
 
     // Makes the access or debug read that is next, which has a route, and asks for a grant where it has the hint.
     #[inline(always)]
-    fn access<B: Reach<N>, R: Wait>(&mut self, rt: &R, reach: &mut B, next: &NextAccess)
+    fn access<S: Sharing<N>, B: Reach<N, S>, R: Wait>(
+        &mut self,
+        rt: &R,
+        reach: &mut B,
+        next: &NextAccess,
+    )
         requires { HasReached N.frame.world self.old next.now.transfer next.now.route }
         ensures number { self.new.engine.initiator ≡ self.old.engine.initiator }
         ensures once { StepsOnce self.old.engine self.new.engine }
@@ -193,7 +203,12 @@ impl<N: Naming<Plan, TlmLaw>> DecoupledInitiator<N> {
     }
 
     // Makes the invalidation that is next, which has a route.
-    fn invalidate<R: Wait>(&mut self, rt: &R, net: &Net<N>, next: &NextInvalidation)
+    fn invalidate<S: Sharing<N>, R: Wait>(
+        &mut self,
+        rt: &R,
+        net: &Net<N, S>,
+        next: &NextInvalidation,
+    )
         requires { HasToInvalidate N.frame.world self.old next.now }
         ensures number { self.new.engine.initiator ≡ self.old.engine.initiator }
         ensures once { StepsOnce self.old.engine self.new.engine }

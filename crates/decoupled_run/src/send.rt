@@ -10,7 +10,7 @@ ghost use Rattle.decoupled_run.specs.Sent.{IsSentBy};
 use blocking_path::{b_transport_along, transport_dbg};
 use generic_payload::Payload;
 use initiator_run::NextAccess;
-use plat_net::{Carried, PlatNote, Reach, TlmLaw};
+use plat_net::{Carried, PlatNote, Reach, Sharing, TlmLaw};
 use route_plan::Plan;
 use script_engine::TransferKind;
 use shared_object::Naming;
@@ -21,7 +21,7 @@ use token_book::Wallet;
 /// Makes the access or the debug read of a script that is issued at `at`, in picoseconds, and whose
 /// address has this route.
 #[inline(always)]
-pub(crate) fn send<N: Naming<Plan, TlmLaw>, B: Reach<N>, R: Wait>(
+pub(crate) fn send<N: Naming<Plan, TlmLaw>, S: Sharing<N>, B: Reach<N, S>, R: Wait>(
     reach: &mut B,
     rt: &R,
     who: u32,

@@ -22,7 +22,7 @@ use initiator_run::{InitiatorRun, NextAccess, NextInvalidation, Stop};
 use node_hops::OneStep;
 use outside::Pace;
 use plat_build::Start;
-use plat_net::{Net, PlatNote, TlmLaw};
+use plat_net::{Net, PlatNote, Sharing, TlmLaw};
 use route_plan::Plan;
 use shared_object::Naming;
 use std::alloc::Global;
@@ -85,7 +85,7 @@ fn grants_for(is_direct: bool) -> u32
 }
 
 // Whether the initiator with this number is a direct one.
-fn is_direct<N: Naming<Plan, TlmLaw>>(net: &Net<N>, number: u32) -> bool
+fn is_direct<N: Naming<Plan, TlmLaw>, S: Sharing<N>>(net: &Net<N, S>, number: u32) -> bool
     requires { number < length net.now.platform.initiators }
     ensures { result ≡ goes_direct net.now number }
 {
@@ -117,9 +117,9 @@ fn owed_after(wants: bool, next: &NextAccess, txn: TxnId, at: Ps) -> Owes
 }
 
 // Closes the next gate that an invalidation is to close itself. Says whether there was one.
-fn close_next<N: Naming<Plan, TlmLaw>, R: Wait>(
+fn close_next<N: Naming<Plan, TlmLaw>, S: Sharing<N>, R: Wait>(
     rt: &R,
-    net: &Net<N>,
+    net: &Net<N, S>,
     revocation: &Revocation,
     note: PlatNote,
     wallet: &mut Wallet,
@@ -145,9 +145,9 @@ fn close_next<N: Naming<Plan, TlmLaw>, R: Wait>(
 impl SteppedInitiator {
     /// The blocking or direct initiator with this number, with what it starts with, and its note. Its only error is want of
     /// memory.
-    pub fn begin<N: Naming<Plan, TlmLaw>>(
+    pub fn begin<N: Naming<Plan, TlmLaw>, S: Sharing<N>>(
         alloc: Global,
-        net: &Net<N>,
+        net: &Net<N, S>,
         number: u32,
         start: Start,
     ) -> Result<(SteppedInitiator, PlatNote), Memory>
@@ -206,10 +206,10 @@ impl SteppedInitiator {
     /// Its moves up to and with its next entry, as far as the rounds let it. An access with the grant that is asked for
     /// after it, and an invalidation with its closings, take a step for each entry. The pace is told of an access or a
     /// debug read before it is made, while no lock is held.
-    pub fn step<N: Naming<Plan, TlmLaw>, R: Wait, P: Pace>(
+    pub fn step<N: Naming<Plan, TlmLaw>, S: Sharing<N>, R: Wait, P: Pace>(
         &mut self,
         rt: &R,
-        net: &Net<N>,
+        net: &Net<N, S>,
         rounds: &mut Rounds,
         note: PlatNote,
         pace: &P,
@@ -250,10 +250,10 @@ impl SteppedInitiator {
     }
 
     // Does what it owes, up to and with an entry: says whether it made one.
-    fn settle<N: Naming<Plan, TlmLaw>, R: Wait>(
+    fn settle<N: Naming<Plan, TlmLaw>, S: Sharing<N>, R: Wait>(
         &mut self,
         rt: &R,
-        net: &Net<N>,
+        net: &Net<N, S>,
         note: PlatNote,
     ) -> (bool, PlatNote)
         requires { IsStepped N.table N.tokens N.frame self.old note }
@@ -272,10 +272,10 @@ impl SteppedInitiator {
     }
 
     // Asks for the grant that it wishes for.
-    fn ask<N: Naming<Plan, TlmLaw>, R: Wait>(
+    fn ask<N: Naming<Plan, TlmLaw>, S: Sharing<N>, R: Wait>(
         &mut self,
         rt: &R,
-        net: &Net<N>,
+        net: &Net<N, S>,
         command: Command,
         address: u64,
         txn: TxnId,
@@ -294,10 +294,10 @@ impl SteppedInitiator {
     }
 
     // Closes the next gate of an invalidation, or finds none left.
-    fn close<N: Naming<Plan, TlmLaw>, R: Wait>(
+    fn close<N: Naming<Plan, TlmLaw>, S: Sharing<N>, R: Wait>(
         &mut self,
         rt: &R,
-        net: &Net<N>,
+        net: &Net<N, S>,
         revocation: Revocation,
         note: PlatNote,
     ) -> (bool, PlatNote)
@@ -314,10 +314,10 @@ impl SteppedInitiator {
     }
 
     // Makes the access or debug read that is next, which has a route. Where it has the hint, a grant is to be asked for.
-    fn access<N: Naming<Plan, TlmLaw>, R: Wait>(
+    fn access<N: Naming<Plan, TlmLaw>, S: Sharing<N>, R: Wait>(
         &mut self,
         rt: &R,
-        net: &Net<N>,
+        net: &Net<N, S>,
         next: &NextAccess,
         note: PlatNote,
     ) -> PlatNote
@@ -354,10 +354,10 @@ impl SteppedInitiator {
     }
 
     // Tells the invalidation that is next, which has a route. Its closings are to be made.
-    fn tell<N: Naming<Plan, TlmLaw>, R: Wait>(
+    fn tell<N: Naming<Plan, TlmLaw>, S: Sharing<N>, R: Wait>(
         &mut self,
         rt: &R,
-        net: &Net<N>,
+        net: &Net<N, S>,
         next: &NextInvalidation,
         note: PlatNote,
     ) -> PlatNote

@@ -15,7 +15,7 @@ use crate::made::{Made, least_open, make_inside};
 use crate::table::{GrantTable, Held};
 use generic_payload::Payload;
 use one_history::Entered;
-use plat_net::{Net, PlatNote, TlmLaw};
+use plat_net::{Net, PlatNote, Sharing, TlmLaw};
 use region_object::{RegionCall, RegionReply, direct_accesses_are_ok, payload_cost};
 use route_plan::Plan;
 use shared_object::Naming;
@@ -44,9 +44,9 @@ impl GrantTable {
     /// Makes a direct access through the gate of the grant at this index, which covers the payload by
     /// address, length and kind (clause 11.2). The payload is plain, and a read has a buffer of zeros. The
     /// access takes the latency of the whole way; the time `at`, in picoseconds, is that of its entry.
-    pub fn use_grant<N: Naming<Plan, TlmLaw>, R: Wait>(
+    pub fn use_grant<N: Naming<Plan, TlmLaw>, S: Sharing<N>, R: Wait>(
         &mut self,
-        net: &Net<N>,
+        net: &Net<N, S>,
         rt: &R,
         which: u32,
         payload: Payload,
@@ -83,8 +83,8 @@ impl GrantTable {
 }
 
 // Makes the access of a note that is inside the grant's gate, and leaves the gate.
-fn go_direct<N: Naming<Plan, TlmLaw>, R: Wait>(
-    net: &Net<N>,
+fn go_direct<N: Naming<Plan, TlmLaw>, S: Sharing<N>, R: Wait>(
+    net: &Net<N, S>,
     rt: &R,
     held: Held,
     mut payload: Payload,
@@ -127,8 +127,8 @@ fn go_direct<N: Naming<Plan, TlmLaw>, R: Wait>(
 
 // A look at the memory's log, by a question that adds no entry, with a note to which a gate of it is void: it
 // comes back knowing the gate's grant and an overlapping invalidation after it.
-fn learn<N: Naming<Plan, TlmLaw>, R: Wait>(
-    net: &Net<N>,
+fn learn<N: Naming<Plan, TlmLaw>, S: Sharing<N>, R: Wait>(
+    net: &Net<N, S>,
     rt: &R,
     memory: u32,
     gate: u32,

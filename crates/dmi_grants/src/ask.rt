@@ -12,7 +12,7 @@ ghost use Rattle.dmi_grants.specs.Ranges.{AreAddressesOf, lifted_at};
 use crate::made::make_paid;
 use crate::range::{Lifted, addresses};
 use crate::table::{GrantTable, Held};
-use plat_net::{Net, PlatNote, TlmLaw};
+use plat_net::{Net, PlatNote, Sharing, TlmLaw};
 use region_object::{Denial, RegionCall, RegionReply};
 use route_plan::{Plan, Route};
 use shared_object::Naming;
@@ -88,9 +88,9 @@ impl GrantTable {
     /// hint. The address has a route to an offset below the memory's size, and the table has a free place for
     /// each gate of that memory that it doesn't hold. A ticket of the memory is needed unless all its gates
     /// are known to be given, and it is spent where a grant is given.
-    pub fn ask<N: Naming<Plan, TlmLaw>, R: Wait>(
+    pub fn ask<N: Naming<Plan, TlmLaw>, S: Sharing<N>, R: Wait>(
         &mut self,
-        net: &Net<N>,
+        net: &Net<N, S>,
         rt: &R,
         who: u32,
         command: Command,
@@ -134,9 +134,9 @@ impl GrantTable {
     }
 
     // Wishes at the end of the wish's route, where a ticket is left, and holds what is granted.
-    fn ask_at<N: Naming<Plan, TlmLaw>, R: Wait>(
+    fn ask_at<N: Naming<Plan, TlmLaw>, S: Sharing<N>, R: Wait>(
         &mut self,
-        net: &Net<N>,
+        net: &Net<N, S>,
         rt: &R,
         wish: Wish,
         route: Route,

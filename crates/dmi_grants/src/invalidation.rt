@@ -14,7 +14,7 @@ ghost use Rattle.dmi_grants.specs.Made.{HasSpent, IsRoomyFor, is_given_in, unclo
 ghost use Rattle.dmi_grants.specs.Revoking.{IsClosingEntry, IsEntryFor, IsRevocationEntry, IsRevoking, RevokesAll, RevokesMore, entries_by, one_if};
 
 use crate::made::{least_open, make_paid};
-use plat_net::{Net, PlatNote, TlmLaw};
+use plat_net::{Net, PlatNote, Sharing, TlmLaw};
 use region_object::RegionCall;
 use route_plan::Plan;
 use shared_object::Naming;
@@ -51,8 +51,8 @@ pub enum Ending {
 /// and closes it. When it returns, each of them has its closing, and the note knows it. It needs a ticket of
 /// the memory for its own entry, and where the memory grants direct access one for each of its gates that
 /// isn't known to be closed; those for closings that others have made stay in the wallet.
-pub fn invalidate<N: Naming<Plan, TlmLaw>, R: Wait>(
-    net: &Net<N>,
+pub fn invalidate<N: Naming<Plan, TlmLaw>, S: Sharing<N>, R: Wait>(
+    net: &Net<N, S>,
     rt: &R,
     memory: u32,
     first: u64,
@@ -95,8 +95,8 @@ pub fn invalidate<N: Naming<Plan, TlmLaw>, R: Wait>(
 
 /// Begins an invalidation, as `invalidate` makes it: it tells so, in one entry. After it the grants are to be ended one by one,
 /// until none is left. It needs a ticket of the memory.
-pub fn begin_invalidation<N: Naming<Plan, TlmLaw>, R: Wait>(
-    net: &Net<N>,
+pub fn begin_invalidation<N: Naming<Plan, TlmLaw>, S: Sharing<N>, R: Wait>(
+    net: &Net<N, S>,
     rt: &R,
     memory: u32,
     first: u64,
@@ -158,8 +158,8 @@ pub fn begin_invalidation<N: Naming<Plan, TlmLaw>, R: Wait>(
 /// inside, and closes it, in one entry, unless somebody else has closed it meanwhile. Where there is none, the invalidation has
 /// returned, and the note knows the closing of each such grant. Others may have made entries since the last one was ended. It
 /// needs a ticket of the memory for each of its gates that isn't known to be closed.
-pub fn end_next_grant<N: Naming<Plan, TlmLaw>, R: Wait>(
-    net: &Net<N>,
+pub fn end_next_grant<N: Naming<Plan, TlmLaw>, S: Sharing<N>, R: Wait>(
+    net: &Net<N, S>,
     rt: &R,
     revocation: &Revocation,
     note: PlatNote,
@@ -226,8 +226,8 @@ fn ended_by(own: bool) -> Ending
 
 // Ends the grant of a gate: marks it, waits until nobody is inside, and closes it, unless somebody else
 // has closed it meanwhile. Says whether it did.
-fn end<N: Naming<Plan, TlmLaw>, R: Wait>(
-    net: &Net<N>,
+fn end<N: Naming<Plan, TlmLaw>, S: Sharing<N>, R: Wait>(
+    net: &Net<N, S>,
     rt: &R,
     memory: u32,
     gate: u32,

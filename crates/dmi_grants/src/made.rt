@@ -8,7 +8,7 @@ ghost use Rattle.region_object.specs.declared.call.RegionCall.TheVariants.{Overl
 ghost use Rattle.region_object.specs.declared.call.RegionReply.TheVariants.{Overlapping as OverlappingReply};
 ghost use Rattle.dmi_grants.specs.Made.{HasGot, HasSpent, IsMade, IsPlainTicket, IsRoomyFor, MayMake, MayMakeInside, added, count_of, is_question};
 
-use plat_net::{Net, PlatNote, TlmLaw};
+use plat_net::{Net, PlatNote, Sharing, TlmLaw};
 use region_object::{RegionCall, RegionReply};
 use route_plan::Plan;
 use shared_object::{Naming, Stepped};
@@ -25,8 +25,8 @@ pub(crate) struct Made {
 }
 
 /// Makes a call at the memory with this number, with a note that is inside no gate.
-pub(crate) fn make<N: Naming<Plan, TlmLaw>, R: Wait>(
-    net: &Net<N>,
+pub(crate) fn make<N: Naming<Plan, TlmLaw>, S: Sharing<N>, R: Wait>(
+    net: &Net<N, S>,
     rt: &R,
     memory: u32,
     note: PlatNote,
@@ -59,8 +59,8 @@ pub(crate) fn make<N: Naming<Plan, TlmLaw>, R: Wait>(
 }
 
 /// Makes a direct access at the memory with this number, with a note that is inside the gate, and leaves it.
-pub(crate) fn make_inside<N: Naming<Plan, TlmLaw>, R: Wait>(
-    net: &Net<N>,
+pub(crate) fn make_inside<N: Naming<Plan, TlmLaw>, S: Sharing<N>, R: Wait>(
+    net: &Net<N, S>,
     rt: &R,
     memory: u32,
     gate: u32,
@@ -93,7 +93,11 @@ pub(crate) fn make_inside<N: Naming<Plan, TlmLaw>, R: Wait>(
 }
 
 // Takes a ticket of the memory, for an entry without bytes, out of the wallet.
-fn take<N: Naming<Plan, TlmLaw>>(net: &Net<N>, wallet: &mut Wallet, memory: u32) -> Ticket
+fn take<N: Naming<Plan, TlmLaw>, S: Sharing<N>>(
+    net: &Net<N, S>,
+    wallet: &mut Wallet,
+    memory: u32,
+) -> Ticket
     requires of { IsOf N.tokens wallet.old }
     requires room { IsRoomyFor memory wallet.old }
     requires left { 0 < left_of wallet.old memory }
@@ -107,8 +111,8 @@ fn take<N: Naming<Plan, TlmLaw>>(net: &Net<N>, wallet: &mut Wallet, memory: u32)
 }
 
 // Puts a ticket that comes back into the wallet that it was taken from.
-fn put_back<N: Naming<Plan, TlmLaw>>(
-    net: &Net<N>,
+fn put_back<N: Naming<Plan, TlmLaw>, S: Sharing<N>>(
+    net: &Net<N, S>,
     wallet: &mut Wallet,
     memory: u32,
     ticket: Option<Ticket>,
@@ -129,8 +133,8 @@ fn put_back<N: Naming<Plan, TlmLaw>>(
 
 /// Makes a call at the memory with this number, which may add an entry without bytes. A ticket of the
 /// memory is spent where it does.
-pub(crate) fn make_paid<N: Naming<Plan, TlmLaw>, R: Wait>(
-    net: &Net<N>,
+pub(crate) fn make_paid<N: Naming<Plan, TlmLaw>, S: Sharing<N>, R: Wait>(
+    net: &Net<N, S>,
     rt: &R,
     memory: u32,
     note: PlatNote,
@@ -163,8 +167,8 @@ pub(crate) fn make_paid<N: Naming<Plan, TlmLaw>, R: Wait>(
 
 /// Asks the memory for the least gate whose grant overlaps the range, was given before this position, and
 /// isn't closed. The note comes back knowing all that was written there.
-pub(crate) fn least_open<N: Naming<Plan, TlmLaw>, R: Wait>(
-    net: &Net<N>,
+pub(crate) fn least_open<N: Naming<Plan, TlmLaw>, S: Sharing<N>, R: Wait>(
+    net: &Net<N, S>,
     rt: &R,
     memory: u32,
     first: u64,

@@ -1,5 +1,5 @@
 -- What a log keeps beside the entries that it forgot.
-use Rattle.std.proofs.Common.{◌≡◌, ℕ, ◌+◌, ◌^◌, ◌<◌, true, eqb, eqb-true, List, [], ◌∷◌, ◌++◌, length, length-append, All, ap, sym, refl, ◌∙◌, arith}
+use Rattle.std.proofs.Common.{◌≡◌, ℕ, ◌+◌, ◌^◌, ◌<◌, true, List, [], ◌∷◌, ◌++◌, length, length-append, All, ap, sym, refl, ◌∙◌, arith}
 use Rattle.std.proofs.lemmas.List.{length-map}
 use Rattle.std.proofs.lemmas.List.Elements.{All-append}
 use Rattle.tlm_types.specs.declared.entry.Entry.{Entry}
@@ -16,13 +16,13 @@ none_before (e ∷ past) stored none = absurd (cc)
 
 -- the fields of a log are seen as this log
 abbrev IsSeen : Inside → LogView → Type 0
-IsSeen s log = record { entries = s.past.entries ++ entries_of s.bytes.items s.items.items; room = s.items.room; room_bytes = s.room_bytes; whole = eqb s.forgotten 0 } ≡ log
+IsSeen s log = record { entries = s.past.entries ++ entries_of s.bytes.items s.items.items; room = s.items.room; room_bytes = s.room_bytes; whole = s.keeps } ≡ log
 
 -- a log that is whole forgot no entry, so its entries are those in store
-pub forgot_whole : (s : Inside) (log : LogView) → IsPast s.past.entries s.forgotten → IsSeen s log → log.whole ≡ true → length s.past.entries ≡ 0
-forgot_whole s log past seen whole = sym past.count ∙ eqb-true s.forgotten 0 (ap (λ (l : LogView). l.whole) seen ∙ whole)
+pub forgot_whole : (s : Inside) (log : LogView) → IsPast s.keeps s.past.entries s.forgotten → IsSeen s log → log.whole ≡ true → length s.past.entries ≡ 0
+forgot_whole s log past seen whole = sym past.count ∙ past.none (ap (λ (l : LogView). l.whole) seen ∙ whole)
 
-pub stored_whole : (s : Inside) (log : LogView) → IsPast s.past.entries s.forgotten → IsSeen s log → log.whole ≡ true → entries_of s.bytes.items s.items.items ≡ log.entries
+pub stored_whole : (s : Inside) (log : LogView) → IsPast s.keeps s.past.entries s.forgotten → IsSeen s log → log.whole ≡ true → entries_of s.bytes.items s.items.items ≡ log.entries
 stored_whole s log past seen whole = sym (none_before s.past.entries (entries_of s.bytes.items s.items.items) (forgot_whole s log past seen whole)) ∙ ap (λ (l : LogView). l.entries) seen
 
 -- the entries that a log forgot and those in store have times that there are

@@ -1,5 +1,5 @@
 -- The bytes of a log's accesses, and what it keeps beside the entries that it forgot.
-use Rattle.std.specs.Prelude.{◌≡◌, ◌≢◌, ℕ, Option, Some, None, option_map, slice_get, ◌+◌, ◌^◌, ◌<◌, ◌≤◌, List, All, length, slice_range}
+use Rattle.std.specs.Prelude.{◌≡◌, ◌≢◌, ℕ, Bool, true, Option, Some, None, option_map, slice_get, ◌+◌, ◌^◌, ◌<◌, ◌≤◌, List, All, length, slice_range}
 use Rattle.tlm_types.specs.declared.entry.Entry.{Entry}
 use Rattle.tlm_types.specs.declared.words.Command.TheVariants.{Read}
 use Rattle.tlm_types.specs.Entries.{enables_of, facts_of, got_of, head_of, read_at, read_sends, sent_of}
@@ -7,15 +7,16 @@ use Rattle.entry_log.specs.declared.log.LoggedAccess.{LoggedAccess}
 use Rattle.log_items.specs.declared.long.Span.{Span}
 use Rattle.log_items.specs.Items.{FullItem, IsWithin}
 
--- what a log forgot are so many entries, each with one of the times that there are
-pub record IsPast (past : List Entry) (forgotten : ℕ) : Type 0 where
+-- what a log forgot are so many entries, each with one of the times that there are; as long as it keeps its entries there are none
+pub record IsPast (keeps : Bool) (past : List Entry) (forgotten : ℕ) : Type 0 where
+  pub none : keeps ≡ true → forgotten ≡ 0
   pub count : forgotten ≡ length past
   pub timed : All (λ (e : Entry). e.time < 2 ^ 64) past
   pub few : forgotten < 2 ^ 63
 
 -- a log of these items and bytes, with room for so many bytes more, which forgot these entries
-pub record IsStored (past : List Entry) (forgotten : ℕ) (items : List FullItem) (bytes : List ℕ) (room_bytes capacity : ℕ) : Type 0 where
-  pub before : IsPast past forgotten
+pub record IsStored (keeps : Bool) (past : List Entry) (forgotten : ℕ) (items : List FullItem) (bytes : List ℕ) (room_bytes capacity : ℕ) : Type 0 where
+  pub before : IsPast keeps past forgotten
   pub timed : All (λ (i : FullItem). i.item.time < 2 ^ 64) items
   pub kept : All (IsWithin bytes) items
   pub roomy : length bytes + room_bytes ≤ capacity

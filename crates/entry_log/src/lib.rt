@@ -4,8 +4,7 @@
 //!   and most entries take 32 bytes more; those with large numbers, byte enables or a status other than OK stand in a
 //!   second list, in a long form. A log with room for 64 KiB of bytes keeps equal bytes of large accesses once, where it
 //!   finds them.
-//!   A log can forget the entries that it has in store, while it grows. From then on they are known in contracts alone;
-//!   what isn't in store can't be read.
+//!   A log can forget its entries, and all that come after them: they are known in contracts alone, and can't be read.
 //! - `LoggedAccess` is an access that was read from it: its head, its plain parts, and the bytes that it sent, enabled
 //!   and got.
 //!

@@ -38,6 +38,8 @@ pub struct Log {
     room_bytes: u64,
     past: Past,
     forgotten: u64,
+    // What is pushed stays in store.
+    keeps: bool,
 }
 
 // Written out, so that crates above call it and needn't prove again how each part is let go of.
@@ -50,12 +52,13 @@ impl Drop for Log {
             room_bytes: _,
             past: _past,
             forgotten: _,
+            keeps: _,
         } = self;
     }
 }
 
 impl Model for Log {
-    ghost use Rattle.std.specs.Prelude.{◌++◌, eqb, vec_capacity};
+    ghost use Rattle.std.specs.Prelude.{◌++◌, vec_capacity};
     ghost use Rattle.entry_log.specs.Log.{LogView};
     ghost use Rattle.entry_log.specs.LogBytes.{IsStored};
     ghost use Rattle.log_items.specs.Items.{entries_of};
@@ -66,10 +69,10 @@ impl Model for Log {
       entries = l.past.entries ++ entries_of l.bytes.items l.items.items;
       room = l.items.room;
       room_bytes = l.room_bytes;
-      whole = eqb l.forgotten 0;
+      whole = l.keeps;
     } };
 
-    ghost invariant = { λ l. IsStored l.past.entries l.forgotten l.items.items l.bytes.items l.room_bytes (vec_capacity l.bytes) };
+    ghost invariant = { λ l. IsStored l.keeps l.past.entries l.forgotten l.items.items l.bytes.items l.room_bytes (vec_capacity l.bytes) };
 }
 
 impl Log {
@@ -91,6 +94,7 @@ impl Log {
             room_bytes: bytes,
             past: Past::none(),
             forgotten: 0,
+            keeps: true,
         })
     }
 
@@ -127,7 +131,7 @@ impl Log {
     pub fn is_whole(&self) -> bool
         ensures { result ≡ self.now.whole }
     {
-        self.forgotten == 0
+        self.keeps
     }
 
     /// Appends an entry that isn't an access. It is `Ok` where there is room for it. Its only error is
@@ -139,7 +143,9 @@ impl Log {
         ensures err { OnErr result (self.new ≡ self.old) }
         ensures roomy { length self.old.entries < self.old.room → IsOk result }
     {
-        self.items.push_event(head, plain_event(what))
+        self.items.push_event(head, plain_event(what))?;
+        self.settle();
+        Ok(())
     }
 
     /// Appends the entry of a call at a hop, as `push` does.
@@ -149,7 +155,9 @@ impl Log {
         ensures err { OnErr result (self.new ≡ self.old) }
         ensures roomy { length self.old.entries < self.old.room → IsOk result }
     {
-        self.items.push_call(head, phase, answer)
+        self.items.push_call(head, phase, answer)?;
+        self.settle();
+        Ok(())
     }
 
     /// Appends the entry of an access, with the bytes that it sent, its byte enables, and a read's
@@ -176,13 +184,16 @@ impl Log {
             return self.push_large(copied_head(&head), copied_facts(&facts), sent, enables, got);
         }
         if facts.length <= WORD as u64 && self.push_word(head, facts, sent, enables, got)? {
+            self.settle();
             return Ok(());
         }
-        self.push_new(head, facts, sent, enables, got)
+        self.push_new(head, facts, sent, enables, got)?;
+        self.settle();
+        Ok(())
     }
 
     // Appends a large access. Where its bytes stand already it refers to those: to write to memory for the
-    // first time takes as long as all the rest.
+    // first time takes as long as all the rest. A log that keeps nothing writes to the same memory again.
     #[inline(never)]
     fn push_large(
         &mut self,
@@ -199,6 +210,11 @@ impl Log {
         ensures roomy { length self.old.entries < self.old.room →
             length sent.now + length enables.now + length got.now ≤ self.old.room_bytes → IsOk result }
     {
+        if !self.keeps {
+            self.push_new(head, facts, sent, enables, got)?;
+            self.forget();
+            return Ok(());
+        }
         let place = place_of(facts.offset, sent, enables, got);
         if self.push_again(place, head, facts, sent, enables, got)? {
             return Ok(());

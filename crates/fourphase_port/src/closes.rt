@@ -11,7 +11,7 @@ ghost use Rattle.fourphase_port.specs.Closing.{IsClosing, IsToTell};
 
 use cargo_net::TlmLaw;
 use dmi_grants::{Ending, Revocation, begin_invalidation, end_next_grant};
-use plat_net::{Net, PlatNote};
+use plat_net::{Net, PlatNote, Sharing};
 use port_moves::PortState;
 use route_plan::{Plan, Route};
 use script_engine::Part;
@@ -35,7 +35,10 @@ fn is_idle(state: &PortState) -> bool
 
 /// The invalidation that is to be told now, if one is: it is next and has a route, and the port works on nothing and waits
 /// for nothing.
-pub(crate) fn to_tell<N: Naming<Plan, TlmLaw>>(state: &PortState, net: &Net<N>) -> Option<Told>
+pub(crate) fn to_tell<N: Naming<Plan, TlmLaw>, S: Sharing<N>>(
+    state: &PortState,
+    net: &Net<N, S>,
+) -> Option<Told>
     requires { state.now.port.engine.initiator < length N.frame.world.platform.initiators }
     ensures { IfSome result (IsToTell N.frame.world state.now) }
 {
@@ -61,10 +64,10 @@ pub(crate) fn to_tell<N: Naming<Plan, TlmLaw>>(state: &PortState, net: &Net<N>) 
 }
 
 /// Settles the time and tells the invalidation, in one entry (IEEE 1666-2011, clause 11.2.6).
-pub(crate) fn tell<N: Naming<Plan, TlmLaw>, R: Wait>(
+pub(crate) fn tell<N: Naming<Plan, TlmLaw>, S: Sharing<N>, R: Wait>(
     state: &mut PortState,
     rt: &R,
-    net: &Net<N>,
+    net: &Net<N, S>,
     note: PlatNote,
     told: Told,
 ) -> (Revocation, PlatNote)
@@ -98,10 +101,10 @@ pub(crate) fn tell<N: Naming<Plan, TlmLaw>, R: Wait>(
 
 /// Ends the next grant of an invalidation that was told, in one entry where nobody else has. Where none is left, it has
 /// returned, and the port goes on in its script.
-pub(crate) fn end_next<N: Naming<Plan, TlmLaw>, R: Wait>(
+pub(crate) fn end_next<N: Naming<Plan, TlmLaw>, S: Sharing<N>, R: Wait>(
     state: &mut PortState,
     rt: &R,
-    net: &Net<N>,
+    net: &Net<N, S>,
     note: PlatNote,
     revocation: &Revocation,
 ) -> (Ending, PlatNote)

@@ -8,7 +8,7 @@ ghost use Rattle.port_moves.specs.declared.hand.Pumped.TheVariants as Pumps;
 
 use crate::onwards::go_on;
 use cargo_net::TlmLaw;
-use plat_net::{Net, PlatNote};
+use plat_net::{Net, PlatNote, Sharing};
 use port_moves::{Hand, Moved, PortState, Pumped};
 use route_plan::Plan;
 use shared_object::Naming;
@@ -17,10 +17,10 @@ use std::sync::Wait;
 /// The next move: what it works on goes on; else it looks for a response, once in a pump; else it goes on
 /// in its script.
 #[inline(always)]
-pub(crate) fn advance<N: Naming<Plan, TlmLaw>, R: Wait>(
+pub(crate) fn advance<N: Naming<Plan, TlmLaw>, S: Sharing<N>, R: Wait>(
     state: &mut PortState,
     rt: &R,
-    net: &Net<N>,
+    net: &Net<N, S>,
     note: PlatNote,
     fetched: bool,
 ) -> (Moved, PlatNote)
@@ -48,10 +48,10 @@ pub(crate) fn advance<N: Naming<Plan, TlmLaw>, R: Wait>(
 }
 
 /// Moves up to the one that ends the pump, and what it came to. The note is handed from move to move.
-pub(crate) fn pump<N: Naming<Plan, TlmLaw>, R: Wait>(
+pub(crate) fn pump<N: Naming<Plan, TlmLaw>, S: Sharing<N>, R: Wait>(
     state: &mut PortState,
     rt: &R,
-    net: &Net<N>,
+    net: &Net<N, S>,
     note: PlatNote,
 ) -> (Pumped, PlatNote)
     requires port { IsPort N.table N.tokens N.frame (with_note state.old note) }

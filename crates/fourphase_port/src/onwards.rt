@@ -17,7 +17,7 @@ ghost use Rattle.port_moves.specs.State.{IsPort, with_note};
 use crate::revokes::invalidate;
 use crate::takes::take;
 use cargo_net::TlmLaw;
-use plat_net::{Carried, Net, PlatNote};
+use plat_net::{Carried, Net, PlatNote, Sharing};
 use port_moves::{Moved, PortState, Pumped};
 use route_plan::Plan;
 use script_engine::{Part, Transfer, TransferKind};
@@ -40,7 +40,10 @@ fn plain_access(part: Part) -> Option<Transfer>
 }
 
 // Whether a pump may find something to do, by what the net tells of the first hop and of the pool.
-pub(crate) fn may_move<N: Naming<Plan, TlmLaw>>(state: &PortState, net: &Net<N>) -> bool {
+pub(crate) fn may_move<N: Naming<Plan, TlmLaw>, S: Sharing<N>>(
+    state: &PortState,
+    net: &Net<N, S>,
+) -> bool {
     let initiator = state.initiator();
     if net.may_have_response(initiator) {
         return true;
@@ -57,10 +60,10 @@ pub(crate) fn may_move<N: Naming<Plan, TlmLaw>>(state: &PortState, net: &Net<N>)
 /// What comes once no response waits: a request that was refused is tried again; else the next plain
 /// access is taken; else, once nothing is outstanding, the current time is settled, and what is next is
 /// done.
-pub(crate) fn go_on<N: Naming<Plan, TlmLaw>, R: Wait>(
+pub(crate) fn go_on<N: Naming<Plan, TlmLaw>, S: Sharing<N>, R: Wait>(
     state: &mut PortState,
     rt: &R,
-    net: &Net<N>,
+    net: &Net<N, S>,
     note: PlatNote,
 ) -> (Moved, PlatNote)
     requires port { IsPort N.table N.tokens N.frame (with_note state.old note) }
@@ -84,10 +87,10 @@ pub(crate) fn go_on<N: Naming<Plan, TlmLaw>, R: Wait>(
 }
 
 // What is next but a plain access, where nothing is outstanding.
-fn do_next<N: Naming<Plan, TlmLaw>, R: Wait>(
+fn do_next<N: Naming<Plan, TlmLaw>, S: Sharing<N>, R: Wait>(
     state: &mut PortState,
     rt: &R,
-    net: &Net<N>,
+    net: &Net<N, S>,
     note: PlatNote,
     part: Part,
 ) -> (Moved, PlatNote)
@@ -124,10 +127,10 @@ fn do_next<N: Naming<Plan, TlmLaw>, R: Wait>(
 }
 
 // A transfer before which all has come back.
-fn do_alone<N: Naming<Plan, TlmLaw>, R: Wait>(
+fn do_alone<N: Naming<Plan, TlmLaw>, S: Sharing<N>, R: Wait>(
     state: &mut PortState,
     rt: &R,
-    net: &Net<N>,
+    net: &Net<N, S>,
     note: PlatNote,
     transfer: Transfer,
 ) -> (Moved, PlatNote)
@@ -149,10 +152,10 @@ fn do_alone<N: Naming<Plan, TlmLaw>, R: Wait>(
 
 // Makes the debug read that is next, at the current time, and goes on after it (IEEE 1666-2011, clause
 // 11.3). Without a route it is noted as refused, and makes no entry.
-fn read<N: Naming<Plan, TlmLaw>, R: Wait>(
+fn read<N: Naming<Plan, TlmLaw>, S: Sharing<N>, R: Wait>(
     state: &mut PortState,
     rt: &R,
-    net: &Net<N>,
+    net: &Net<N, S>,
     note: PlatNote,
     transfer: Transfer,
 ) -> (Moved, PlatNote)
@@ -184,10 +187,10 @@ fn read<N: Naming<Plan, TlmLaw>, R: Wait>(
 }
 
 // The script has ended and nothing is outstanding: the port has finished once no slot of its pool is live.
-fn finish<N: Naming<Plan, TlmLaw>, R: Wait>(
+fn finish<N: Naming<Plan, TlmLaw>, S: Sharing<N>, R: Wait>(
     state: &mut PortState,
     rt: &R,
-    net: &Net<N>,
+    net: &Net<N, S>,
     note: PlatNote,
 ) -> (Moved, PlatNote)
     requires port { IsPort N.table N.tokens N.frame (with_note state.old note) }

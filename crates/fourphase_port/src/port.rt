@@ -14,7 +14,7 @@ use crate::moves::pump;
 use crate::onwards::may_move;
 use cargo_net::TlmLaw;
 use generic_payload::Payload;
-use plat_net::{Net, PlatNote};
+use plat_net::{Net, PlatNote, Sharing};
 use port_moves::{PortState, Pumped};
 use route_plan::Plan;
 use script_engine::{Engine, Part};
@@ -60,7 +60,10 @@ impl<N: Naming<Plan, TlmLaw>> Drop for Port<N> {
 }
 
 // Room for all that a script may have outstanding or refused.
-pub(crate) fn room_for<N: Naming<Plan, TlmLaw>>(net: &Net<N>, initiator: u32) -> u32
+pub(crate) fn room_for<N: Naming<Plan, TlmLaw>, S: Sharing<N>>(
+    net: &Net<N, S>,
+    initiator: u32,
+) -> u32
     requires { initiator < length N.frame.world.platform.initiators }
     ensures { (i : Initiator) → slice_get (initiators_of N.frame.world) initiator ≡ Some i → count_of i ≤ result }
 {
@@ -70,9 +73,9 @@ pub(crate) fn room_for<N: Naming<Plan, TlmLaw>>(net: &Net<N>, initiator: u32) ->
 impl<N: Naming<Plan, TlmLaw>> Port<N> {
     /// A port with its whole script before it. It makes the room for all that may be outstanding or refused,
     /// and takes no memory afterwards. Its only error is want of memory, by which what was handed in is spent.
-    pub fn new(
+    pub fn new<S: Sharing<N>>(
         alloc: Global,
-        net: &Net<N>,
+        net: &Net<N, S>,
         engine: Engine,
         payload: Payload,
         note: PlatNote,
@@ -104,7 +107,7 @@ impl<N: Naming<Plan, TlmLaw>> Port<N> {
     }
 
     /// Whether a pump may find something to do, by what the net tells. No clause speaks of it.
-    pub fn may_move(&self, net: &Net<N>) -> bool {
+    pub fn may_move<S: Sharing<N>>(&self, net: &Net<N, S>) -> bool {
         may_move(&self.state, net)
     }
 
@@ -112,7 +115,7 @@ impl<N: Naming<Plan, TlmLaw>> Port<N> {
     /// refused is tried again; else the next operation is begun or done, where nothing has to be waited for. It
     /// takes no memory. `Finished` comes once the script has ended, nothing is outstanding and no slot of the
     /// pool is live. The port stays that of its initiator.
-    pub fn pump<R: Wait>(&mut self, rt: &R, net: &Net<N>) -> Pumped
+    pub fn pump<S: Sharing<N>, R: Wait>(&mut self, rt: &R, net: &Net<N, S>) -> Pumped
         ensures pumped { IsPumped N.frame self.old self.new result }
         ensures finished { result ≡ Pumps.Finished → HasFinished self.new.state }
         ensures rest { IsAtRest N.table N.tokens N.frame self.new }

@@ -16,7 +16,7 @@ ghost use Rattle.fourphase_port.specs.Revoking.{HasRevoked, MayRevoke, Revokes};
 ghost use Rattle.port_moves.specs.State.{IsPort, with_note};
 
 use cargo_net::TlmLaw;
-use plat_net::{Net, PlatNote};
+use plat_net::{Net, PlatNote, Sharing};
 use port_moves::{Moved, PortState, Pumped};
 use route_plan::{Plan, Route};
 use shared_object::Naming;
@@ -24,10 +24,10 @@ use std::sync::Wait;
 use tlm_types::TxnId;
 
 // The call of an invalidation of so many bytes from where a route leads, at the current time, with tickets of its wallet.
-fn tell<N: Naming<Plan, TlmLaw>, R: Wait>(
+fn tell<N: Naming<Plan, TlmLaw>, S: Sharing<N>, R: Wait>(
     state: &mut PortState,
     rt: &R,
-    net: &Net<N>,
+    net: &Net<N, S>,
     route: Route,
     count: u64,
     note: PlatNote,
@@ -63,10 +63,10 @@ fn tell<N: Naming<Plan, TlmLaw>, R: Wait>(
 }
 
 // Where its address has a route. It answers whether it has: else nothing was done.
-fn revoke<N: Naming<Plan, TlmLaw>, R: Wait>(
+fn revoke<N: Naming<Plan, TlmLaw>, S: Sharing<N>, R: Wait>(
     state: &mut PortState,
     rt: &R,
-    net: &Net<N>,
+    net: &Net<N, S>,
     who: u32,
     address: u64,
     count: u64,
@@ -91,10 +91,10 @@ fn revoke<N: Naming<Plan, TlmLaw>, R: Wait>(
 
 // Makes the invalidation that is next, at the current time, and goes on after it (IEEE 1666-2011, clause
 // 11.2.6). It ends with all entries of it made. Without a route there are none.
-pub(crate) fn invalidate<N: Naming<Plan, TlmLaw>, R: Wait>(
+pub(crate) fn invalidate<N: Naming<Plan, TlmLaw>, S: Sharing<N>, R: Wait>(
     state: &mut PortState,
     rt: &R,
-    net: &Net<N>,
+    net: &Net<N, S>,
     note: PlatNote,
     seq: u64,
     address: u64,

@@ -25,7 +25,7 @@ use cargo_net::TlmLaw;
 use dmi_grants::{Ending, Revocation};
 use generic_payload::Payload;
 use node_hops::OneStep;
-use plat_net::{Net, PlatNote};
+use plat_net::{Net, PlatNote, Sharing};
 use port_moves::{Moved, PortState, Pumped};
 use route_plan::Plan;
 use script_engine::Engine;
@@ -79,9 +79,9 @@ fn comes_to(moved: Moved) -> Option<OneStep>
 impl SteppedPort {
     /// A port with its whole script before it. It makes the room for all that may be outstanding or refused,
     /// and takes no memory afterwards. Its only error is want of memory, by which what was handed in is spent.
-    pub fn new<N: Naming<Plan, TlmLaw>>(
+    pub fn new<N: Naming<Plan, TlmLaw>, S: Sharing<N>>(
         alloc: Global,
-        net: &Net<N>,
+        net: &Net<N, S>,
         engine: Engine,
         payload: Payload,
         wallet: Wallet,
@@ -110,10 +110,10 @@ impl SteppedPort {
     /// Its next entry. It makes the moves that make none, up to the one with the entry. It waits once a pump finds nothing
     /// that it can do, and has finished once its script has ended, nothing is outstanding and no slot of its pool is live.
     /// An invalidation is told by one step, and each grant that it ends is closed by one of the next. It takes no memory.
-    pub fn step<N: Naming<Plan, TlmLaw>, R: Wait>(
+    pub fn step<N: Naming<Plan, TlmLaw>, S: Sharing<N>, R: Wait>(
         &mut self,
         rt: &R,
-        net: &Net<N>,
+        net: &Net<N, S>,
         note: PlatNote,
     ) -> (OneStep, PlatNote)
         requires port { IsSteppedPort N.table N.tokens N.frame self.old note }
@@ -139,10 +139,10 @@ impl SteppedPort {
     }
 
     // The next move of a step, which makes one entry at most. `fetched` says that its pump has looked for a response.
-    fn go_on<N: Naming<Plan, TlmLaw>, R: Wait>(
+    fn go_on<N: Naming<Plan, TlmLaw>, S: Sharing<N>, R: Wait>(
         &mut self,
         rt: &R,
-        net: &Net<N>,
+        net: &Net<N, S>,
         note: PlatNote,
         fetched: bool,
     ) -> (Moved, PlatNote)
@@ -160,10 +160,10 @@ impl SteppedPort {
     }
 
     // Ends the next grant of the invalidation that it has told.
-    fn close<N: Naming<Plan, TlmLaw>, R: Wait>(
+    fn close<N: Naming<Plan, TlmLaw>, S: Sharing<N>, R: Wait>(
         &mut self,
         rt: &R,
-        net: &Net<N>,
+        net: &Net<N, S>,
         note: PlatNote,
         revocation: Revocation,
     ) -> (Moved, PlatNote)
@@ -184,10 +184,10 @@ impl SteppedPort {
     }
 
     // A move of a port, or the entry by which it tells the invalidation that is next.
-    fn move_on<N: Naming<Plan, TlmLaw>, R: Wait>(
+    fn move_on<N: Naming<Plan, TlmLaw>, S: Sharing<N>, R: Wait>(
         &mut self,
         rt: &R,
-        net: &Net<N>,
+        net: &Net<N, S>,
         note: PlatNote,
         fetched: bool,
     ) -> (Moved, PlatNote)
@@ -208,10 +208,10 @@ impl SteppedPort {
     }
 
     // Tells the invalidation that is next, in one entry.
-    fn tell<N: Naming<Plan, TlmLaw>, R: Wait>(
+    fn tell<N: Naming<Plan, TlmLaw>, S: Sharing<N>, R: Wait>(
         &mut self,
         rt: &R,
-        net: &Net<N>,
+        net: &Net<N, S>,
         note: PlatNote,
         told: Told,
     ) -> PlatNote

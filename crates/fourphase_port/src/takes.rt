@@ -11,7 +11,7 @@ ghost use Rattle.port_moves.specs.Moved.{ends, made};
 ghost use Rattle.port_moves.specs.State.{IsPort, with_note};
 
 use cargo_net::{Taken, TlmLaw};
-use plat_net::{Net, PlatNote};
+use plat_net::{Net, PlatNote, Sharing};
 use port_moves::{Moved, PortState, Pumped, pool_place};
 use route_plan::Plan;
 use script_engine::Transfer;
@@ -22,10 +22,10 @@ use tlm_types::TxnId;
 /// Takes a payload for the access that is next, at the current time, and fills it (IEEE 1666-2011, clause
 /// 14.5). It is outstanding from then on. Where all slots of the pool are live, nothing changes but the
 /// note, and the pump ends with `Nothing`.
-pub(crate) fn take<N: Naming<Plan, TlmLaw>, R: Wait>(
+pub(crate) fn take<N: Naming<Plan, TlmLaw>, S: Sharing<N>, R: Wait>(
     state: &mut PortState,
     rt: &R,
-    net: &Net<N>,
+    net: &Net<N, S>,
     note: PlatNote,
     transfer: Transfer,
 ) -> (Moved, PlatNote)

@@ -6,13 +6,16 @@ ghost use Rattle.route_plan.specs.Valid.{hop_count};
 ghost use Rattle.plat_net.specs.Places.{LeadsTo};
 ghost use Rattle.node_hops.specs.Traits.{hop_latency};
 
-use plat_net::{Net, TlmLaw};
+use plat_net::{Net, Sharing, TlmLaw};
 use route_plan::{Down, HopEnds, Plan};
 use shared_object::Naming;
 use tlm_types::Ps;
 
 /// The memory that a hop leads to, and its latency in picoseconds. There is none where the hop leads to a router.
-pub fn memory_behind<N: Naming<Plan, TlmLaw>>(net: &Net<N>, hop: u32) -> Option<(u32, Ps)>
+pub fn memory_behind<N: Naming<Plan, TlmLaw>, S: Sharing<N>>(
+    net: &Net<N, S>,
+    hop: u32,
+) -> Option<(u32, Ps)>
     requires { hop < hop_count N.frame.world.platform }
     ensures shape { IsShape N.frame.world.platform }
     ensures there { IfSome result (λ m. m.0 < length N.frame.world.platform.memories) }

@@ -3,7 +3,7 @@ ghost use Rattle.view_lists.specs.Lists.{Within};
 ghost use Rattle.one_history.specs.Lists.{StandBelow};
 ghost use Rattle.shared_object.specs.Steps.{IsNote};
 
-use plat_net::{Net, PlatNote, TlmLaw};
+use plat_net::{Net, PlatNote, Sharing, TlmLaw};
 use route_plan::Plan;
 use shared_object::Naming;
 use std::sync::Wait;
@@ -38,7 +38,12 @@ pub trait Node<N: Naming<Plan, TlmLaw>>: Drop {
     ghost keeps: { Self → List (Entry Content) → Type 0 };
 
     /// A loop's turn of it, which takes no memory and can't fail.
-    fn pump<R: Wait>(&mut self, net: &Net<N>, rt: &R, note: PlatNote) -> (Pumped, PlatNote)
+    fn pump<S: Sharing<N>, R: Wait>(
+        &mut self,
+        net: &Net<N, S>,
+        rt: &R,
+        note: PlatNote,
+    ) -> (Pumped, PlatNote)
         requires node { keeps self.old note.knows.known }
         requires note { IsNote N.table note }
         requires below { StandBelow note.knows.known note.knows.seen }
@@ -48,5 +53,5 @@ pub trait Node<N: Naming<Plan, TlmLaw>>: Drop {
         ensures below { StandBelow result.1.knows.known result.1.knows.seen };
 
     /// Whether a pump may find something to do, by what the net tells of hops. No clause speaks of it.
-    fn may_move(&self, net: &Net<N>) -> bool;
+    fn may_move<S: Sharing<N>>(&self, net: &Net<N, S>) -> bool;
 }

@@ -14,8 +14,9 @@ use crate::opened::{Opened, OpenedParts};
 use crate::pools::make_pools;
 use crate::supplies::Supplies;
 use crate::wallets::empty_wallets;
+use net_signs::Signs;
 use plat_net::{
-    Net, PlatHistory, PlatNote, PlatSeat, SharedHop, SharedMemory, SharedPool, Signs, TlmLaw,
+    Net, PlatHistory, PlatNote, PlatSeat, SharedHop, SharedMemory, SharedPool, Sharing, TlmLaw,
 };
 use route_plan::Plan;
 use shared_object::Naming;
@@ -25,9 +26,9 @@ use token_book::{Book, Tokens};
 
 /// What is built for a plan.
 #[derive(Drop)]
-pub struct Built<N: Naming<Plan, TlmLaw>> {
+pub struct Built<N: Naming<Plan, TlmLaw>, S: Sharing<N>> {
     /// What threads share.
-    pub net: Net<N>,
+    pub net: Net<N, S>,
     /// What waits to be handed out.
     pub kept: Kept<N>,
 }
@@ -72,19 +73,19 @@ fn begin_supplies<N: Naming<Plan, TlmLaw>>(
 
 // All objects of a net, in order.
 #[derive(Drop)]
-struct Objects<N: Naming<Plan, TlmLaw>> {
-    memories: Vec<SharedMemory<N>>,
-    hops: Vec<SharedHop<N>>,
-    pools: Vec<SharedPool<N>>,
+struct Objects<N: Naming<Plan, TlmLaw>, S: Sharing<N>> {
+    memories: Vec<SharedMemory<N, S>>,
+    hops: Vec<SharedHop<N, S>>,
+    pools: Vec<SharedPool<N, S>>,
 }
 
 // Makes all objects of a net. Its only error is want of memory.
-fn make_objects<N: Naming<Plan, TlmLaw>>(
+fn make_objects<N: Naming<Plan, TlmLaw>, S: Sharing<N>>(
     alloc: Global,
     plan: &Plan,
     tickets: &Tokens,
     supplies: &mut Supplies<N>,
-) -> Result<Objects<N>, Memory>
+) -> Result<Objects<N, S>, Memory>
     requires frame { N.frame ≡ frame_of plan.now }
     requires tickets { tickets.now ≡ N.tokens }
     requires first { supplies.old ≡ 0 }
@@ -93,9 +94,9 @@ fn make_objects<N: Naming<Plan, TlmLaw>>(
     ensures pools { IfOk result (λ objects. ArePools plan.now.platform objects.pools.items) }
     ensures next { OnOk result (supplies.new ≡ length N.frame.planned) }
 {
-    let memories = make_memories::<N>(alloc, plan, tickets, supplies)?;
-    let hops = make_hops::<N>(alloc, plan, tickets, supplies)?;
-    let pools = make_pools::<N>(alloc, plan, tickets, supplies)?;
+    let memories = make_memories::<N, S>(alloc, plan, tickets, supplies)?;
+    let hops = make_hops::<N, S>(alloc, plan, tickets, supplies)?;
+    let pools = make_pools::<N, S>(alloc, plan, tickets, supplies)?;
     Ok(Objects {
         memories,
         hops,
@@ -123,13 +124,13 @@ fn make_kept<N: Naming<Plan, TlmLaw>>(
 }
 
 // The net of a plan with these objects. Its only error is want of memory.
-fn make_net<N: Naming<Plan, TlmLaw>>(
+fn make_net<N: Naming<Plan, TlmLaw>, S: Sharing<N>>(
     alloc: Global,
     plan: &Plan,
     history: PlatHistory,
     tickets: Tokens,
-    objects: Objects<N>,
-) -> Result<Net<N>, Memory>
+    objects: Objects<N, S>,
+) -> Result<Net<N, S>, Memory>
     requires plan { plan.now ≡ N.frame.world }
     requires frame { N.frame ≡ frame_of plan.now }
     requires history { (history.table ≡ N.table) × (history.frame ≡ N.frame) }
@@ -155,11 +156,11 @@ fn make_net<N: Naming<Plan, TlmLaw>>(
 /// note and a wallet with its tickets, and a note for each router and memory. What was opened was opened for
 /// this plan, and N names its history and its tokens. The history is empty. Its only error is want of
 /// memory.
-pub fn build<N: Naming<Plan, TlmLaw>>(
+pub fn build<N: Naming<Plan, TlmLaw>, S: Sharing<N>>(
     alloc: Global,
     opened: Opened,
     plan: &Plan,
-) -> Result<Built<N>, Memory>
+) -> Result<Built<N, S>, Memory>
     requires history { (opened.table ≡ N.table) × (opened.frame ≡ N.frame) }
     requires tickets { opened.tokens ≡ N.tokens }
     requires plan { plan.now ≡ N.frame.world }
@@ -174,8 +175,8 @@ pub fn build<N: Naming<Plan, TlmLaw>>(
         books,
     } = opened.into_parts::<N>(plan);
     let mut supplies = begin_supplies::<N>(alloc, plan, &tickets, seats, books)?;
-    let objects = make_objects::<N>(alloc, plan, &tickets, &mut supplies)?;
+    let objects = make_objects::<N, S>(alloc, plan, &tickets, &mut supplies)?;
     let kept = make_kept::<N>(alloc, plan, &history, note, supplies)?;
-    let net = make_net::<N>(alloc, plan, history, tickets, objects)?;
+    let net = make_net::<N, S>(alloc, plan, history, tickets, objects)?;
     Ok(Built { net, kept })
 }

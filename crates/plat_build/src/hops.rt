@@ -1,4 +1,4 @@
-// The hops of a plan under their locks.
+// The hops of a plan.
 ghost use Rattle.std.specs.Prelude.{◌≡◌, ◌+◌, ◌<◌, length, IfOk, OnOk, IsTrue};
 ghost use Rattle.tlm_types.specs.declared.words.ObjectNo.TheVariants.{Hop as HopObject};
 ghost use Rattle.tlm_model.specs.Route.{window_hop};
@@ -11,7 +11,7 @@ ghost use Rattle.plat_build.specs.Supplies.{IsSupply};
 
 use crate::supplies::{Supplies, Supply};
 use hop_object::{Hop, HopTraits};
-use plat_net::{SharedHop, TlmLaw};
+use plat_net::{SharedHop, Sharing, TlmLaw};
 use route_plan::Plan;
 use shared_object::{Naming, Shared};
 use std::alloc::Global;
@@ -47,14 +47,14 @@ fn traits_to(plan: &Plan, to: Target, resp: RespMode) -> HopTraits
 }
 
 // Hop `number`, with room for what is planned.
-fn make_hop<N: Naming<Plan, TlmLaw>>(
+fn make_hop<N: Naming<Plan, TlmLaw>, S: Sharing<N>>(
     alloc: Global,
     plan: &Plan,
     number: u32,
     to: Target,
     resp: RespMode,
     supply: Supply,
-) -> Result<SharedHop<N>, Memory>
+) -> Result<SharedHop<N, S>, Memory>
     requires frame { N.frame ≡ frame_of plan.now }
     requires next { IsNextHop plan.now.platform number resp to }
     requires supply { IsSupply N.table N.tokens N.frame (length plan.now.platform.memories + number) (HopObject number) supply }
@@ -76,14 +76,14 @@ fn make_hop<N: Naming<Plan, TlmLaw>>(
 }
 
 // Makes the next hop.
-fn push_hop<N: Naming<Plan, TlmLaw>>(
+fn push_hop<N: Naming<Plan, TlmLaw>, S: Sharing<N>>(
     alloc: Global,
     plan: &Plan,
     tickets: &Tokens,
     to: Target,
     resp: RespMode,
     supplies: &mut Supplies<N>,
-    hops: &mut Vec<SharedHop<N>>,
+    hops: &mut Vec<SharedHop<N, S>>,
 ) -> Result<(), Memory>
     requires frame { N.frame ≡ frame_of plan.now }
     requires tickets { tickets.now ≡ N.tokens }
@@ -97,18 +97,18 @@ fn push_hop<N: Naming<Plan, TlmLaw>>(
     let _ = plan.platform();
     let number = hops.len() as u32;
     let supply = supplies.hand_out(plan, tickets, ObjectNo::Hop(number));
-    hops.push(make_hop::<N>(alloc, plan, number, to, resp, supply)?)?;
+    hops.push(make_hop::<N, S>(alloc, plan, number, to, resp, supply)?)?;
     Ok(())
 }
 
 // Makes the hops of the windows of a router, which accepts every response.
-fn push_windows<N: Naming<Plan, TlmLaw>>(
+fn push_windows<N: Naming<Plan, TlmLaw>, S: Sharing<N>>(
     alloc: Global,
     plan: &Plan,
     tickets: &Tokens,
     router: u32,
     supplies: &mut Supplies<N>,
-    hops: &mut Vec<SharedHop<N>>,
+    hops: &mut Vec<SharedHop<N, S>>,
 ) -> Result<(), Memory>
     requires frame { N.frame ≡ frame_of plan.now }
     requires tickets { tickets.now ≡ N.tokens }
@@ -124,7 +124,7 @@ fn push_windows<N: Naming<Plan, TlmLaw>>(
         .windows
         .as_slice()
     {
-        push_hop::<N>(
+        push_hop::<N, S>(
             alloc,
             plan,
             tickets,
@@ -139,12 +139,12 @@ fn push_windows<N: Naming<Plan, TlmLaw>>(
 
 /// The hops of a plan, which come after the memories: the bindings of the initiators, and then the windows
 /// of each router, in order. Its only error is want of memory.
-pub(crate) fn make_hops<N: Naming<Plan, TlmLaw>>(
+pub(crate) fn make_hops<N: Naming<Plan, TlmLaw>, S: Sharing<N>>(
     alloc: Global,
     plan: &Plan,
     tickets: &Tokens,
     supplies: &mut Supplies<N>,
-) -> Result<Vec<SharedHop<N>>, Memory>
+) -> Result<Vec<SharedHop<N, S>>, Memory>
     requires frame { N.frame ≡ frame_of plan.now }
     requires tickets { tickets.now ≡ N.tokens }
     requires next { supplies.old ≡ length plan.now.platform.memories }
@@ -153,7 +153,7 @@ pub(crate) fn make_hops<N: Naming<Plan, TlmLaw>>(
 {
     let mut hops = Vec::new(alloc);
     for row in plan.platform().initiators.as_slice() {
-        push_hop::<N>(
+        push_hop::<N, S>(
             alloc,
             plan,
             tickets,
@@ -164,7 +164,7 @@ pub(crate) fn make_hops<N: Naming<Plan, TlmLaw>>(
         )?;
     }
     for router in 0..plan.platform().routers.as_slice().len() {
-        push_windows::<N>(alloc, plan, tickets, router as u32, supplies, &mut hops)?;
+        push_windows::<N, S>(alloc, plan, tickets, router as u32, supplies, &mut hops)?;
     }
     Ok(hops)
 }

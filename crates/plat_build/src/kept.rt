@@ -7,7 +7,7 @@ ghost use Rattle.plat_build.specs.Tickets.{AreStocked, IsStocked};
 ghost use Rattle.plat_build.specs.Unused.{HaveTicketsFrom};
 
 use generic_payload::Payload;
-use plat_net::{Net, PlatNote, TlmLaw};
+use plat_net::{Net, PlatNote, Sharing, TlmLaw};
 use route_plan::Plan;
 use script_engine::Engine;
 use shared_object::Naming;
@@ -26,7 +26,7 @@ pub struct Start {
     pub wallet: Wallet,
 }
 
-/// What was made with a net and waits to be handed out. Threads share the net alone: a note is of one
+/// What was made with a net and waits to be handed out. Threads may share the net alone: a note is of one
 /// thread at a time. Contracts see what still waits.
 pub struct Kept<N: Naming<Plan, TlmLaw>> {
     starts: Vec<Option<Start>>,
@@ -138,7 +138,7 @@ impl<N: Naming<Plan, TlmLaw>> Kept<N> {
 }
 
 /// The style of the initiator with this number, which tells how it is to begin.
-pub fn style_of<N: Naming<Plan, TlmLaw>>(net: &Net<N>, number: u32) -> Style
+pub fn style_of<N: Naming<Plan, TlmLaw>, S: Sharing<N>>(net: &Net<N, S>, number: u32) -> Style
     requires { number < length net.now.platform.initiators }
     ensures { IsSomeAnd (slice_get net.now.platform.initiators number) (λ row. row.style ≡ result) }
 {

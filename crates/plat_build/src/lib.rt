@@ -1,4 +1,4 @@
-//! The net of a platform: its objects under their locks, with their history and their tickets.
+//! The net of a platform: its objects, under locks or in cells, with their history and their tickets.
 //!
 //! - `Opened` is the history of a plan with the books of its tokens. Its objects are the memories, the
 //!   hops and the pools of four-phase initiators, numbered in this order.

@@ -1,4 +1,4 @@
-// The memories of a plan under their locks.
+// The memories of a plan.
 ghost use Rattle.std.specs.Prelude.{◌≡◌, ◌+◌, ◌≤◌, slice_get, length, sum, take, IsSomeAnd, IfOk, OnOk};
 ghost use Rattle.tlm_types.specs.declared.words.ObjectNo.TheVariants.{Memory as MemoryObject};
 ghost use Rattle.tlm_model.specs.declared.platform.MemoryRow.{MemoryRow};
@@ -8,7 +8,7 @@ ghost use Rattle.plat_net.specs.Objects.{frame_of};
 ghost use Rattle.plat_build.specs.Supplies.{IsSupply};
 
 use crate::supplies::{Supplies, Supply};
-use plat_net::{SharedMemory, TlmLaw};
+use plat_net::{SharedMemory, Sharing, TlmLaw};
 use region_object::Region;
 use route_plan::Plan;
 use shared_object::{Naming, Shared};
@@ -17,14 +17,14 @@ use tlm_types::{Memory, MemoryTraits, ObjectNo};
 use token_book::Tokens;
 
 // Memory `number`, with room for what is planned.
-fn make_memory<N: Naming<Plan, TlmLaw>>(
+fn make_memory<N: Naming<Plan, TlmLaw>, S: Sharing<N>>(
     alloc: Global,
     plan: &Plan,
     number: u32,
     traits: MemoryTraits,
     first_gate: u32,
     supply: Supply,
-) -> Result<SharedMemory<N>, Memory>
+) -> Result<SharedMemory<N, S>, Memory>
     requires frame { N.frame ≡ frame_of plan.now }
     requires row { IsSomeAnd (slice_get plan.now.platform.memories number) (λ (row : MemoryRow). traits ≡ row.traits) }
     requires gates { first_gate ≡ sum (take number (gates_of plan.now.platform)) }
@@ -44,12 +44,12 @@ fn make_memory<N: Naming<Plan, TlmLaw>>(
 }
 
 /// The memories of a plan, which are the first objects. Its only error is want of memory.
-pub(crate) fn make_memories<N: Naming<Plan, TlmLaw>>(
+pub(crate) fn make_memories<N: Naming<Plan, TlmLaw>, S: Sharing<N>>(
     alloc: Global,
     plan: &Plan,
     tickets: &Tokens,
     supplies: &mut Supplies<N>,
-) -> Result<Vec<SharedMemory<N>>, Memory>
+) -> Result<Vec<SharedMemory<N, S>>, Memory>
     requires frame { N.frame ≡ frame_of plan.now }
     requires tickets { tickets.now ≡ N.tokens }
     requires first { supplies.old ≡ 0 }
@@ -61,7 +61,7 @@ pub(crate) fn make_memories<N: Naming<Plan, TlmLaw>>(
     for (number, row) in plan.platform().memories.as_slice().iter().enumerate() {
         let number = number as u32;
         let supply = supplies.hand_out(plan, tickets, ObjectNo::Memory(number));
-        let memory = make_memory::<N>(alloc, plan, number, row.traits, first_gate, supply)?;
+        let memory = make_memory::<N, S>(alloc, plan, number, row.traits, first_gate, supply)?;
         memories.push(memory)?;
         first_gate = first_gate.saturating_add(row.traits.gates);
     }

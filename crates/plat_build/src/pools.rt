@@ -1,4 +1,4 @@
-// The pools of a plan under their locks.
+// The pools of a plan.
 ghost use Rattle.std.specs.Prelude.{◌≡◌, ◌+◌, ◌≤◌, length, slice_get, IfOk, OnOk, IsSomeAnd, Some};
 ghost use Rattle.tlm_types.specs.declared.words.ObjectNo.TheVariants.{Pool as PoolObject};
 ghost use Rattle.tlm_model.specs.declared.platform.InitiatorRow.{InitiatorRow as Row};
@@ -10,7 +10,7 @@ ghost use Rattle.plat_build.specs.Supplies.{IsSupply};
 use crate::objects::has_pool;
 use crate::supplies::{Supplies, Supply};
 use payload_pool::Pool;
-use plat_net::{SharedPool, TlmLaw};
+use plat_net::{SharedPool, Sharing, TlmLaw};
 use route_plan::Plan;
 use shared_object::{Naming, Shared};
 use std::alloc::Global;
@@ -20,13 +20,13 @@ use token_book::Tokens;
 
 // The pool of an initiator with so many slots, with room for what is planned. Each of its payloads has room
 // for 4,096 bytes.
-fn make_pool<N: Naming<Plan, TlmLaw>>(
+fn make_pool<N: Naming<Plan, TlmLaw>, S: Sharing<N>>(
     alloc: Global,
     plan: &Plan,
     initiator: u32,
     slots: u32,
     supply: Supply,
-) -> Result<SharedPool<N>, Memory>
+) -> Result<SharedPool<N, S>, Memory>
     requires frame { N.frame ≡ frame_of plan.now }
     requires row { IsSomeAnd (slice_get plan.now.platform.initiators initiator) (λ (row : Row). slots ≡ row.pool) }
     requires slots { (1 ≤ slots) × (slots ≤ 16) }
@@ -41,14 +41,14 @@ fn make_pool<N: Naming<Plan, TlmLaw>>(
 }
 
 // Makes the pool of the initiator with this number and row, if it has one.
-fn push_pool<N: Naming<Plan, TlmLaw>>(
+fn push_pool<N: Naming<Plan, TlmLaw>, S: Sharing<N>>(
     alloc: Global,
     plan: &Plan,
     tickets: &Tokens,
     initiator: u32,
     row: &InitiatorRow,
     supplies: &mut Supplies<N>,
-    pools: &mut Vec<SharedPool<N>>,
+    pools: &mut Vec<SharedPool<N, S>>,
 ) -> Result<(), Memory>
     requires frame { N.frame ≡ frame_of plan.now }
     requires tickets { tickets.now ≡ N.tokens }
@@ -63,18 +63,18 @@ fn push_pool<N: Naming<Plan, TlmLaw>>(
     }
     let _ = plan.platform();
     let supply = supplies.hand_out(plan, tickets, ObjectNo::Pool(initiator));
-    pools.push(make_pool::<N>(alloc, plan, initiator, row.pool, supply)?)?;
+    pools.push(make_pool::<N, S>(alloc, plan, initiator, row.pool, supply)?)?;
     Ok(())
 }
 
 /// The pools of a plan, which come after the hops: one for each four-phase initiator, in order. Its only
 /// error is want of memory.
-pub(crate) fn make_pools<N: Naming<Plan, TlmLaw>>(
+pub(crate) fn make_pools<N: Naming<Plan, TlmLaw>, S: Sharing<N>>(
     alloc: Global,
     plan: &Plan,
     tickets: &Tokens,
     supplies: &mut Supplies<N>,
-) -> Result<Vec<SharedPool<N>>, Memory>
+) -> Result<Vec<SharedPool<N, S>>, Memory>
     requires frame { N.frame ≡ frame_of plan.now }
     requires tickets { tickets.now ≡ N.tokens }
     requires next { supplies.old ≡ pools_start plan.now.platform }
@@ -83,7 +83,7 @@ pub(crate) fn make_pools<N: Naming<Plan, TlmLaw>>(
 {
     let mut pools = Vec::new(alloc);
     for (number, row) in plan.platform().initiators.as_slice().iter().enumerate() {
-        push_pool::<N>(
+        push_pool::<N, S>(
             alloc,
             plan,
             tickets,

@@ -9,9 +9,9 @@ ghost use Rattle.plat_build.specs.Unused.{added_by_all, AddUp, AreNumberedFrom, 
 
 use crate::building::Built;
 use one_history::{Closed, Sealed};
-use plat_net::{NetParts, PlatSeat, SharedHop, SharedMemory, SharedPool, TlmLaw};
+use plat_net::{NetParts, PlatSeat, SharedHop, SharedMemory, SharedPool, Sharing, TlmLaw};
 use route_plan::Plan;
-use shared_object::{Naming, Object, Shared, World};
+use shared_object::{Keeper, Locked, Naming, Object, Shared, World};
 use std::alloc::{AllocError, Global};
 use std::sync::Wait;
 use tlm_types::{Content, Memory};
@@ -37,10 +37,15 @@ fn retire_from_all<N: Naming<Plan, TlmLaw>>(
 
 // The seat of an object whose tickets are all in the wallets. As many are retired as entries are planned,
 // so that its log has none.
-fn unused_seat<O: Object + Drop, N: Naming<Plan, TlmLaw>, R: Wait>(
+fn unused_seat<
+    O: Object + Drop,
+    N: Naming<Plan, TlmLaw>,
+    L: Keeper<Locked<O, Plan, TlmLaw, N>>,
+    R: Wait,
+>(
     rt: &R,
     tickets: &Tokens,
-    object: Shared<O, Plan, TlmLaw, N>,
+    object: Shared<O, Plan, TlmLaw, N, L>,
     wallets: &mut [Wallet],
 ) -> PlatSeat
 where
@@ -58,10 +63,15 @@ where
 }
 
 // The seats of these objects, which come after those whose seats are there.
-fn push_unused<O: Object + Drop, N: Naming<Plan, TlmLaw>, R: Wait>(
+fn push_unused<
+    O: Object + Drop,
+    N: Naming<Plan, TlmLaw>,
+    L: Keeper<Locked<O, Plan, TlmLaw, N>> + Drop,
+    R: Wait,
+>(
     rt: &R,
     tickets: &Tokens,
-    objects: Vec<Shared<O, Plan, TlmLaw, N>>,
+    objects: Vec<Shared<O, Plan, TlmLaw, N, L>>,
     seats: &mut Vec<PlatSeat>,
     wallets: &mut [Wallet],
 ) -> Result<(), AllocError>
@@ -83,13 +93,13 @@ where
 }
 
 // The seats of all objects of a net of which nothing was handed out.
-fn unused_seats<N: Naming<Plan, TlmLaw>, R: Wait>(
+fn unused_seats<N: Naming<Plan, TlmLaw>, S: Sharing<N>, R: Wait>(
     rt: &R,
     alloc: Global,
     tickets: &Tokens,
-    memories: Vec<SharedMemory<N>>,
-    hops: Vec<SharedHop<N>>,
-    pools: Vec<SharedPool<N>>,
+    memories: Vec<SharedMemory<N, S>>,
+    hops: Vec<SharedHop<N, S>>,
+    pools: Vec<SharedPool<N, S>>,
     wallets: &mut [Wallet],
 ) -> Result<Vec<PlatSeat>, AllocError>
     requires frame { N.frame ≡ frame_of N.frame.world }
@@ -111,10 +121,10 @@ fn unused_seats<N: Naming<Plan, TlmLaw>, R: Wait>(
 
 /// Ends the history of a net of which nothing was handed out. It has no entries: this is what tells that
 /// the history of a new net is empty. Its only error is want of memory.
-pub fn close_unused<N: Naming<Plan, TlmLaw>, R: Wait>(
+pub fn close_unused<N: Naming<Plan, TlmLaw>, S: Sharing<N>, R: Wait>(
     rt: &R,
     alloc: Global,
-    built: Built<N>,
+    built: Built<N, S>,
 ) -> Result<Sealed<Content, Plan, TlmLaw>, Memory>
     requires frame { N.frame ≡ frame_of built.net }
     requires kept { built.kept ≡ all_waiting built.net.platform }
@@ -133,7 +143,7 @@ pub fn close_unused<N: Naming<Plan, TlmLaw>, R: Wait>(
         hops,
         pools,
     } = net.into_parts();
-    let seats = unused_seats(rt, alloc, &tickets, memories, hops, pools, &mut wallets)?;
+    let seats = unused_seats::<N, S, R>(rt, alloc, &tickets, memories, hops, pools, &mut wallets)?;
     let Closed::Done(sealed) = history.close(seats, Vec::new(alloc)) else {
         unreachable!()
     };

@@ -15,7 +15,7 @@ use crate::steps::CoreStep;
 use node_hops::OneStep;
 use outside::NoPace;
 use plat_build::{Built, Kept};
-use plat_net::{Net, PlatNote, TlmLaw};
+use plat_net::{Net, OneThread, PlatNote, TlmLaw};
 use route_plan::Plan;
 use shared_object::Naming;
 use std::alloc::Global;
@@ -30,7 +30,7 @@ use tlm_types::{EndOf, Memory};
 /// initiator whether it has finished, and the rounds.
 // The note is away only while an actor moves, which carries it along.
 pub struct NetCore<N: Naming<Plan, TlmLaw>> {
-    pub(crate) net: Net<N>,
+    pub(crate) net: Net<N, OneThread>,
     pub(crate) actors: Vec<SteppedActor>,
     pub(crate) finished: Vec<bool>,
     pub(crate) rounds: Rounds,
@@ -90,7 +90,7 @@ fn begin_rounds(alloc: Global, actors: &[SteppedActor], count: u32) -> Result<Ro
 
 // Waits until the history has as many entries as expected, and knows all of them then. It has at once: nobody else draws.
 fn see<N: Naming<Plan, TlmLaw>, R: Wait>(
-    net: &Net<N>,
+    net: &Net<N, OneThread>,
     rt: &R,
     mut note: PlatNote,
     expected: u64,
@@ -153,7 +153,7 @@ fn ends_of(alloc: Global, initiators: &[SteppedActor]) -> Result<Vec<EndOf>, Mem
 
 impl<N: Naming<Plan, TlmLaw>> NetCore<N> {
     /// A core of a net that was just built, before its first step. Its only error is want of memory.
-    pub fn new(alloc: Global, built: Built<N>) -> Result<NetCore<N>, Memory>
+    pub fn new(alloc: Global, built: Built<N, OneThread>) -> Result<NetCore<N>, Memory>
         requires kept { built.kept ≡ all_waiting built.net.platform }
         ensures { IfOk result (IsBegunNet N.table N.tokens N.frame) }
     {
@@ -215,7 +215,7 @@ impl<N: Naming<Plan, TlmLaw>> NetCore<N> {
 
     // The net, its initiators, which have all finished, and the note that they had in turn. The routers and memories are let go
     // of.
-    pub(crate) fn into_initiators(self) -> (Net<N>, Vec<SteppedActor>, PlatNote)
+    pub(crate) fn into_initiators(self) -> (Net<N, OneThread>, Vec<SteppedActor>, PlatNote)
         requires { all_true self.finished ≡ true }
         ensures note { self.note ≡ Some result.2 }
         ensures count { length result.1.items ≡ length N.frame.world.platform.initiators }

@@ -15,7 +15,7 @@ use crate::plans::can_run;
 use crate::schedule::run_blocking_schedule;
 use plat_build::{Opened, build};
 use plat_end::{Apart, seal, take_apart};
-use plat_net::{Net, NetParts, PlatNote, TlmLaw};
+use plat_net::{Net, NetParts, OneThread, PlatNote, TlmLaw};
 use route_plan::Plan;
 use run_outcome::{MergedLog, Outcome};
 use shared_object::Naming;
@@ -47,7 +47,7 @@ pub(crate) struct SoFar {
 }
 
 // Room for what all that is on a net leaves. Its only error is want of memory.
-fn room_for<N: Naming<Plan, TlmLaw>>(alloc: Global, net: &Net<N>) -> Result<Room, Memory>
+fn room_for<N: Naming<Plan, TlmLaw>>(alloc: Global, net: &Net<N, OneThread>) -> Result<Room, Memory>
     ensures { IfOk result (IsRoomFor N.frame.world.platform) }
 {
     let count = net.plan().platform().initiators.as_slice().len();
@@ -207,7 +207,15 @@ impl<N: Naming<Plan, TlmLaw>> NetCore<N> {
             hops,
             pools,
         } = net.into_parts();
-        let apart = take_apart(rt, &tickets, memories, hops, pools, &mut wallets, apart);
+        let apart = take_apart::<N, OneThread, R>(
+            rt,
+            &tickets,
+            memories,
+            hops,
+            pools,
+            &mut wallets,
+            apart,
+        );
         let (outcome, _) = seal::<N>(history, ends, notes, apart);
         outcome
     }
@@ -286,7 +294,7 @@ fn run_opened<N: Naming<Plan, TlmLaw>, R: Wait>(
     requires frame { N.frame ≡ frame_of plan.now }
     ensures { IfOk result (IsScheduledBy plan.now schedule.now) }
 {
-    let built = build::<N>(alloc, opened, plan)?;
+    let built = build::<N, OneThread>(alloc, opened, plan)?;
     let mut core = NetCore::new(alloc, built)?;
     core.keep();
     for number in schedule {
@@ -317,7 +325,7 @@ fn run_opened_in_order<N: Naming<Plan, TlmLaw>, R: Wait>(
     requires frame { N.frame ≡ frame_of plan.now }
     ensures { IfOk result (IsWhole plan.now) }
 {
-    let built = build::<N>(alloc, opened, plan)?;
+    let built = build::<N, OneThread>(alloc, opened, plan)?;
     let mut core = NetCore::new(alloc, built)?;
     let room = room_for(alloc, &core.net)?;
     core.run_on(rt);

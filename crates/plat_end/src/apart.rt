@@ -12,7 +12,7 @@ ghost use Rattle.plat_end.specs.Taking.{IsTaken};
 
 use crate::parts::{hop_part, memory_part, pool_part};
 use entry_log::Log;
-use plat_net::{Net, PlatSeat, SharedHop, SharedMemory, SharedPool, TlmLaw};
+use plat_net::{Net, PlatSeat, SharedHop, SharedMemory, SharedPool, Sharing, TlmLaw};
 use route_plan::Plan;
 use shared_object::Naming;
 use std::alloc::Global;
@@ -38,7 +38,10 @@ const MOST_OBJECTS: usize = 336;
 
 impl Apart {
     /// What is left of no object, with room for what all objects of a net leave. Its only error is want of memory.
-    pub fn room_for<N: Naming<Plan, TlmLaw>>(alloc: Global, net: &Net<N>) -> Result<Apart, Memory>
+    pub fn room_for<N: Naming<Plan, TlmLaw>, S: Sharing<N>>(
+        alloc: Global,
+        net: &Net<N, S>,
+    ) -> Result<Apart, Memory>
         ensures { IfOk result (HasRoom (length (objects_of N.frame.world.platform)) (length N.frame.world.platform.memories)) }
     {
         let memories = net.plan().platform().memories.as_slice().len();
@@ -74,10 +77,10 @@ impl Apart {
 }
 
 // Takes all memories apart, which come first.
-fn take_memories<N: Naming<Plan, TlmLaw>, R: Wait>(
+fn take_memories<N: Naming<Plan, TlmLaw>, S: Sharing<N>, R: Wait>(
     rt: &R,
     tickets: &Tokens,
-    memories: Vec<SharedMemory<N>>,
+    memories: Vec<SharedMemory<N, S>>,
     wallets: &mut [Wallet],
     apart: &mut Apart,
 )
@@ -92,17 +95,17 @@ fn take_memories<N: Naming<Plan, TlmLaw>, R: Wait>(
     ensures room { Fits (length (objects_of N.frame.world.platform)) (length N.frame.world.platform.memories) apart.new }
 {
     for memory in memories {
-        let (log, bytes, seat) = memory_part(rt, tickets, memory, wallets);
+        let (log, bytes, seat) = memory_part::<N, S, R>(rt, tickets, memory, wallets);
         apart.stores.push_reserved(bytes);
         apart.add(log, seat);
     }
 }
 
 // Takes all hops apart, after the memories.
-fn take_hops<N: Naming<Plan, TlmLaw>, R: Wait>(
+fn take_hops<N: Naming<Plan, TlmLaw>, S: Sharing<N>, R: Wait>(
     rt: &R,
     tickets: &Tokens,
-    hops: Vec<SharedHop<N>>,
+    hops: Vec<SharedHop<N, S>>,
     wallets: &mut [Wallet],
     apart: &mut Apart,
 )
@@ -124,16 +127,16 @@ fn take_hops<N: Naming<Plan, TlmLaw>, R: Wait>(
     ensures room { Fits (length (objects_of N.frame.world.platform)) (length N.frame.world.platform.memories) apart.new }
 {
     for hop in hops {
-        let (log, seat) = hop_part(rt, tickets, hop, wallets);
+        let (log, seat) = hop_part::<N, S, R>(rt, tickets, hop, wallets);
         apart.add(log, seat);
     }
 }
 
 // Takes all pools apart, after the hops.
-fn take_pools<N: Naming<Plan, TlmLaw>, R: Wait>(
+fn take_pools<N: Naming<Plan, TlmLaw>, S: Sharing<N>, R: Wait>(
     rt: &R,
     tickets: &Tokens,
-    pools: Vec<SharedPool<N>>,
+    pools: Vec<SharedPool<N, S>>,
     wallets: &mut [Wallet],
     apart: &mut Apart,
 )
@@ -153,7 +156,7 @@ fn take_pools<N: Naming<Plan, TlmLaw>, R: Wait>(
     ensures stores { apart.new.stores ≡ apart.old.stores }
 {
     for pool in pools {
-        let (log, seat) = pool_part(rt, tickets, pool, wallets);
+        let (log, seat) = pool_part::<N, S, R>(rt, tickets, pool, wallets);
         apart.add(log, seat);
     }
 }
@@ -162,12 +165,12 @@ fn take_pools<N: Naming<Plan, TlmLaw>, R: Wait>(
 /// tickets that the wallets of the initiators, in order, have left go back into the books of their
 /// objects. What they leave is put into lists that were made with room for it, so this takes no memory. A pool with
 /// a live slot is waited for without end.
-pub fn take_apart<N: Naming<Plan, TlmLaw>, R: Wait>(
+pub fn take_apart<N: Naming<Plan, TlmLaw>, S: Sharing<N>, R: Wait>(
     rt: &R,
     tickets: &Tokens,
-    memories: Vec<SharedMemory<N>>,
-    hops: Vec<SharedHop<N>>,
-    pools: Vec<SharedPool<N>>,
+    memories: Vec<SharedMemory<N, S>>,
+    hops: Vec<SharedHop<N, S>>,
+    pools: Vec<SharedPool<N, S>>,
     wallets: &mut [Wallet],
     mut apart: Apart,
 ) -> Apart
@@ -183,8 +186,8 @@ pub fn take_apart<N: Naming<Plan, TlmLaw>, R: Wait>(
     ensures stores { AreStores N.frame.world.platform result.logs.items result.stores.items }
     ensures handed_back { AreHandedBack N.frame result.seats.items (left_by N.frame.world.platform wallets.old) }
 {
-    take_memories(rt, tickets, memories, wallets, &mut apart);
-    take_hops(rt, tickets, hops, wallets, &mut apart);
-    take_pools(rt, tickets, pools, wallets, &mut apart);
+    take_memories::<N, S, R>(rt, tickets, memories, wallets, &mut apart);
+    take_hops::<N, S, R>(rt, tickets, hops, wallets, &mut apart);
+    take_pools::<N, S, R>(rt, tickets, pools, wallets, &mut apart);
     apart
 }

@@ -12,7 +12,7 @@ ghost use Rattle.plat_end.specs.Taking.{HaveSameBut, IsPaid, tickets_at};
 
 use entry_log::Log;
 use payload_pool::Pool;
-use plat_net::{PlatSeat, SharedHop, SharedMemory, SharedPool, TlmLaw};
+use plat_net::{PlatSeat, SharedHop, SharedMemory, SharedPool, Sharing, TlmLaw};
 use route_plan::Plan;
 use shared_object::Naming;
 use std::sync::Wait;
@@ -35,10 +35,10 @@ fn hand_back_all(tickets: &Tokens, wallets: &mut [Wallet], mut book: Book)
 
 // What a memory leaves: its log, its bytes and its seat. The looks at the log tell that its entries are the
 // memory's own, and that their times are those that there are.
-pub(crate) fn memory_part<N: Naming<Plan, TlmLaw>, R: Wait>(
+pub(crate) fn memory_part<N: Naming<Plan, TlmLaw>, S: Sharing<N>, R: Wait>(
     rt: &R,
     tickets: &Tokens,
-    memory: SharedMemory<N>,
+    memory: SharedMemory<N, S>,
     wallets: &mut [Wallet],
 ) -> (Log, Bytes, PlatSeat)
     requires numbers { memory ≡ memory_numbers memory.own }
@@ -59,10 +59,10 @@ pub(crate) fn memory_part<N: Naming<Plan, TlmLaw>, R: Wait>(
 }
 
 // What a hop leaves: its log and its seat.
-pub(crate) fn hop_part<N: Naming<Plan, TlmLaw>, R: Wait>(
+pub(crate) fn hop_part<N: Naming<Plan, TlmLaw>, S: Sharing<N>, R: Wait>(
     rt: &R,
     tickets: &Tokens,
-    hop: SharedHop<N>,
+    hop: SharedHop<N, S>,
     wallets: &mut [Wallet],
 ) -> (Log, PlatSeat)
     requires numbers { hop ≡ hop_numbers N.frame.world.platform hop.own }
@@ -92,10 +92,10 @@ fn free<R: Wait>(rt: &R, pool: &Pool)
 }
 
 // What a pool leaves: its log and its seat.
-pub(crate) fn pool_part<N: Naming<Plan, TlmLaw>, R: Wait>(
+pub(crate) fn pool_part<N: Naming<Plan, TlmLaw>, S: Sharing<N>, R: Wait>(
     rt: &R,
     tickets: &Tokens,
-    pool: SharedPool<N>,
+    pool: SharedPool<N, S>,
     wallets: &mut [Wallet],
 ) -> (Log, PlatSeat)
     requires numbers { pool ≡ pool_numbers N.frame.world.platform pool.own }

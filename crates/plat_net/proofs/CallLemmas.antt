@@ -1,5 +1,5 @@
 -- What a call at a memory answers.
-use Rattle.std.proofs.Common.{◌≡◌, ℕ, ◌<◌, true, false, List, Option, Some, None, get_or, length, map, sym, ap, subst, ◌∙◌, arith}
+use Rattle.std.proofs.Common.{◌≡◌, ℕ, ◌<◌, true, false, List, Option, Some, None, get_or, length, map, refl, sym, ap, subst, ◌∙◌, arith}
 use Rattle.std.specs.Option.{unwrap_or}
 use Rattle.view_lists.specs.Lists.{Within}
 use Rattle.one_history.specs.declared.entry.Entry.{Entry}
@@ -24,7 +24,7 @@ use Rattle.route_plan.specs.Valid.{hop_count}
 use Rattle.region_object.specs.declared.call.RegionCall.{RegionCall}
 use Rattle.region_object.specs.declared.call.RegionCall.TheVariants.{Access, Debug, Grant, Direct, Invalidate, Overlapping, Close}
 use Rattle.region_object.specs.declared.call.RegionReply.{RegionReply}
-use Rattle.region_object.specs.Call.{HasPayload, IsFit, returned}
+use Rattle.region_object.specs.Call.{HasPayload, IsFit, payload_of, returned}
 use Rattle.region_object.specs.Region.{LoggedMemory, after_call, reply_of}
 use Rattle.region_object.specs.Written.{built_of, content_of, written_from}
 use Rattle.cargo_net.specs.Traffic.{Backs, IsMemoryBuilt}
@@ -86,3 +86,13 @@ transport_returns m (Direct gate txn time p) fit = absurd fit
 transport_returns m (Invalidate txn time first last) fit = absurd fit
 transport_returns m (Overlapping from first last before) fit = absurd fit
 transport_returns m (Close txn time gate) fit = absurd fit
+
+-- and the room of that payload is what it was
+pub returned_room : (m : LoggedMemory) (call : RegionCall) → IsFit call → (returned (reply_of m call)).room ≡ (payload_of call).room
+returned_room m (Access txn time way p) fit = refl
+returned_room m (Debug txn time p) fit = refl
+returned_room m (Grant txn time command) fit = absurd fit
+returned_room m (Direct gate txn time p) fit = absurd fit
+returned_room m (Invalidate txn time first last) fit = absurd fit
+returned_room m (Overlapping from first last before) fit = absurd fit
+returned_room m (Close txn time gate) fit = absurd fit

@@ -13,6 +13,7 @@ ghost use Rattle.plat_net.specs.Calls.{CanPay, HasNoPassage, IsCalled, OneTicket
 
 use crate::law::{PlatNote, TlmLaw};
 use crate::net::Net;
+use crate::sharing::Sharing;
 use generic_payload::Payload;
 use region_object::{RegionCall, RegionReply};
 use route_plan::Plan;
@@ -43,7 +44,7 @@ pub(crate) fn returned(reply: RegionReply) -> Payload
     }
 }
 
-impl<N: Naming<Plan, TlmLaw>> Net<N> {
+impl<N: Naming<Plan, TlmLaw>, S: Sharing<N>> Net<N, S> {
     /// Makes a call at the memory with this number, as one entry of the history. The note comes back
     /// knowing all that the memory has written, and the wallet has one ticket of that memory less, for
     /// the bytes of the call. It takes no memory, and no lock is held afterwards. An access of a four-phase

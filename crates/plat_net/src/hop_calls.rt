@@ -27,6 +27,7 @@ ghost use Rattle.plat_net.specs.Places.{hop_place, memory_behind, memory_place};
 
 use crate::law::{PlatNote, SharedMemory, TlmLaw};
 use crate::net::Net;
+use crate::sharing::Sharing;
 use cargo_model::Cargo;
 use cargo_net::{Answered, FetchedRequest, FetchedResponse, Forwarded, Tried};
 use hop_object::Leg;
@@ -36,9 +37,9 @@ use std::sync::Wait;
 use tlm_types::{Ps, TxnId};
 use token_book::Ticket;
 
-impl<N: Naming<Plan, TlmLaw>> Net<N> {
+impl<N: Naming<Plan, TlmLaw>, S: Sharing<N>> Net<N, S> {
     // What a hop leads to: the memory, if it is one, and the component's latency in picoseconds.
-    fn behind(&self, hop: u32) -> (Option<&SharedMemory<N>>, Ps)
+    fn behind(&self, hop: u32) -> (Option<&SharedMemory<N, S>>, Ps)
         requires hop { hop < hop_count self.now.platform }
         ensures there { IsSome (slice_get (ends_of self.now.platform) hop) }
         ensures memory { option_map (λ m. m.now.number) result.0 ≡ memory_behind self.now hop }

@@ -1,4 +1,5 @@
 // The types of a platform's history, and of the objects that threads share.
+use crate::sharing::Sharing;
 use cargo_model::Cargo;
 pub use cargo_net::TlmLaw;
 use hop_object::Hop;
@@ -18,11 +19,11 @@ pub type PlatNote = Note<Content, Plan, TlmLaw>;
 /// The seat of an object of such a history.
 pub type PlatSeat = ObjectSeat<Content, Plan, TlmLaw>;
 
-/// A memory that threads share, of the history and the tokens that N names.
-pub type SharedMemory<N> = Shared<Region, Plan, TlmLaw, N>;
+/// A memory of the history and the tokens that N names, as S keeps it.
+pub type SharedMemory<N, S> = Shared<Region, Plan, TlmLaw, N, <S as Sharing<N>>::Memory>;
 
-/// A hop that threads share.
-pub type SharedHop<N> = Shared<Hop<Cargo>, Plan, TlmLaw, N>;
+/// A hop, as S keeps it.
+pub type SharedHop<N, S> = Shared<Hop<Cargo>, Plan, TlmLaw, N, <S as Sharing<N>>::Hop>;
 
-/// A pool that threads share.
-pub type SharedPool<N> = Shared<Pool, Plan, TlmLaw, N>;
+/// A pool, as S keeps it.
+pub type SharedPool<N, S> = Shared<Pool, Plan, TlmLaw, N, <S as Sharing<N>>::Pool>;

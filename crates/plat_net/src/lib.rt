@@ -1,9 +1,10 @@
-//! The net of a platform: its objects under their locks, with their history and their tickets, and the calls at
-//! them.
+//! The net of a platform: its objects, under locks or in cells of one thread, with their history and their tickets,
+//! and the calls at them.
 //!
 //! - A `Net` is what threads share of a plan: the plan, the history, the tokens, and each memory, hop and pool
-//!   with its log. `TlmLaw` is the law of the history: it says which earlier entries back an entry of four-phase
-//!   traffic, and backs every other entry.
+//!   with its log. `Sharing` says what keeps these: locks, for `ManyThreads`, or cells, for `OneThread`. `TlmLaw` is
+//!   the law of the history: it says which earlier entries back an entry of four-phase traffic, and backs every
+//!   other entry.
 //! - `Net::call_memory` makes a call at a memory, and `Net::debug` a debug read along its route. A `Reach` is a
 //!   way to the memories: of a thread that shares the net, or of the only one who has it. `Net::forget_memories` has
 //!   the memories' logs forget what nobody will read.
@@ -14,7 +15,7 @@
 //! Promises: each call of `cargo_net` does here what it does there, and asks only for what the plan doesn't give:
 //! `specs/HopCalls`, `specs/PoolCalls` and `specs/MemoryCalls` say what that is. A call of a memory adds one entry,
 //! by the definitions, and takes one ticket. A plan of a good shape has no cycle (`laws`). No call of a net takes
-//! memory, and no lock is held after one.
+//! memory, and no lock is held after one. All of this holds for any `Sharing`.
 #![tactic(auto)]
 
 mod calls;
@@ -24,10 +25,10 @@ pub mod laws;
 mod net;
 mod pool_calls;
 mod reach;
-mod signs;
+mod sharing;
 
 pub use calls::Carried;
 pub use law::{PlatHistory, PlatNote, PlatSeat, SharedHop, SharedMemory, SharedPool, TlmLaw};
 pub use net::{Net, NetParts};
 pub use reach::Reach;
-pub use signs::Signs;
+pub use sharing::{ManyThreads, OneThread, Sharing};

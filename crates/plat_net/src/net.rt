@@ -7,8 +7,9 @@ ghost use Rattle.plat_net.specs.Net.{hop_numbers, memory_numbers, pool_numbers, 
 use crate::calls::returned;
 use crate::law::{PlatHistory, PlatNote, SharedHop, SharedMemory, SharedPool, TlmLaw};
 use crate::reach::Reach;
-use crate::signs::Signs;
+use crate::sharing::Sharing;
 use generic_payload::Payload;
+use net_signs::Signs;
 use region_object::RegionCall;
 use route_plan::Plan;
 use shared_object::{Naming, Stepped};
@@ -16,19 +17,19 @@ use std::marker::Model;
 use std::sync::Wait;
 use token_book::{Tokens, Wallet};
 
-/// The objects of a platform under their locks, with their history and their tokens, which N names.
-/// Threads share it. Contracts see the plan.
-pub struct Net<N: Naming<Plan, TlmLaw>> {
+/// The objects of a platform, as S keeps them, with their history and their tokens, which N names. Contracts
+/// see the plan.
+pub struct Net<N: Naming<Plan, TlmLaw>, S: Sharing<N>> {
     plan: Plan,
     history: PlatHistory,
     tickets: Tokens,
-    memories: Vec<SharedMemory<N>>,
-    hops: Vec<SharedHop<N>>,
-    pools: Vec<SharedPool<N>>,
-    signs: Signs,
+    memories: Vec<SharedMemory<N, S>>,
+    hops: Vec<SharedHop<N, S>>,
+    pools: Vec<SharedPool<N, S>>,
+    signs: Signs<S::Count>,
 }
 
-impl<N: Naming<Plan, TlmLaw>> Model for Net<N> {
+impl<N: Naming<Plan, TlmLaw>, S: Sharing<N>> Model for Net<N, S> {
     ghost use Rattle.std.specs.Prelude.{◌≡◌};
     ghost use Rattle.tlm_model.specs.Plan as model;
     ghost use Rattle.plat_net.specs.Net.{AreHops, AreMemories, ArePools};
@@ -45,7 +46,7 @@ impl<N: Naming<Plan, TlmLaw>> Model for Net<N> {
 }
 
 // Written out, so that crates above call it and needn't prove again how each part is let go of.
-impl<N: Naming<Plan, TlmLaw>> Drop for Net<N> {
+impl<N: Naming<Plan, TlmLaw>, S: Sharing<N>> Drop for Net<N, S> {
     fn drop(self) {
         let Net {
             plan: _plan,
@@ -61,15 +62,15 @@ impl<N: Naming<Plan, TlmLaw>> Drop for Net<N> {
 
 /// What a net consists of.
 #[derive(Drop)]
-pub struct NetParts<N: Naming<Plan, TlmLaw>> {
+pub struct NetParts<N: Naming<Plan, TlmLaw>, S: Sharing<N>> {
     pub history: PlatHistory,
     pub tickets: Tokens,
-    pub memories: Vec<SharedMemory<N>>,
-    pub hops: Vec<SharedHop<N>>,
-    pub pools: Vec<SharedPool<N>>,
+    pub memories: Vec<SharedMemory<N, S>>,
+    pub hops: Vec<SharedHop<N, S>>,
+    pub pools: Vec<SharedPool<N, S>>,
 }
 
-impl<N: Naming<Plan, TlmLaw>> Net<N> {
+impl<N: Naming<Plan, TlmLaw>, S: Sharing<N>> Net<N, S> {
     ghost use Rattle.plat_net.specs.Net.{AreHops, AreMemories, ArePools};
     ghost use Rattle.plat_net.specs.Objects.{frame_of};
 
@@ -79,11 +80,11 @@ impl<N: Naming<Plan, TlmLaw>> Net<N> {
         plan: Plan,
         history: PlatHistory,
         tickets: Tokens,
-        memories: Vec<SharedMemory<N>>,
-        hops: Vec<SharedHop<N>>,
-        pools: Vec<SharedPool<N>>,
-        signs: Signs,
-    ) -> Net<N>
+        memories: Vec<SharedMemory<N, S>>,
+        hops: Vec<SharedHop<N, S>>,
+        pools: Vec<SharedPool<N, S>>,
+        signs: Signs<S::Count>,
+    ) -> Net<N, S>
         requires plan { plan ≡ N.frame.world }
         requires frame { N.frame ≡ frame_of plan }
         requires history { (history.table ≡ N.table) × (history.frame ≡ N.frame) }
@@ -130,7 +131,7 @@ impl<N: Naming<Plan, TlmLaw>> Net<N> {
         self.signs.may_take(initiator)
     }
 
-    pub(crate) fn signs(&self) -> &Signs {
+    pub(crate) fn signs(&self) -> &Signs<S::Count> {
         &self.signs
     }
 
@@ -158,7 +159,7 @@ impl<N: Naming<Plan, TlmLaw>> Net<N> {
     }
 
     /// The memory with this number.
-    pub fn memory(&self, number: u32) -> &SharedMemory<N>
+    pub fn memory(&self, number: u32) -> &SharedMemory<N, S>
         requires { number < length self.now.platform.memories }
         ensures { result.now ≡ memory_numbers number }
     {
@@ -166,7 +167,7 @@ impl<N: Naming<Plan, TlmLaw>> Net<N> {
     }
 
     /// The hop with this number.
-    pub fn hop(&self, number: u32) -> &SharedHop<N>
+    pub fn hop(&self, number: u32) -> &SharedHop<N, S>
         requires { number < hop_count self.now.platform }
         ensures { result.now ≡ hop_numbers self.now.platform number }
     {
@@ -174,15 +175,15 @@ impl<N: Naming<Plan, TlmLaw>> Net<N> {
     }
 
     /// The pool of the initiator with this number, which is of four phases.
-    pub fn pool(&self, initiator: u32) -> &SharedPool<N>
+    pub fn pool(&self, initiator: u32) -> &SharedPool<N, S>
         requires { HasPool self.now.platform initiator }
         ensures { result.now ≡ pool_numbers self.now.platform initiator }
     {
-        pool_of(&self.pools, initiator)
+        pool_of::<N, S>(&self.pools, initiator)
     }
 
-    /// The memories' logs forget the entries that they have in store, so that they can't be read any more. Contracts see no
-    /// change.
+    /// The memories' logs forget the entries that they have in store, and those that come after them, so that they can't be
+    /// read any more. Contracts see no change.
     pub fn forget_memories<R: Wait>(&self, rt: &R) {
         for memory in &self.memories {
             memory.forget(rt);
@@ -190,7 +191,7 @@ impl<N: Naming<Plan, TlmLaw>> Net<N> {
     }
 
     /// The history, the tokens, and the memories, hops and pools in order.
-    pub fn into_parts(self) -> NetParts<N>
+    pub fn into_parts(self) -> NetParts<N, S>
         ensures world { self ≡ N.frame.world }
         ensures history { (result.history.table ≡ N.table) × (result.history.frame ≡ N.frame) }
         ensures tickets { result.tickets ≡ N.tokens }
@@ -218,7 +219,10 @@ impl<N: Naming<Plan, TlmLaw>> Net<N> {
 }
 
 // The one of these pools that is the initiator's.
-fn pool_of<N: Naming<Plan, TlmLaw>>(pools: &[SharedPool<N>], initiator: u32) -> &SharedPool<N>
+fn pool_of<N: Naming<Plan, TlmLaw>, S: Sharing<N>>(
+    pools: &[SharedPool<N, S>],
+    initiator: u32,
+) -> &SharedPool<N, S>
     requires { HasPoolOf pools.now initiator }
     ensures own { result.now.own ≡ initiator }
     ensures has { Has pools.now result.now }
@@ -231,9 +235,9 @@ fn pool_of<N: Naming<Plan, TlmLaw>>(pools: &[SharedPool<N>], initiator: u32) -> 
     unreachable!()
 }
 
-impl<N: Naming<Plan, TlmLaw>> Reach<N> for Net<N> {
+impl<N: Naming<Plan, TlmLaw>, S: Sharing<N>> Reach<N, S> for Net<N, S> {
     #[inline(always)]
-    fn net(&self) -> &Net<N> {
+    fn net(&self) -> &Net<N, S> {
         self
     }
 

@@ -20,6 +20,7 @@ ghost use Rattle.plat_net.specs.PoolCalls.{CanAcquire, CanDescend, CanRelease, C
 
 use crate::law::{PlatNote, TlmLaw};
 use crate::net::Net;
+use crate::sharing::Sharing;
 use cargo_model::Cargo;
 use cargo_net::{Descended, Taken};
 use payload_pool::{Baton, Hold};
@@ -29,7 +30,7 @@ use std::sync::Wait;
 use tlm_types::{Ps, TxnId};
 use token_book::Ticket;
 
-impl<N: Naming<Plan, TlmLaw>> Net<N> {
+impl<N: Naming<Plan, TlmLaw>, S: Sharing<N>> Net<N, S> {
     // Where a hop stands in the history, if there is one.
     fn place_above(&self, hop: Option<u32>) -> Option<u32>
         requires { IfSome hop (λ (h : ℕ). h < hop_count self.now.platform) }

@@ -7,6 +7,7 @@ ghost use Rattle.plat_net.specs.Calls.{HasNoPassage, IsCalled, OneTicketLess};
 
 use crate::law::{PlatNote, TlmLaw};
 use crate::net::Net;
+use crate::sharing::Sharing;
 use generic_payload::Payload;
 use region_object::RegionCall;
 use route_plan::Plan;
@@ -16,9 +17,9 @@ use token_book::Wallet;
 
 /// A way to the memories of a net: `&Net` for a thread that shares it with others, which takes the lock of
 /// a memory for a call, and `Net` for the only one who has it, which takes none.
-pub trait Reach<N: Naming<Plan, TlmLaw>> {
+pub trait Reach<N: Naming<Plan, TlmLaw>, S: Sharing<N>> {
     /// The net.
-    fn net(&self) -> &Net<N>;
+    fn net(&self) -> &Net<N, S>;
 
     /// Makes a call at the memory with this number, as `Net::call_memory` does.
     fn call<R: Wait>(
@@ -42,9 +43,9 @@ pub trait Reach<N: Naming<Plan, TlmLaw>> {
         ensures ticket { OneTicketLess memory (cost_of call) wallet.old wallet.new };
 }
 
-impl<N: Naming<Plan, TlmLaw>> Reach<N> for &Net<N> {
+impl<N: Naming<Plan, TlmLaw>, S: Sharing<N>> Reach<N, S> for &Net<N, S> {
     #[inline(always)]
-    fn net(&self) -> &Net<N> {
+    fn net(&self) -> &Net<N, S> {
         self
     }
 

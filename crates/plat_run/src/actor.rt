@@ -10,7 +10,7 @@ use crate::port_job::PortJob;
 use crate::turn::JobTurn;
 use decoupled_run::DecoupledInitiator;
 use outside::Pace;
-use plat_net::{Net, PlatNote, Reach, TlmLaw};
+use plat_net::{Net, PlatNote, Reach, Sharing, TlmLaw};
 use route_plan::Plan;
 use router_node::RouterNode;
 use run_queue::Job;
@@ -80,7 +80,7 @@ impl<N: Naming<Plan, TlmLaw>> Actor<N> {
     /// Whether a job is to be passed over: by what the net tells of its hops and its pool, a pump would find nothing. Now and
     /// then it is not, whatever the net tells.
     #[inline(always)]
-    pub fn rests(&mut self, net: &Net<N>) -> bool
+    pub fn rests<S: Sharing<N>>(&mut self, net: &Net<N, S>) -> bool
         ensures number { number_of self.new ≡ number_of self.old }
         ensures done { is_done self.new ≡ is_done self.old }
     {
@@ -93,7 +93,7 @@ impl<N: Naming<Plan, TlmLaw>> Actor<N> {
     }
 
     /// A turn of a job of any kind: of a blocking or direct initiator at most one step of its script, of all others one pump.
-    pub fn turn<B: Reach<N>, P: Pace, R: Wait>(
+    pub fn turn<S: Sharing<N>, B: Reach<N, S>, P: Pace, R: Wait>(
         &mut self,
         rt: &R,
         reach: &mut B,
@@ -113,7 +113,7 @@ impl<N: Naming<Plan, TlmLaw>> Actor<N> {
 
     /// A turn, unless it has finished or is to be passed over, and whether it needs more: an initiator until it has finished. A
     /// memory and a router never do, and would need more if they were among the first so many.
-    pub(crate) fn visit<B: Reach<N>, P: Pace, R: Wait>(
+    pub(crate) fn visit<S: Sharing<N>, B: Reach<N, S>, P: Pace, R: Wait>(
         &mut self,
         rt: &R,
         reach: &mut B,

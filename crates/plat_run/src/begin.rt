@@ -11,7 +11,7 @@ use crate::port_job::PortJob;
 use decoupled_run::DecoupledInitiator;
 use fourphase_port::Port;
 use plat_build::{Kept, Start, style_of};
-use plat_net::{Net, TlmLaw};
+use plat_net::{Net, Sharing, TlmLaw};
 use route_plan::Plan;
 use router_node::RouterNode;
 use shared_object::Naming;
@@ -21,9 +21,9 @@ use tlm_model::Style;
 use tlm_types::Memory;
 
 // The blocking or direct initiator with this number, with what it starts with. Its only error is want of memory.
-fn begin_decoupled<N: Naming<Plan, TlmLaw>>(
+fn begin_decoupled<N: Naming<Plan, TlmLaw>, S: Sharing<N>>(
     alloc: Global,
-    net: &Net<N>,
+    net: &Net<N, S>,
     number: u32,
     start: Start,
 ) -> Result<Actor<N>, Memory>
@@ -37,9 +37,9 @@ fn begin_decoupled<N: Naming<Plan, TlmLaw>>(
 }
 
 // The four-phase initiator with this number, with what it starts with. Its only error is want of memory.
-fn begin_port<N: Naming<Plan, TlmLaw>>(
+fn begin_port<N: Naming<Plan, TlmLaw>, S: Sharing<N>>(
     alloc: Global,
-    net: &Net<N>,
+    net: &Net<N, S>,
     number: u32,
     start: Start,
 ) -> Result<Actor<N>, Memory>
@@ -61,9 +61,9 @@ fn begin_port<N: Naming<Plan, TlmLaw>>(
 }
 
 // The initiator with this number, by its style, with what it starts with. Its only error is want of memory.
-fn begin_initiator<N: Naming<Plan, TlmLaw>>(
+fn begin_initiator<N: Naming<Plan, TlmLaw>, S: Sharing<N>>(
     alloc: Global,
-    net: &Net<N>,
+    net: &Net<N, S>,
     number: u32,
     start: Start,
 ) -> Result<Actor<N>, Memory>
@@ -78,9 +78,9 @@ fn begin_initiator<N: Naming<Plan, TlmLaw>>(
 }
 
 // The jobs of all initiators of a net, in order. Its only error is want of memory.
-fn begin_initiators<N: Naming<Plan, TlmLaw>>(
+fn begin_initiators<N: Naming<Plan, TlmLaw>, S: Sharing<N>>(
     alloc: Global,
-    net: &Net<N>,
+    net: &Net<N, S>,
     kept: &mut Kept<N>,
 ) -> Result<Vec<Actor<N>>, Memory>
     requires kept { kept.old.starts ≡ replicate (length net.now.platform.initiators) true }
@@ -99,9 +99,9 @@ fn begin_initiators<N: Naming<Plan, TlmLaw>>(
 }
 
 // The job with this number, of this router of a net. Its only error is want of memory.
-fn begin_router<N: Naming<Plan, TlmLaw>>(
+fn begin_router<N: Naming<Plan, TlmLaw>, S: Sharing<N>>(
     alloc: Global,
-    net: &Net<N>,
+    net: &Net<N, S>,
     kept: &mut Kept<N>,
     router: u32,
     number: u32,
@@ -119,9 +119,9 @@ fn begin_router<N: Naming<Plan, TlmLaw>>(
 }
 
 // The job with this number, of this memory of a net. Its only error is want of memory.
-fn begin_memory<N: Naming<Plan, TlmLaw>>(
+fn begin_memory<N: Naming<Plan, TlmLaw>, S: Sharing<N>>(
     alloc: Global,
-    net: &Net<N>,
+    net: &Net<N, S>,
     kept: &mut Kept<N>,
     memory: u32,
     number: u32,
@@ -139,9 +139,9 @@ fn begin_memory<N: Naming<Plan, TlmLaw>>(
 }
 
 // Adds the routers of a net as jobs behind these, of which there are so many. Its only error is want of memory.
-fn begin_routers<N: Naming<Plan, TlmLaw>>(
+fn begin_routers<N: Naming<Plan, TlmLaw>, S: Sharing<N>>(
     alloc: Global,
-    net: &Net<N>,
+    net: &Net<N, S>,
     kept: &mut Kept<N>,
     jobs: &mut Vec<Actor<N>>,
     first: u32,
@@ -163,9 +163,9 @@ fn begin_routers<N: Naming<Plan, TlmLaw>>(
 }
 
 // Adds the memories of a net as jobs behind these, of which there are so many. Its only error is want of memory.
-fn begin_memories<N: Naming<Plan, TlmLaw>>(
+fn begin_memories<N: Naming<Plan, TlmLaw>, S: Sharing<N>>(
     alloc: Global,
-    net: &Net<N>,
+    net: &Net<N, S>,
     kept: &mut Kept<N>,
     jobs: &mut Vec<Actor<N>>,
     first: u32,
@@ -186,7 +186,7 @@ fn begin_memories<N: Naming<Plan, TlmLaw>>(
 }
 
 // How many initiators a net has, and how many initiators and routers.
-fn counts_of<N: Naming<Plan, TlmLaw>>(net: &Net<N>) -> (u32, u32)
+fn counts_of<N: Naming<Plan, TlmLaw>, S: Sharing<N>>(net: &Net<N, S>) -> (u32, u32)
     ensures initiators { result.0 ≡ length net.now.platform.initiators }
     ensures routers { result.1 ≡ length net.now.platform.initiators + length net.now.platform.routers }
     ensures few { result.1 ≤ 2 ^ 16 }
@@ -198,9 +198,9 @@ fn counts_of<N: Naming<Plan, TlmLaw>>(net: &Net<N>) -> (u32, u32)
 }
 
 // Adds the routers and the memories of a net as jobs behind those of its initiators. Its only error is want of memory.
-fn begin_nodes<N: Naming<Plan, TlmLaw>>(
+fn begin_nodes<N: Naming<Plan, TlmLaw>, S: Sharing<N>>(
     alloc: Global,
-    net: &Net<N>,
+    net: &Net<N, S>,
     kept: &mut Kept<N>,
     jobs: &mut Vec<Actor<N>>,
 ) -> Result<(), Memory>
@@ -217,16 +217,16 @@ fn begin_nodes<N: Naming<Plan, TlmLaw>>(
 }
 
 // Whether some initiator of a net is of four phases.
-fn has_fourphase<N: Naming<Plan, TlmLaw>>(net: &Net<N>) -> bool {
+fn has_fourphase<N: Naming<Plan, TlmLaw>, S: Sharing<N>>(net: &Net<N, S>) -> bool {
     let rows = net.plan().platform().initiators.as_slice();
     rows.iter().any(|row| row.style == Style::FourPhase)
 }
 
 /// The jobs of a net, in order: those of all initiators, and behind them those of the routers and the
 /// memories, where some initiator is of four phases. Its only error is want of memory.
-pub(crate) fn begin_jobs<N: Naming<Plan, TlmLaw>>(
+pub(crate) fn begin_jobs<N: Naming<Plan, TlmLaw>, S: Sharing<N>>(
     alloc: Global,
-    net: &Net<N>,
+    net: &Net<N, S>,
     kept: &mut Kept<N>,
 ) -> Result<Vec<Actor<N>>, Memory>
     requires kept { kept.old ≡ all_waiting net.now.platform }

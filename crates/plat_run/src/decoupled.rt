@@ -6,7 +6,7 @@ ghost use Rattle.plat_run.specs.Turn.{is_held_back};
 use crate::turn::JobTurn;
 use decoupled_run::DecoupledInitiator;
 use outside::Pace;
-use plat_net::{Reach, TlmLaw};
+use plat_net::{Reach, Sharing, TlmLaw};
 use route_plan::Plan;
 use shared_object::Naming;
 use std::sync::Wait;
@@ -15,7 +15,7 @@ use time_board::{Advance, Board};
 /// At most one access or debug read with the grant that is asked for after it, or one other operation, and the sync that
 /// is due after it. If the board doesn't let that sync through, the turn ends, and the next one begins with it. The pace
 /// is told of an access or a debug read before it is made, while no lock is held.
-pub(crate) fn turn<N: Naming<Plan, TlmLaw>, B: Reach<N>, P: Pace, R: Wait>(
+pub(crate) fn turn<N: Naming<Plan, TlmLaw>, S: Sharing<N>, B: Reach<N, S>, P: Pace, R: Wait>(
     job: &mut DecoupledInitiator<N>,
     rt: &R,
     reach: &mut B,
@@ -35,7 +35,7 @@ pub(crate) fn turn<N: Naming<Plan, TlmLaw>, B: Reach<N>, P: Pace, R: Wait>(
 }
 
 /// A turn, unless it has finished, and whether it needs more. Once it has finished it no longer holds others back.
-pub(crate) fn visit<N: Naming<Plan, TlmLaw>, B: Reach<N>, P: Pace, R: Wait>(
+pub(crate) fn visit<N: Naming<Plan, TlmLaw>, S: Sharing<N>, B: Reach<N, S>, P: Pace, R: Wait>(
     job: &mut DecoupledInitiator<N>,
     rt: &R,
     reach: &mut B,

@@ -2,8 +2,8 @@
 //!
 //! - `run` makes the jobs of a net that was just built (`begin_jobs`), lets workers give them turns until all initiators
 //!   have finished, and makes the outcome of what the jobs and the memories have (`plat_end`). `run_plan` builds the net
-//!   as well. `Logs` says whether the logs are kept: where nobody will read them, workers let the memories forget now and
-//!   then what they have logged.
+//!   as well. `Logs` says whether the logs are kept: where nobody will read them, the memories forget what
+//!   they log.
 //! - `Actor` is a job of any kind, in a box: workers hand the box on, and a turn works in place. It answers a
 //!   `JobTurn`: whether the job went on, let others go on, is held back by the board, or found nothing to do. A pump that would
 //!   find nothing, by what the net tells, is passed over (`Waits`).
@@ -36,5 +36,5 @@ pub use logs::Logs;
 pub use nodes::NodeJob;
 pub use plat_end::PlatSealed;
 pub use port_job::PortJob;
-pub use running::{run, run_plan};
+pub use running::{run, run_alone, run_plan};
 pub use turn::JobTurn;

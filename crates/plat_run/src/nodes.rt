@@ -6,7 +6,7 @@ ghost use Rattle.plat_run.specs.Turn.{is_held_back};
 use crate::turn::JobTurn;
 use crate::waits::Waits;
 use node_hops::{Node, Pumped};
-use plat_net::{Net, PlatNote, TlmLaw};
+use plat_net::{Net, PlatNote, Sharing, TlmLaw};
 use route_plan::Plan;
 use shared_object::Naming;
 use std::marker::{Model, PhantomData};
@@ -57,7 +57,7 @@ impl<N: Naming<Plan, TlmLaw>, K: Node<N>> NodeJob<N, K> {
     }
 
     /// One pump.
-    pub fn turn<R: Wait>(&mut self, rt: &R, net: &Net<N>) -> JobTurn
+    pub fn turn<S: Sharing<N>, R: Wait>(&mut self, rt: &R, net: &Net<N, S>) -> JobTurn
         ensures number { self.new ≡ self.old }
         ensures turn { is_held_back result ≡ false }
     {
@@ -71,14 +71,19 @@ impl<N: Naming<Plan, TlmLaw>, K: Node<N>> NodeJob<N, K> {
     }
 
     /// Whether it is to be passed over.
-    pub fn rests(&mut self, net: &Net<N>) -> bool
+    pub fn rests<S: Sharing<N>>(&mut self, net: &Net<N, S>) -> bool
         ensures { self.new ≡ self.old }
     {
         self.waits.rests(self.node.may_move(net))
     }
 
     /// A turn, unless it is to be passed over, and whether it is one of the first so many jobs.
-    pub(crate) fn visit<R: Wait>(&mut self, rt: &R, net: &Net<N>, count: u32) -> bool
+    pub(crate) fn visit<S: Sharing<N>, R: Wait>(
+        &mut self,
+        rt: &R,
+        net: &Net<N, S>,
+        count: u32,
+    ) -> bool
         ensures number { self.new ≡ self.old }
         ensures first { (result ≡ true) ↔ (self.new < count) }
     {

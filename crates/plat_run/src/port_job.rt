@@ -7,7 +7,7 @@ use crate::turn::JobTurn;
 use crate::waits::Waits;
 use fourphase_port::Port;
 use outside::Pace;
-use plat_net::{Net, PlatNote, TlmLaw};
+use plat_net::{Net, PlatNote, Sharing, TlmLaw};
 use port_moves::Pumped;
 use route_plan::Plan;
 use shared_object::Naming;
@@ -107,7 +107,12 @@ impl<N: Naming<Plan, TlmLaw>> PortJob<N> {
 
     /// One pump. The pace is told of each access and debug read once, before the first pump at which it is next,
     /// while no lock is held.
-    pub fn turn<P: Pace, R: Wait>(&mut self, rt: &R, net: &Net<N>, pace: &P) -> JobTurn
+    pub fn turn<S: Sharing<N>, P: Pace, R: Wait>(
+        &mut self,
+        rt: &R,
+        net: &Net<N, S>,
+        pace: &P,
+    ) -> JobTurn
         ensures number { self.new.port.port.engine.initiator ≡ self.old.port.port.engine.initiator }
         ensures pumped { IsPortTurn N.frame self.old self.new result }
     {
@@ -118,14 +123,19 @@ impl<N: Naming<Plan, TlmLaw>> PortJob<N> {
     }
 
     /// Whether it is to be passed over.
-    pub fn rests(&mut self, net: &Net<N>) -> bool
+    pub fn rests<S: Sharing<N>>(&mut self, net: &Net<N, S>) -> bool
         ensures { self.new ≡ self.old }
     {
         self.waits.rests(self.port.may_move(net))
     }
 
     /// A turn, unless it has finished or is to be passed over, and whether it needs more.
-    pub(crate) fn visit<P: Pace, R: Wait>(&mut self, rt: &R, net: &Net<N>, pace: &P) -> bool
+    pub(crate) fn visit<S: Sharing<N>, P: Pace, R: Wait>(
+        &mut self,
+        rt: &R,
+        net: &Net<N, S>,
+        pace: &P,
+    ) -> bool
         ensures number { self.new.port.port.engine.initiator ≡ self.old.port.port.engine.initiator }
         ensures more { (result ≡ true) ↔ (self.new.finished ≡ false) }
     {

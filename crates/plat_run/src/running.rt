@@ -14,12 +14,12 @@ ghost use Rattle.plat_end.specs.Run.{IsCoreRun};
 use crate::actor::Actor;
 use crate::begin::begin_jobs;
 use crate::ending::{HandedIn, hand_in};
-use crate::logs::{Logs, until_in_store};
+use crate::logs::{Logs, forget_unless_kept, until_in_store};
 use crate::workers::{work_all, work_alone};
 use outside::Pace;
 use plat_build::{Built, Kept, Opened, build};
 use plat_end::{Apart, PlatSealed, seal, take_apart};
-use plat_net::{Net, NetParts, TlmLaw};
+use plat_net::{ManyThreads, Net, NetParts, OneThread, Sharing, TlmLaw};
 use route_plan::Plan;
 use run_outcome::Outcome;
 use run_queue::{Job, RunQueue};
@@ -37,7 +37,7 @@ use tlm_types::Memory;
 pub fn run<N: Naming<Plan, TlmLaw> + Send + Sync, P: Pace + Sync, R: Threads + Wait + Sync>(
     rt: &R,
     alloc: Global,
-    built: Built<N>,
+    built: Built<N, ManyThreads>,
     workers: u32,
     pace: &P,
     logs: Logs,
@@ -52,7 +52,34 @@ pub fn run<N: Naming<Plan, TlmLaw> + Send + Sync, P: Pace + Sync, R: Threads + W
 {
     let Built { mut net, mut kept } = built;
     let apart = Apart::room_for(alloc, &net)?;
-    let handed = finish_all(rt, alloc, &mut net, &mut kept, workers, pace, logs)?;
+    forget_unless_kept(rt, &net, logs);
+    let handed = finish_all(rt, alloc, &mut net, &mut kept, workers, pace)?;
+    let (outcome, sealed) = end_run(rt, net, handed, apart);
+    until_in_store(rt, &outcome.history, logs);
+    Ok((outcome, sealed))
+}
+
+/// Runs the initiators of a net that was just built for one thread, which is the caller's, as `run` does by one worker.
+/// No lock is taken for a call at an object. Its only error is want of memory, before the first turn.
+pub fn run_alone<N: Naming<Plan, TlmLaw>, S: Sharing<N>, P: Pace, R: Wait>(
+    rt: &R,
+    alloc: Global,
+    built: Built<N, S>,
+    pace: &P,
+    logs: Logs,
+) -> Result<(Outcome, PlatSealed), Memory>
+    requires frame { N.frame ≡ frame_of built.net }
+    requires kept { built.kept ≡ all_waiting built.net.platform }
+    ensures whole { IfOk result (λ r. IsWhole built.net r.0) }
+    ensures core { IfOk result (λ r. IsCoreRun built.net r.0.history.entries) }
+    ensures sealed { IfOk result (λ r. entries_read built.net.platform r.1.entries ≡ r.0.history.entries) }
+    ensures world { IfOk result (λ r. (r.1.table ≡ N.table) × (r.1.world ≡ built.net)) }
+    ensures whole_log { logs ≡ Logs.Kept → IfOk result (λ r. r.0.history.whole ≡ true) }
+{
+    let Built { mut net, mut kept } = built;
+    let apart = Apart::room_for(alloc, &net)?;
+    forget_unless_kept(rt, &net, logs);
+    let handed = finish_alone(rt, alloc, &mut net, &mut kept, pace)?;
     let (outcome, sealed) = end_run(rt, net, handed, apart);
     until_in_store(rt, &outcome.history, logs);
     Ok((outcome, sealed))
@@ -63,11 +90,10 @@ pub fn run<N: Naming<Plan, TlmLaw> + Send + Sync, P: Pace + Sync, R: Threads + W
 fn finish_all<N: Naming<Plan, TlmLaw> + Send + Sync, P: Pace + Sync, R: Threads + Wait + Sync>(
     rt: &R,
     alloc: Global,
-    net: &mut Net<N>,
+    net: &mut Net<N, ManyThreads>,
     kept: &mut Kept<N>,
     workers: u32,
     pace: &P,
-    logs: Logs,
 ) -> Result<HandedIn, Memory>
     requires kept { kept.old ≡ all_waiting net.old.platform }
     ensures { IfOk result (λ h. AreFinished N.table N.tokens N.frame.world (length N.frame.world.platform.initiators) h.ends.items h.wallets.items h.notes.items) }
@@ -76,15 +102,33 @@ fn finish_all<N: Naming<Plan, TlmLaw> + Send + Sync, P: Pace + Sync, R: Threads 
     let count = net.plan().platform().initiators.as_slice().len() as u32;
     let handed = HandedIn::with_room(alloc, count)?;
     let board = begin_board(rt, alloc, &jobs, count)?;
-    let jobs = finish_jobs(rt, alloc, net, &board, pace, jobs, count, workers, logs)?;
-    Ok(hand_in(jobs, handed))
+    let jobs = share_turns(rt, alloc, net, &board, pace, jobs, count, workers)?;
+    Ok(hand_in(finish_jobs(rt, net, &board, pace, jobs, count), handed))
+}
+
+// The same by the caller alone.
+fn finish_alone<N: Naming<Plan, TlmLaw>, S: Sharing<N>, P: Pace, R: Wait>(
+    rt: &R,
+    alloc: Global,
+    net: &mut Net<N, S>,
+    kept: &mut Kept<N>,
+    pace: &P,
+) -> Result<HandedIn, Memory>
+    requires kept { kept.old ≡ all_waiting net.old.platform }
+    ensures { IfOk result (λ h. AreFinished N.table N.tokens N.frame.world (length N.frame.world.platform.initiators) h.ends.items h.wallets.items h.notes.items) }
+{
+    let jobs = begin_jobs(alloc, net, kept)?;
+    let count = net.plan().platform().initiators.as_slice().len() as u32;
+    let handed = HandedIn::with_room(alloc, count)?;
+    let board = begin_board(rt, alloc, &jobs, count)?;
+    Ok(hand_in(finish_jobs(rt, net, &board, pace, jobs, count), handed))
 }
 
 // Takes the net apart whose initiators have left this, and makes the outcome of it. There is room for what its objects
 // leave, so it takes no memory.
-fn end_run<N: Naming<Plan, TlmLaw>, R: Wait>(
+fn end_run<N: Naming<Plan, TlmLaw>, S: Sharing<N>, R: Wait>(
     rt: &R,
-    net: Net<N>,
+    net: Net<N, S>,
     handed: HandedIn,
     apart: Apart,
 ) -> (Outcome, PlatSealed)
@@ -108,7 +152,7 @@ fn end_run<N: Naming<Plan, TlmLaw>, R: Wait>(
         hops,
         pools,
     } = net.into_parts();
-    let apart = take_apart(rt, &tickets, memories, hops, pools, &mut wallets, apart);
+    let apart = take_apart::<N, S, R>(rt, &tickets, memories, hops, pools, &mut wallets, apart);
     seal::<N>(history, ends, notes, apart)
 }
 
@@ -128,54 +172,46 @@ fn begin_board<N: Naming<Plan, TlmLaw>, R: Wait>(
     Ok(board)
 }
 
-// Gives turns to these jobs, of which the first so many are those of initiators, by so many workers, until these have
-// finished, and lets go of the others. Its only error is want of memory, before the first turn.
-fn finish_jobs<N: Naming<Plan, TlmLaw> + Send + Sync, P: Pace + Sync, R: Threads + Wait + Sync>(
+// Gives turns by the caller alone to these jobs, of which the first so many are those of initiators, until these have
+// finished, and lets go of the others.
+fn finish_jobs<N: Naming<Plan, TlmLaw>, S: Sharing<N>, P: Pace, R: Wait>(
     rt: &R,
-    alloc: Global,
-    net: &mut Net<N>,
+    net: &mut Net<N, S>,
     board: &Board,
     pace: &P,
     jobs: Vec<Actor<N>>,
     count: u32,
-    workers: u32,
-    logs: Logs,
-) -> Result<Vec<Actor<N>>, Memory>
+) -> Vec<Actor<N>>
     requires initiators { count ≡ length N.frame.world.platform.initiators }
     requires many { count ≤ length jobs.items }
     requires numbered { AreNumbered number_of jobs.items }
-    ensures numbered { IfOk result (λ jobs. AreNumbered number_of jobs.items) }
-    ensures count { IfOk result (λ jobs. length jobs.items ≡ count) }
-    ensures done { IfOk result (λ jobs. All (λ job. is_done job ≡ true) jobs.items) }
+    ensures numbered { AreNumbered number_of result.items }
+    ensures count { length result.items ≡ count }
+    ensures done { All (λ job. is_done job ≡ true) result.items }
 {
-    let jobs = give_all_turns(rt, alloc, net, board, pace, jobs, count, workers, logs)?;
-    Ok(dismiss_nodes(jobs, count))
+    let jobs = give_all_turns(rt, net, board, pace, jobs, count);
+    dismiss_nodes(jobs, count)
 }
 
-// Gives turns to these jobs by so many workers until these have left, and by the caller alone until the first so many
-// have finished. Its only error is want of memory, before the first turn.
+// Gives turns by the caller alone to these jobs until the first so many have finished.
 // It stays a function of its own: as a part of a greater one a turn takes more instructions.
 #[inline(never)]
-fn give_all_turns<N: Naming<Plan, TlmLaw> + Send + Sync, P: Pace + Sync, R: Threads + Wait + Sync>(
+fn give_all_turns<N: Naming<Plan, TlmLaw>, S: Sharing<N>, P: Pace, R: Wait>(
     rt: &R,
-    alloc: Global,
-    net: &mut Net<N>,
+    net: &mut Net<N, S>,
     board: &Board,
     pace: &P,
-    jobs: Vec<Actor<N>>,
+    mut jobs: Vec<Actor<N>>,
     count: u32,
-    workers: u32,
-    logs: Logs,
-) -> Result<Vec<Actor<N>>, Memory>
+) -> Vec<Actor<N>>
     requires many { count ≤ length jobs.items }
     requires numbered { AreNumbered number_of jobs.items }
-    ensures numbered { IfOk result (λ jobs. AreNumbered number_of jobs.items) }
-    ensures count { IfOk result (λ done. length done.items ≡ length jobs.items) }
-    ensures enough { IfOk result (λ jobs. count ≤ count_by is_done jobs.items) }
+    ensures numbered { AreNumbered number_of result.items }
+    ensures count { length result.items ≡ length jobs.items }
+    ensures enough { count ≤ count_by is_done result.items }
 {
-    let mut jobs = share_turns(rt, alloc, net, board, pace, jobs, count, workers, logs)?;
-    work_alone(rt, net, board, pace, &mut jobs, count, logs);
-    Ok(jobs)
+    work_alone(rt, net, board, pace, &mut jobs, count);
+    jobs
 }
 
 // Gives turns to these jobs by so many workers until these have left, if there are more than one. Its only error is want of
@@ -184,13 +220,12 @@ fn give_all_turns<N: Naming<Plan, TlmLaw> + Send + Sync, P: Pace + Sync, R: Thre
 fn share_turns<N: Naming<Plan, TlmLaw> + Send + Sync, P: Pace + Sync, R: Threads + Wait + Sync>(
     rt: &R,
     alloc: Global,
-    net: &Net<N>,
+    net: &Net<N, ManyThreads>,
     board: &Board,
     pace: &P,
     jobs: Vec<Actor<N>>,
     count: u32,
     workers: u32,
-    logs: Logs,
 ) -> Result<Vec<Actor<N>>, Memory>
     requires numbered { AreNumbered number_of jobs.items }
     ensures numbered { IfOk result (λ jobs. AreNumbered number_of jobs.items) }
@@ -202,7 +237,7 @@ fn share_turns<N: Naming<Plan, TlmLaw> + Send + Sync, P: Pace + Sync, R: Threads
         return Ok(jobs);
     }
     let queue = RunQueue::new(alloc, jobs, count)?;
-    work_all(rt, net, board, &queue, workers as u32, pace, logs);
+    work_all(rt, net, board, &queue, workers as u32, pace);
     Ok(queue.into_all(rt))
 }
 
@@ -242,6 +277,9 @@ pub fn run_plan<P: Pace + Sync, R: Threads + Wait + Sync>(
     ensures whole_log { logs ≡ Logs.Kept → IfOk result (λ r. r.0.history.whole ≡ true) }
 {
     let opened = Opened::new(alloc, plan)?;
+    if workers <= 1 {
+        return run_opened_alone::<Brand, P, R>(rt, alloc, plan, opened, pace, logs);
+    }
     run_opened::<Brand, P, R>(rt, alloc, plan, opened, workers, pace, logs)
 }
 
@@ -264,6 +302,28 @@ fn run_opened<N: Naming<Plan, TlmLaw> + Send + Sync, P: Pace + Sync, R: Threads 
     ensures world { IfOk result (λ r. r.1.world ≡ plan.now) }
     ensures whole_log { logs ≡ Logs.Kept → IfOk result (λ r. r.0.history.whole ≡ true) }
 {
-    let built = build::<N>(alloc, opened, plan)?;
+    let built = build::<N, ManyThreads>(alloc, opened, plan)?;
     run::<N, P, R>(rt, alloc, built, workers, pace, logs)
+}
+
+// The same by the caller alone.
+fn run_opened_alone<N: Naming<Plan, TlmLaw>, P: Pace, R: Wait>(
+    rt: &R,
+    alloc: Global,
+    plan: &Plan,
+    opened: Opened,
+    pace: &P,
+    logs: Logs,
+) -> Result<(Outcome, PlatSealed), Memory>
+    requires history { (opened.table ≡ N.table) × (opened.frame ≡ N.frame) }
+    requires tickets { opened.tokens ≡ N.tokens }
+    requires frame { N.frame ≡ frame_of plan.now }
+    ensures whole { IfOk result (λ r. IsWhole plan.now r.0) }
+    ensures core { IfOk result (λ r. IsCoreRun plan.now r.0.history.entries) }
+    ensures sealed { IfOk result (λ r. entries_read plan.now.platform r.1.entries ≡ r.0.history.entries) }
+    ensures world { IfOk result (λ r. r.1.world ≡ plan.now) }
+    ensures whole_log { logs ≡ Logs.Kept → IfOk result (λ r. r.0.history.whole ≡ true) }
+{
+    let built = build::<N, OneThread>(alloc, opened, plan)?;
+    run_alone::<N, OneThread, P, R>(rt, alloc, built, pace, logs)
 }

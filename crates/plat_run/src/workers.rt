@@ -3,10 +3,9 @@ ghost use Rattle.std.specs.Prelude.{◌≡◌, ◌<◌, true, false, map, length
 ghost use Rattle.plat_run.specs.Actors.{is_done, number_of};
 
 use crate::actor::Actor;
-use crate::logs::{Forgetting, Logs};
 use crate::turn::JobTurn;
 use outside::Pace;
-use plat_net::{Net, Reach, TlmLaw};
+use plat_net::{ManyThreads, Net, Reach, Sharing, TlmLaw};
 use route_plan::Plan;
 use run_queue::{Job, RunQueue, TakenJob};
 use shared_object::Naming;
@@ -19,20 +18,17 @@ use tlm_types::ObjectNo;
 /// Takes a job, gives it its share of turns, and takes the next one as it hands it in, until enough have finished, or
 /// none is in line: each of the others is out with another worker, or parked or at rest until one that is out lets
 /// it go on. Then a worker waits where more workers pay. Where they don't, it leaves, and it leaves after some shares in any
-/// case: the caller goes on alone once all have left, and is faster. Where it `forgets`, it lets memories forget now and
-/// then.
-fn work<N: Naming<Plan, TlmLaw>, P: Pace, R: Wait>(
+/// case: the caller goes on alone once all have left, and is faster.
+fn work<N: Naming<Plan, TlmLaw>, S: Sharing<N>, P: Pace, R: Wait>(
     rt: &R,
-    net: &Net<N>,
+    net: &Net<N, S>,
     board: &Board,
     queue: &RunQueue<Actor<N>>,
     pace: &P,
-    forgets: bool,
 ) {
     let pays = more_workers_pay(net.plan());
     let mut left = SHARES;
     let mut reach = net;
-    let mut forgetting = Forgetting::of(forgets);
     let mut next = queue.take_and_look(rt);
     for _ in rt.forever() {
         let (taken, moves) = next;
@@ -43,9 +39,7 @@ fn work<N: Naming<Plan, TlmLaw>, P: Pace, R: Wait>(
             }
             TakenJob::Took(job) => {
                 left = if pays { left } else { left - 1 };
-                let handed = give_turns(rt, &mut reach, board, queue, pace, job, moves);
-                forgetting.after(rt, net, TURNS);
-                handed
+                give_turns(rt, &mut reach, board, queue, pace, job, moves)
             }
             TakenJob::Nothing if pays => queue.wait_and_take(rt),
             TakenJob::Nothing | TakenJob::AllDone => return,
@@ -62,7 +56,7 @@ const SHARES: u32 = 16;
 
 // Gives a job turns until it has finished, or can't go on, or lets others go on, or has had its share. What the last
 // turn has come to, and whether the job went on before.
-fn give_share<N: Naming<Plan, TlmLaw>, B: Reach<N>, P: Pace, R: Wait>(
+fn give_share<N: Naming<Plan, TlmLaw>, S: Sharing<N>, B: Reach<N, S>, P: Pace, R: Wait>(
     rt: &R,
     reach: &mut B,
     board: &Board,
@@ -100,7 +94,7 @@ fn hand_on<N: Naming<Plan, TlmLaw>, R: Wait>(
 
 // Gives a job its share of turns, hands it in, and takes the next one. Who hands in a job tells the queue which
 // round all have reached, and whether it has moved, so that none stays parked or at rest that can go on.
-fn give_turns<N: Naming<Plan, TlmLaw>, B: Reach<N>, P: Pace, R: Wait>(
+fn give_turns<N: Naming<Plan, TlmLaw>, S: Sharing<N>, B: Reach<N, S>, P: Pace, R: Wait>(
     rt: &R,
     reach: &mut B,
     board: &Board,
@@ -154,29 +148,27 @@ pub(crate) fn work_all<
     R: Threads + Wait + Sync,
 >(
     rt: &R,
-    net: &Net<N>,
+    net: &Net<N, ManyThreads>,
     board: &Board,
     queue: &RunQueue<Actor<N>>,
     workers: u32,
     pace: &P,
-    logs: Logs,
 ) {
-    let forgets = logs.are_forgotten();
     thread::scope(thread::scope_env(), rt, |scope| {
         for _worker in 1..workers {
-            let worker = move || work::<N, P, R>(rt, net, board, queue, pace, forgets);
+            let worker = move || work::<N, ManyThreads, P, R>(rt, net, board, queue, pace);
             if scope.spawn(worker).is_err() {
                 break;
             }
         }
-        work(rt, net, board, queue, pace, forgets);
+        work(rt, net, board, queue, pace);
     });
 }
 
 // Gives each job a turn that hasn't finished, in order, and answers whether one of the first so many needs more.
-fn give_round<N: Naming<Plan, TlmLaw>, P: Pace, R: Wait>(
+fn give_round<N: Naming<Plan, TlmLaw>, S: Sharing<N>, P: Pace, R: Wait>(
     rt: &R,
-    net: &mut Net<N>,
+    net: &mut Net<N, S>,
     board: &Board,
     pace: &P,
     jobs: &mut [Actor<N>],
@@ -195,26 +187,22 @@ fn give_round<N: Naming<Plan, TlmLaw>, P: Pace, R: Wait>(
 }
 
 /// Gives turns by the caller alone, in the order in which they would come off a queue, until the first so many jobs have
-/// finished. No lock is taken to give a turn, and none for the access of a blocking initiator; nor is memory. Where the logs
-/// aren't kept, it lets memories forget now and then.
-pub(crate) fn work_alone<N: Naming<Plan, TlmLaw>, P: Pace, R: Wait>(
+/// finished. No lock is taken to give a turn, and none for the access of a blocking initiator; nor is memory.
+pub(crate) fn work_alone<N: Naming<Plan, TlmLaw>, S: Sharing<N>, P: Pace, R: Wait>(
     rt: &R,
-    net: &mut Net<N>,
+    net: &mut Net<N, S>,
     board: &Board,
     pace: &P,
     jobs: &mut [Actor<N>],
     count: u32,
-    logs: Logs,
 )
     ensures numbers { map number_of jobs.new ≡ map number_of jobs.old }
     ensures done { All (λ job. number_of job < count → is_done job ≡ true) jobs.new }
 {
-    let mut forgetting = Forgetting::of(logs.are_forgotten());
     for _ in rt.forever() {
         if !give_round(rt, net, board, pace, jobs, count) {
             return;
         }
-        forgetting.after(rt, net, count);
     }
     unreachable!()
 }

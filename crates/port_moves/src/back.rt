@@ -14,7 +14,7 @@ use cargo_model::Cargo;
 use cargo_net::{FetchedResponse, TlmLaw};
 use hop_object::Leg;
 use payload_pool::Baton;
-use plat_net::{Net, PlatNote};
+use plat_net::{Net, PlatNote, Sharing};
 use route_plan::Plan;
 use shared_object::Naming;
 use std::sync::Wait;
@@ -23,10 +23,10 @@ use token_book::Ticket;
 
 impl PortState {
     /// Fetches a response from the first hop, if one waits there. It makes no entry.
-    pub fn fetch<N: Naming<Plan, TlmLaw>, R: Wait>(
+    pub fn fetch<N: Naming<Plan, TlmLaw>, S: Sharing<N>, R: Wait>(
         &mut self,
         rt: &R,
-        net: &Net<N>,
+        net: &Net<N, S>,
         note: PlatNote,
     ) -> (Moved, PlatNote)
         requires port { IsPort N.table N.tokens N.frame (with_note self.old note) }
@@ -50,10 +50,10 @@ impl PortState {
     }
 
     /// Makes the END_RESP that is owed, by which the access ends (IEEE 1666-2011, clause 15.2).
-    pub fn end<N: Naming<Plan, TlmLaw>, R: Wait>(
+    pub fn end<N: Naming<Plan, TlmLaw>, S: Sharing<N>, R: Wait>(
         &mut self,
         rt: &R,
-        net: &Net<N>,
+        net: &Net<N, S>,
         note: PlatNote,
         cargo: Cargo,
         leg: Leg,
@@ -77,10 +77,10 @@ impl PortState {
     }
 
     /// Stows the payload of an access that is back, at the time at which it has ended. With it the pump ends.
-    pub fn stow<N: Naming<Plan, TlmLaw>, R: Wait>(
+    pub fn stow<N: Naming<Plan, TlmLaw>, S: Sharing<N>, R: Wait>(
         &mut self,
         rt: &R,
-        net: &Net<N>,
+        net: &Net<N, S>,
         note: PlatNote,
         baton: Baton,
         ticket: Ticket,

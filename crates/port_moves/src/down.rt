@@ -11,17 +11,17 @@ use crate::state::PortState;
 use cargo_model::Cargo;
 use cargo_net::{TlmLaw, Tried};
 use payload_pool::Baton;
-use plat_net::{Net, PlatNote};
+use plat_net::{Net, PlatNote, Sharing};
 use route_plan::Plan;
 use shared_object::Naming;
 use std::sync::Wait;
 
 impl PortState {
     /// Acquires the first reference of an access that was taken, at the time of its Take.
-    pub fn acquire<N: Naming<Plan, TlmLaw>, R: Wait>(
+    pub fn acquire<N: Naming<Plan, TlmLaw>, S: Sharing<N>, R: Wait>(
         &mut self,
         rt: &R,
-        net: &Net<N>,
+        net: &Net<N, S>,
         note: PlatNote,
         baton: Baton,
     ) -> (Moved, PlatNote)
@@ -42,10 +42,10 @@ impl PortState {
     /// Tries BEGIN_REQ on the first hop, at the current time (IEEE 1666-2011, clause 15.2). Where it was made,
     /// the payload is gone, or its memory is still to be called, which gives the response by return. Where a
     /// request is open or no lane free, the request is held, and the pump ends with `busy`.
-    pub fn begin<N: Naming<Plan, TlmLaw>, R: Wait>(
+    pub fn begin<N: Naming<Plan, TlmLaw>, S: Sharing<N>, R: Wait>(
         &mut self,
         rt: &R,
-        net: &Net<N>,
+        net: &Net<N, S>,
         note: PlatNote,
         cargo: Cargo,
         busy: Pumped,

@@ -5,12 +5,12 @@ ghost use Rattle.plat_net.specs.Net.{HasPool};
 ghost use Rattle.port_moves.specs.Reach.{first_hop, own_pool};
 
 use cargo_net::TlmLaw;
-use plat_net::Net;
+use plat_net::{Net, Sharing};
 use route_plan::Plan;
 use shared_object::Naming;
 
 // The number in the history of a hop.
-pub(crate) fn hop_place<N: Naming<Plan, TlmLaw>>(net: &Net<N>, hop: u32) -> u32
+pub(crate) fn hop_place<N: Naming<Plan, TlmLaw>, S: Sharing<N>>(net: &Net<N, S>, hop: u32) -> u32
     requires { hop < hop_count N.frame.world.platform }
     ensures { result ≡ first_hop N.frame.world hop }
 {
@@ -19,7 +19,7 @@ pub(crate) fn hop_place<N: Naming<Plan, TlmLaw>>(net: &Net<N>, hop: u32) -> u32
 }
 
 /// The number in the history of an initiator's pool.
-pub fn pool_place<N: Naming<Plan, TlmLaw>>(net: &Net<N>, initiator: u32) -> u32
+pub fn pool_place<N: Naming<Plan, TlmLaw>, S: Sharing<N>>(net: &Net<N, S>, initiator: u32) -> u32
     requires { HasPool N.frame.world.platform initiator }
     ensures { result ≡ own_pool N.frame.world initiator }
 {

@@ -20,7 +20,7 @@ use crate::state::PortState;
 use crate::wallets::hand_one;
 use cargo_net::TlmLaw;
 use generic_payload::Payload;
-use plat_net::{Carried, Net, PlatNote};
+use plat_net::{Carried, Net, PlatNote, Sharing};
 use region_object::payload_cost;
 use route_plan::Plan;
 use script_engine::Transfer;
@@ -31,9 +31,9 @@ use token_book::Wallet;
 
 // The call of a debug read, which pays for it with a ticket of a wallet. The ticket goes through a purse,
 // so that nothing else of the wallet is touched.
-fn ask<N: Naming<Plan, TlmLaw>, R: Wait>(
+fn ask<N: Naming<Plan, TlmLaw>, S: Sharing<N>, R: Wait>(
     rt: &R,
-    net: &Net<N>,
+    net: &Net<N, S>,
     who: u32,
     payload: Payload,
     note: PlatNote,
@@ -69,10 +69,10 @@ fn ask<N: Naming<Plan, TlmLaw>, R: Wait>(
 
 impl PortState {
     /// The call of a debug read, at the current time, with a ticket of its wallet.
-    pub fn ask<N: Naming<Plan, TlmLaw>, R: Wait>(
+    pub fn ask<N: Naming<Plan, TlmLaw>, S: Sharing<N>, R: Wait>(
         &mut self,
         rt: &R,
-        net: &Net<N>,
+        net: &Net<N, S>,
         who: u32,
         payload: Payload,
         note: PlatNote,

@@ -17,7 +17,7 @@ use crate::state::PortState;
 use cargo_model::Cargo;
 use cargo_net::TlmLaw;
 use generic_payload::Payload;
-use plat_net::{Net, PlatNote};
+use plat_net::{Net, PlatNote, Sharing};
 use route_plan::Plan;
 use shared_object::Naming;
 use std::sync::Wait;
@@ -29,10 +29,10 @@ impl PortState {
     /// that it didn't need into the port's wallet, and takes the access back: it isn't outstanding any more,
     /// and the engine is told the payload where it waits for it. Of a payload that was not outstanding
     /// nothing is taken but its tickets.
-    pub fn take_back<N: Naming<Plan, TlmLaw>, R: Wait>(
+    pub fn take_back<N: Naming<Plan, TlmLaw>, S: Sharing<N>, R: Wait>(
         &mut self,
         rt: &R,
-        net: &Net<N>,
+        net: &Net<N, S>,
         note: PlatNote,
         cargo: Cargo,
         end: Ps,

@@ -12,7 +12,7 @@ use cargo_model::Cargo;
 use cargo_net::TlmLaw;
 use hop_object::Leg;
 use node_hops::memory_behind;
-use plat_net::{Net, PlatNote};
+use plat_net::{Net, PlatNote, Sharing};
 use route_plan::Plan;
 use shared_object::Naming;
 use std::sync::Wait;
@@ -21,10 +21,10 @@ use tlm_types::Ps;
 impl PortState {
     /// Makes the access of a request whose response comes by return, at the time of its BEGIN_REQ. The
     /// response is due after the memory's latency.
-    pub fn serve<N: Naming<Plan, TlmLaw>, R: Wait>(
+    pub fn serve<N: Naming<Plan, TlmLaw>, S: Sharing<N>, R: Wait>(
         &mut self,
         rt: &R,
-        net: &Net<N>,
+        net: &Net<N, S>,
         note: PlatNote,
         cargo: Cargo,
         at: Ps,

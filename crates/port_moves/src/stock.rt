@@ -9,7 +9,7 @@ use crate::places::{hop_place, pool_place};
 use crate::wallets::{hand_one, hand_over};
 use cargo_net::TlmLaw;
 use generic_payload::Payload;
-use plat_net::Net;
+use plat_net::{Net, Sharing};
 use region_object::payload_cost;
 use route_plan::Plan;
 use shared_object::Naming;
@@ -17,8 +17,8 @@ use token_book::Wallet;
 
 // Moves four tickets of each hop that the address passes into a wallet that is empty, and answers how many
 // hops these are.
-fn stock_hops<N: Naming<Plan, TlmLaw>>(
-    net: &Net<N>,
+fn stock_hops<N: Naming<Plan, TlmLaw>, S: Sharing<N>>(
+    net: &Net<N, S>,
     initiator: u32,
     address: u64,
     from: &mut Wallet,
@@ -43,8 +43,8 @@ fn stock_hops<N: Naming<Plan, TlmLaw>>(
 // Moves the tickets of an access at this address into the wallet of its payload: four of each hop on its
 // way, those of the references that are still to come, and one of the memory, where it has a route, for the
 // bytes that the access logs there. Answers whether it has a route.
-pub(crate) fn stock<N: Naming<Plan, TlmLaw>>(
-    net: &Net<N>,
+pub(crate) fn stock<N: Naming<Plan, TlmLaw>, S: Sharing<N>>(
+    net: &Net<N, S>,
     initiator: u32,
     address: u64,
     payload: &Payload,

@@ -26,7 +26,7 @@ use crate::wallets::put_back;
 use cargo_net::TlmLaw;
 use generic_payload::Payload;
 use payload_pool::Baton;
-use plat_net::Net;
+use plat_net::{Net, Sharing};
 use route_plan::Plan;
 use script_engine::{Transfer, TransferKind};
 use shared_object::Naming;
@@ -102,9 +102,9 @@ impl PortState {
     }
 
     // Moves the tickets of the access that is next out of its wallet into that of the payload. Answers whether it has a route.
-    pub(crate) fn give<N: Naming<Plan, TlmLaw>>(
+    pub(crate) fn give<N: Naming<Plan, TlmLaw>, S: Sharing<N>>(
         &mut self,
-        net: &Net<N>,
+        net: &Net<N, S>,
         initiator: u32,
         address: u64,
         payload: &Payload,
@@ -179,7 +179,12 @@ impl PortState {
 
     /// Fills a payload that was taken for the access that is next, with the tickets of the access, works on it, and goes on
     /// in the script, or waits where the access is fenced. Without a route it is noted as refused.
-    pub fn load<N: Naming<Plan, TlmLaw>>(&mut self, net: &Net<N>, transfer: Transfer, baton: Baton)
+    pub fn load<N: Naming<Plan, TlmLaw>, S: Sharing<N>>(
+        &mut self,
+        net: &Net<N, S>,
+        transfer: Transfer,
+        baton: Baton,
+    )
         requires next { next_of self.old.port.engine ≡ Asks transfer }
         requires access { IsAccessOf transfer.kind }
         requires initiator { self.old.port.engine.initiator < length N.frame.world.platform.initiators }

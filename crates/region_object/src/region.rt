@@ -127,8 +127,8 @@ impl Region {
         &self.log
     }
 
-    /// The log forgets the entries that it has in store, so that they can't be read any more. Nothing else
-    /// changes.
+    /// The log forgets its entries, and those that come after them, so that they can't be read any more.
+    /// Nothing else changes.
     pub fn forget(&mut self)
         ensures { self.new ≡ record self.old { log = record self.old.log { whole = self.new.log.whole } } }
     {

@@ -12,7 +12,7 @@ ghost use Rattle.router_moves.specs.Turns.{HasTurned, TurnAdds};
 use crate::down::{descend, way_behind};
 use crate::items::{Down, RouterRequest, RouterResponse};
 use crate::up::refuse;
-use plat_net::{Net, PlatNote, TlmLaw};
+use plat_net::{Net, PlatNote, Sharing, TlmLaw};
 use route_plan::Plan;
 use shared_object::Naming;
 use std::sync::Wait;
@@ -29,8 +29,8 @@ pub enum Turned {
 
 /// Turns a request that was fetched to the hop behind its window, as `descend` does; or, where the router has
 /// no window for its address, back, as `refuse` does, without an entry.
-pub fn turn<N: Naming<Plan, TlmLaw>, R: Wait>(
-    net: &Net<N>,
+pub fn turn<N: Naming<Plan, TlmLaw>, S: Sharing<N>, R: Wait>(
+    net: &Net<N, S>,
     rt: &R,
     router: u32,
     first: u32,

@@ -14,7 +14,7 @@ ghost use Rattle.router_moves.specs.Moves.{EndsAbove, HasPassed, HasServedBelow,
 
 use crate::items::{Back, BegunBelow, Down, PassedOn, RouterRequest, WayBehind};
 use cargo_net::{Descended, FetchedRequest, Tried};
-use plat_net::{Net, PlatNote, TlmLaw};
+use plat_net::{Net, PlatNote, Sharing, TlmLaw};
 use route_plan::Plan;
 use shared_object::Naming;
 use std::sync::Wait;
@@ -22,8 +22,8 @@ use tlm_types::Ps;
 
 /// Fetches the request that waits on a hop to this router with the least time, equal times in order of
 /// arrival; none exactly where none waits. It makes no entry and spends no ticket.
-pub fn fetch_down<N: Naming<Plan, TlmLaw>, R: Wait>(
-    net: &Net<N>,
+pub fn fetch_down<N: Naming<Plan, TlmLaw>, S: Sharing<N>, R: Wait>(
+    net: &Net<N, S>,
     rt: &R,
     router: u32,
     hop: u32,
@@ -64,8 +64,8 @@ pub fn fetch_down<N: Naming<Plan, TlmLaw>, R: Wait>(
 
 /// What is behind the window of a router that has an address, in bytes (IEEE 1666-2011, clause 14.7); none
 /// exactly where no window has it. `first` is the number of the hop of the router's first window.
-pub fn way_behind<N: Naming<Plan, TlmLaw>>(
-    net: &Net<N>,
+pub fn way_behind<N: Naming<Plan, TlmLaw>, S: Sharing<N>>(
+    net: &Net<N, S>,
     router: u32,
     first: u32,
     address: u64,
@@ -96,8 +96,8 @@ fn owed_above(accepts: bool, hop: u32) -> Option<u32>
 /// the router: that of its BEGIN_REQ and the router's latency, in picoseconds. The request has the address
 /// behind its window then (IEEE 1666-2011, clauses 14.5 and 14.7). Where the router accepts requests,
 /// END_REQ is owed above.
-pub fn descend<N: Naming<Plan, TlmLaw>, R: Wait>(
-    net: &Net<N>,
+pub fn descend<N: Naming<Plan, TlmLaw>, S: Sharing<N>, R: Wait>(
+    net: &Net<N, S>,
     rt: &R,
     router: u32,
     accepts: bool,
@@ -172,8 +172,8 @@ pub enum Passed {
 
 /// Tries BEGIN_REQ on the hop below, at the time at which the request leaves the router (IEEE 1666-2011,
 /// clause 15.2). Where a request is open there or no lane is free, it comes back as it was.
-pub fn pass_on<N: Naming<Plan, TlmLaw>, R: Wait>(
-    net: &Net<N>,
+pub fn pass_on<N: Naming<Plan, TlmLaw>, S: Sharing<N>, R: Wait>(
+    net: &Net<N, S>,
     rt: &R,
     note: PlatNote,
     down: Down,
@@ -218,8 +218,8 @@ pub fn pass_on<N: Naming<Plan, TlmLaw>, R: Wait>(
 
 /// Makes the access of a request whose response comes by return, at the time of its BEGIN_REQ below (IEEE
 /// 1666-2011, clause 14). The response may go up after the memory's latency, in picoseconds.
-pub fn serve_below<N: Naming<Plan, TlmLaw>, R: Wait>(
-    net: &Net<N>,
+pub fn serve_below<N: Naming<Plan, TlmLaw>, S: Sharing<N>, R: Wait>(
+    net: &Net<N, S>,
     rt: &R,
     memory: u32,
     latency: Ps,
@@ -251,8 +251,8 @@ pub fn serve_below<N: Naming<Plan, TlmLaw>, R: Wait>(
 }
 
 /// Makes the END_REQ that is owed above, at the time of the BEGIN_REQ below (IEEE 1666-2011, clause 15.2).
-pub fn end_above<N: Naming<Plan, TlmLaw>, R: Wait>(
-    net: &Net<N>,
+pub fn end_above<N: Naming<Plan, TlmLaw>, S: Sharing<N>, R: Wait>(
+    net: &Net<N, S>,
     rt: &R,
     note: PlatNote,
     held: PassedOn,

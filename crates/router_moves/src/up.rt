@@ -20,7 +20,7 @@ use cargo_model::Cargo;
 use cargo_net::{Answered, FetchedResponse};
 use hop_object::Leg;
 use payload_pool::Baton;
-use plat_net::{Net, PlatNote, TlmLaw};
+use plat_net::{Net, PlatNote, Sharing, TlmLaw};
 use route_plan::Plan;
 use shared_object::Naming;
 use std::sync::Wait;
@@ -28,8 +28,8 @@ use tlm_types::{Ps, Response as Status, TlmSync, TxnId};
 
 /// Answers a request for whose address the router has no window, with ADDRESS_ERROR (IEEE 1666-2011, clause
 /// 14.17). The response is due after the router's latency, in picoseconds. It makes no entry.
-pub fn refuse<N: Naming<Plan, TlmLaw>>(
-    net: &Net<N>,
+pub fn refuse<N: Naming<Plan, TlmLaw>, S: Sharing<N>>(
+    net: &Net<N, S>,
     router: u32,
     latency: Ps,
     note: &PlatNote,
@@ -68,8 +68,8 @@ pub struct FromBelow {
 
 /// Fetches the response that waits on the hop of a window with the least time, equal times in order of
 /// arrival; none exactly where none waits. It makes no entry and spends no ticket.
-pub fn fetch_up<N: Naming<Plan, TlmLaw>, R: Wait>(
-    net: &Net<N>,
+pub fn fetch_up<N: Naming<Plan, TlmLaw>, S: Sharing<N>, R: Wait>(
+    net: &Net<N, S>,
     rt: &R,
     hop: u32,
     note: PlatNote,
@@ -102,8 +102,8 @@ pub fn fetch_up<N: Naming<Plan, TlmLaw>, R: Wait>(
 }
 
 // The end below that is owed where there is a leg for it, with a ticket of the payload's wallet.
-fn end_of<N: Naming<Plan, TlmLaw>>(
-    net: &Net<N>,
+fn end_of<N: Naming<Plan, TlmLaw>, S: Sharing<N>>(
+    net: &Net<N, S>,
     below: u32,
     leg: Option<Leg>,
     at: Ps,
@@ -127,8 +127,8 @@ fn end_of<N: Naming<Plan, TlmLaw>>(
 /// Turns a response that is back upwards: it gets the reference that came with its request, and may go up on
 /// the hop above. What is to be made below stays, with its tickets out of the payload's own wallet. It makes
 /// no entry.
-pub fn turn_up<N: Naming<Plan, TlmLaw>>(
-    net: &Net<N>,
+pub fn turn_up<N: Naming<Plan, TlmLaw>, S: Sharing<N>>(
+    net: &Net<N, S>,
     note: &PlatNote,
     held: PassedOn,
     back: Back,
@@ -200,8 +200,8 @@ fn sent_by(answer: TlmSync, at: Ps, note: PlatNote) -> Sent
 
 /// Tries BEGIN_RESP on the hop above, at the time at which the response is due (IEEE 1666-2011, clause 15.2).
 /// Where a response is open there, this one comes back as it was.
-pub fn send_up<N: Naming<Plan, TlmLaw>, R: Wait>(
-    net: &Net<N>,
+pub fn send_up<N: Naming<Plan, TlmLaw>, S: Sharing<N>, R: Wait>(
+    net: &Net<N, S>,
     rt: &R,
     note: PlatNote,
     response: RouterResponse,
@@ -241,8 +241,8 @@ pub fn send_up<N: Naming<Plan, TlmLaw>, R: Wait>(
 
 /// Looks whether a transaction that has begun on the hop above has ended there. It makes no entry and spends
 /// no ticket.
-pub fn has_ended_above<N: Naming<Plan, TlmLaw>, R: Wait>(
-    net: &Net<N>,
+pub fn has_ended_above<N: Naming<Plan, TlmLaw>, S: Sharing<N>, R: Wait>(
+    net: &Net<N, S>,
     rt: &R,
     hop: u32,
     note: PlatNote,
@@ -263,8 +263,8 @@ pub fn has_ended_above<N: Naming<Plan, TlmLaw>, R: Wait>(
 
 /// Makes the END_RESP that is owed below, at the time of the BEGIN_RESP above (IEEE 1666-2011, clause 15.2).
 /// The transaction has ended above.
-pub fn end_below<N: Naming<Plan, TlmLaw>, R: Wait>(
-    net: &Net<N>,
+pub fn end_below<N: Naming<Plan, TlmLaw>, S: Sharing<N>, R: Wait>(
+    net: &Net<N, S>,
     rt: &R,
     note: PlatNote,
     rest: Rest,
@@ -303,8 +303,8 @@ pub fn end_below<N: Naming<Plan, TlmLaw>, R: Wait>(
 
 /// Releases the reference of the hop below, at the time at which the transaction has ended there (IEEE
 /// 1666-2011, clause 14.5).
-pub fn release<N: Naming<Plan, TlmLaw>, R: Wait>(
-    net: &Net<N>,
+pub fn release<N: Naming<Plan, TlmLaw>, S: Sharing<N>, R: Wait>(
+    net: &Net<N, S>,
     rt: &R,
     note: PlatNote,
     rest: Rest,

@@ -7,7 +7,7 @@ ghost use Rattle.tlm_model.specs.declared.platform.Target.TheVariants.{Router};
 ghost use Rattle.node_hops.specs.Hops.{IsHopTo};
 ghost use Rattle.router_node.specs.Finds.{HasFoundBack, HasFoundRequest, IsHopBelow};
 
-use plat_net::{Net, PlatNote, TlmLaw};
+use plat_net::{Net, PlatNote, Sharing, TlmLaw};
 use route_plan::Plan;
 use router_moves::{FromBelow, RouterRequest, fetch_down, fetch_up};
 use shared_object::Naming;
@@ -21,8 +21,8 @@ pub struct Found {
 }
 
 /// Fetches a response from the first of these hops of windows at which one waits. It makes no entry.
-pub fn find_back<N: Naming<Plan, TlmLaw>, R: Wait>(
-    net: &Net<N>,
+pub fn find_back<N: Naming<Plan, TlmLaw>, S: Sharing<N>, R: Wait>(
+    net: &Net<N, S>,
     rt: &R,
     hops: &[u32],
     note: PlatNote,
@@ -47,8 +47,8 @@ pub fn find_back<N: Naming<Plan, TlmLaw>, R: Wait>(
 }
 
 /// Fetches a request from the first of these hops to the router at which one waits. It makes no entry.
-pub fn find_request<N: Naming<Plan, TlmLaw>, R: Wait>(
-    net: &Net<N>,
+pub fn find_request<N: Naming<Plan, TlmLaw>, S: Sharing<N>, R: Wait>(
+    net: &Net<N, S>,
     rt: &R,
     router: u32,
     hops: &[u32],

@@ -5,7 +5,7 @@ ghost use Rattle.router_node.specs.Finds.{AreLookedAt};
 
 use crate::node::RouterNode;
 use crate::stage::{Stage, Step, is_about};
-use plat_net::{Net, TlmLaw};
+use plat_net::{Net, Sharing, TlmLaw};
 use route_plan::Plan;
 use shared_object::Naming;
 use std::collections::VecDeque;
@@ -18,7 +18,11 @@ pub(crate) enum Wanted {
 }
 
 // Whether it may wait there.
-fn may_wait<N: Naming<Plan, TlmLaw>>(net: &Net<N>, wanted: Wanted, hop: u32) -> bool {
+fn may_wait<N: Naming<Plan, TlmLaw>, S: Sharing<N>>(
+    net: &Net<N, S>,
+    wanted: Wanted,
+    hop: u32,
+) -> bool {
     match wanted {
         Wanted::Request => net.may_have_request(hop),
         Wanted::Response => net.may_have_response(hop),
@@ -44,8 +48,8 @@ fn no_hop(hops: &[u32]) -> &[u32]
 }
 
 /// The hops at which to look: all of these, or in haste the first at which what is wanted may wait.
-pub(crate) fn hops_at<'a, N: Naming<Plan, TlmLaw>>(
-    net: &Net<N>,
+pub(crate) fn hops_at<'a, N: Naming<Plan, TlmLaw>, S: Sharing<N>>(
+    net: &Net<N, S>,
     hasty: bool,
     wanted: Wanted,
     hops: &'a [u32],
@@ -64,7 +68,7 @@ pub(crate) fn hops_at<'a, N: Naming<Plan, TlmLaw>>(
 }
 
 // Whether the step that is one for a transaction may move it.
-fn may_go<N: Naming<Plan, TlmLaw>>(net: &Net<N>, stage: &Stage) -> bool {
+fn may_go<N: Naming<Plan, TlmLaw>, S: Sharing<N>>(net: &Net<N, S>, stage: &Stage) -> bool {
     match stage {
         Stage::Sent(away) => away.ended || net.may_respond(away.above),
         Stage::Up(response, _) => net.may_respond(response.hop),
@@ -75,8 +79,8 @@ fn may_go<N: Naming<Plan, TlmLaw>>(net: &Net<N>, stage: &Stage) -> bool {
 
 // The first place from here on whose transaction a step may move.
 #[inline(always)]
-fn next_due<N: Naming<Plan, TlmLaw>>(
-    net: &Net<N>,
+fn next_due<N: Naming<Plan, TlmLaw>, S: Sharing<N>>(
+    net: &Net<N, S>,
     what: Step,
     held: &VecDeque<Stage>,
     from: usize,
@@ -97,8 +101,8 @@ fn next_due<N: Naming<Plan, TlmLaw>>(
 /// The place at which to make a step next: this one, or in haste the first from here on whose transaction it may move. It
 /// is behind all of them where there is none. Each step has a loop of its own, which asks for nothing else.
 #[inline(always)]
-pub(crate) fn next_place<N: Naming<Plan, TlmLaw>>(
-    net: &Net<N>,
+pub(crate) fn next_place<N: Naming<Plan, TlmLaw>, S: Sharing<N>>(
+    net: &Net<N, S>,
     hasty: bool,
     what: Step,
     held: &VecDeque<Stage>,
@@ -128,7 +132,10 @@ pub(crate) struct Due {
 }
 
 // What is due in haste. Whether a request may go down is asked when its turn comes, since what is ended before may make way.
-fn due_in_haste<N: Naming<Plan, TlmLaw>>(net: &Net<N>, held: &VecDeque<Stage>) -> Due {
+fn due_in_haste<N: Naming<Plan, TlmLaw>, S: Sharing<N>>(
+    net: &Net<N, S>,
+    held: &VecDeque<Stage>,
+) -> Due {
     let mut due = Due {
         ends: false,
         sends: false,
@@ -147,8 +154,8 @@ fn due_in_haste<N: Naming<Plan, TlmLaw>>(net: &Net<N>, held: &VecDeque<Stage>) -
 
 impl Due {
     /// By one look over the transactions that are held.
-    pub(crate) fn of<N: Naming<Plan, TlmLaw>>(
-        net: &Net<N>,
+    pub(crate) fn of<N: Naming<Plan, TlmLaw>, S: Sharing<N>>(
+        net: &Net<N, S>,
         hasty: bool,
         held: &VecDeque<Stage>,
     ) -> Due
@@ -168,7 +175,10 @@ impl Due {
 }
 
 /// Whether a pump may move a transaction, by what the net tells of hops.
-pub(crate) fn may_move<N: Naming<Plan, TlmLaw>>(router: &RouterNode, net: &Net<N>) -> bool {
+pub(crate) fn may_move<N: Naming<Plan, TlmLaw>, S: Sharing<N>>(
+    router: &RouterNode,
+    net: &Net<N, S>,
+) -> bool {
     let back = hops_at(net, true, Wanted::Response, router.below.as_slice());
     if router.stray.is_none() && !back.is_empty() {
         return true;

@@ -6,7 +6,7 @@ ghost use Rattle.router_node.specs.Stages.{IsStage};
 
 use crate::finds::Found;
 use crate::stage::Stage;
-use plat_net::{Net, PlatNote, TlmLaw};
+use plat_net::{Net, PlatNote, Sharing, TlmLaw};
 use route_plan::Plan;
 use router_moves::{PassedOn, turn_up};
 use shared_object::Naming;
@@ -30,8 +30,8 @@ pub(crate) fn is_joined(stage: &Stage, found: &Found) -> bool
 
 /// Joins a response from below with a transaction that the router holds, if it is that one's: it is to go up
 /// then. Else both come back as they were. It makes no entry.
-pub fn join<N: Naming<Plan, TlmLaw>>(
-    net: &Net<N>,
+pub fn join<N: Naming<Plan, TlmLaw>, S: Sharing<N>>(
+    net: &Net<N, S>,
     note: &PlatNote,
     stage: Stage,
     found: Found,

@@ -6,7 +6,7 @@ ghost use Rattle.router_node.specs.Hops.{IsNew, row_windows};
 
 use crate::node::RouterNode;
 use node_hops::{hops_to, traits_of};
-use plat_net::{Net, TlmLaw};
+use plat_net::{Net, Sharing, TlmLaw};
 use route_plan::Plan;
 use shared_object::Naming;
 use std::alloc::{AllocError, Global};
@@ -54,9 +54,9 @@ fn hops_from(alloc: Global, first: u32, count: u32) -> Result<Vec<u32>, AllocErr
 impl RouterNode {
     /// The router of a net with this number, between the hops that lead to it and those of its windows. It has
     /// room for as many transactions as those that lead to it have lanes. Its only error is want of memory.
-    pub fn new<N: Naming<Plan, TlmLaw>>(
+    pub fn new<N: Naming<Plan, TlmLaw>, S: Sharing<N>>(
         alloc: Global,
-        net: &Net<N>,
+        net: &Net<N, S>,
         router: u32,
     ) -> Result<RouterNode, Memory>
         requires { router < length N.frame.world.platform.routers }

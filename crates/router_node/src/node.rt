@@ -20,7 +20,7 @@ use crate::haste::{Due, Wanted, hops_at, may_move, next_place};
 use crate::joins::{is_joined, join};
 use crate::stage::{SentUp, Stage, Step, finish_away, look_for_end, pass, send};
 use node_hops::{Node, Pumped};
-use plat_net::{Net, PlatNote, TlmLaw};
+use plat_net::{Net, PlatNote, Sharing, TlmLaw};
 use route_plan::Plan;
 use router_moves::{Turned, turn};
 use shared_object::Naming;
@@ -131,8 +131,8 @@ pub fn take_sent(held: &mut VecDeque<Stage>, at: usize) -> SentUp
 
 // Ends below the response at a place, if one that was sent stands there and has ended above. It is forgotten
 // then. The place of the next transaction, and whether this one was moved.
-fn end_at<N: Naming<Plan, TlmLaw>, R: Wait>(
-    net: &Net<N>,
+fn end_at<N: Naming<Plan, TlmLaw>, S: Sharing<N>, R: Wait>(
+    net: &Net<N, S>,
     rt: &R,
     note: PlatNote,
     held: &mut VecDeque<Stage>,
@@ -163,8 +163,8 @@ fn end_at<N: Naming<Plan, TlmLaw>, R: Wait>(
 
 /// Tries to send the response at a place up, if one that is to go up stands there. What it makes of it stands there then.
 /// The place of the next transaction, and whether this one was moved.
-pub fn send_at<N: Naming<Plan, TlmLaw>, R: Wait>(
-    net: &Net<N>,
+pub fn send_at<N: Naming<Plan, TlmLaw>, S: Sharing<N>, R: Wait>(
+    net: &Net<N, S>,
     rt: &R,
     note: PlatNote,
     held: &mut VecDeque<Stage>,
@@ -196,8 +196,8 @@ pub fn send_at<N: Naming<Plan, TlmLaw>, R: Wait>(
 
 // Tries to pass the request at a place on, if one that is to go down stands there. What it makes of it stands there then.
 // The place of the next transaction, and whether this one was moved.
-fn pass_at<N: Naming<Plan, TlmLaw>, R: Wait>(
-    net: &Net<N>,
+fn pass_at<N: Naming<Plan, TlmLaw>, S: Sharing<N>, R: Wait>(
+    net: &Net<N, S>,
     rt: &R,
     note: PlatNote,
     held: &mut VecDeque<Stage>,
@@ -227,8 +227,8 @@ fn pass_at<N: Naming<Plan, TlmLaw>, R: Wait>(
 
 // Comes by the transaction at a place: makes the step with it, if it is one for it. The place of the next one, and whether
 // this one was moved.
-fn come_by<N: Naming<Plan, TlmLaw>, R: Wait>(
-    net: &Net<N>,
+fn come_by<N: Naming<Plan, TlmLaw>, S: Sharing<N>, R: Wait>(
+    net: &Net<N, S>,
     rt: &R,
     what: Step,
     note: PlatNote,
@@ -255,8 +255,8 @@ fn come_by<N: Naming<Plan, TlmLaw>, R: Wait>(
 
 // Makes a step with each transaction that is held, in order. Those that it isn't one for are looked at alone. In haste
 // those are left out with which it would be in vain, by what the net tells. Whether one was moved.
-fn sweep<N: Naming<Plan, TlmLaw>, R: Wait>(
-    net: &Net<N>,
+fn sweep<N: Naming<Plan, TlmLaw>, S: Sharing<N>, R: Wait>(
+    net: &Net<N, S>,
     rt: &R,
     hasty: bool,
     what: Step,
@@ -302,8 +302,8 @@ fn place_of(held: &VecDeque<Stage>, found: &Found) -> Option<usize>
 }
 
 // Joins a response from below with the first transaction that it is of. It comes back where it is of none.
-fn join_one<N: Naming<Plan, TlmLaw>>(
-    net: &Net<N>,
+fn join_one<N: Naming<Plan, TlmLaw>, S: Sharing<N>>(
+    net: &Net<N, S>,
     note: &PlatNote,
     held: &mut VecDeque<Stage>,
     found: Found,
@@ -336,9 +336,9 @@ fn stage_of(turned: Turned) -> Stage
 
 impl RouterNode {
     // Makes a step with each transaction that is held, in order of arrival; in haste where it is due. Whether one was moved.
-    fn sweep<N: Naming<Plan, TlmLaw>, R: Wait>(
+    fn sweep<N: Naming<Plan, TlmLaw>, S: Sharing<N>, R: Wait>(
         &mut self,
-        net: &Net<N>,
+        net: &Net<N, S>,
         rt: &R,
         hasty: bool,
         due: bool,
@@ -362,9 +362,9 @@ impl RouterNode {
     }
 
     /// Fetches a response from below, where no stray one is kept. In haste it looks at one hop alone. Whether it did.
-    pub fn take_back<N: Naming<Plan, TlmLaw>, R: Wait>(
+    pub fn take_back<N: Naming<Plan, TlmLaw>, S: Sharing<N>, R: Wait>(
         &mut self,
-        net: &Net<N>,
+        net: &Net<N, S>,
         rt: &R,
         hasty: bool,
         note: PlatNote,
@@ -392,9 +392,9 @@ impl RouterNode {
 
     /// Fetches a request from above, where there is room for it, and turns it down or back. In haste it looks at one hop
     /// alone. Whether it did. One that is to go down has a reference of the hop below, by an entry.
-    pub fn take_in<N: Naming<Plan, TlmLaw>, R: Wait>(
+    pub fn take_in<N: Naming<Plan, TlmLaw>, S: Sharing<N>, R: Wait>(
         &mut self,
-        net: &Net<N>,
+        net: &Net<N, S>,
         rt: &R,
         hasty: bool,
         note: PlatNote,
@@ -434,9 +434,9 @@ impl RouterNode {
 
     // Goes once through the steps of a pump, in their order; in haste or with every look. Whether one has moved a
     // transaction.
-    fn go_through<N: Naming<Plan, TlmLaw>, R: Wait>(
+    fn go_through<N: Naming<Plan, TlmLaw>, S: Sharing<N>, R: Wait>(
         &mut self,
-        net: &Net<N>,
+        net: &Net<N, S>,
         rt: &R,
         hasty: bool,
         note: PlatNote,
@@ -461,9 +461,9 @@ impl RouterNode {
     }
 
     // Goes through in haste, and where nothing was moved once more with every look. Whether a transaction was moved.
-    fn go_on<N: Naming<Plan, TlmLaw>, R: Wait>(
+    fn go_on<N: Naming<Plan, TlmLaw>, S: Sharing<N>, R: Wait>(
         &mut self,
-        net: &Net<N>,
+        net: &Net<N, S>,
         rt: &R,
         note: PlatNote,
     ) -> (bool, PlatNote)
@@ -502,7 +502,12 @@ impl<N: Naming<Plan, TlmLaw>> Node<N> for RouterNode {
     /// First it does so in haste: it leaves out tries and looks of which the net tells that they would be in vain. Only
     /// where nothing was moved so, it goes through once more, with every try and every look. The answer is Did where a
     /// transaction was moved. It takes no memory and can't fail.
-    fn pump<R: Wait>(&mut self, net: &Net<N>, rt: &R, note: PlatNote) -> (Pumped, PlatNote)
+    fn pump<S: Sharing<N>, R: Wait>(
+        &mut self,
+        net: &Net<N, S>,
+        rt: &R,
+        note: PlatNote,
+    ) -> (Pumped, PlatNote)
         requires node { IsRouter N.frame N.tokens self.old note.knows.known }
         requires note { IsNote N.table note }
         requires below { StandBelow note.knows.known note.knows.seen }
@@ -517,7 +522,7 @@ impl<N: Naming<Plan, TlmLaw>> Node<N> for RouterNode {
     }
 
     /// Whether a pump may move a transaction, by what the net tells of hops. No clause speaks of it.
-    fn may_move(&self, net: &Net<N>) -> bool {
+    fn may_move<S: Sharing<N>>(&self, net: &Net<N, S>) -> bool {
         may_move(self, net)
     }
 }

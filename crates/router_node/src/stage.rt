@@ -14,7 +14,7 @@ ghost use Rattle.router_node.specs.declared.stage.Stage.TheVariants as Stages;
 ghost use Rattle.router_node.specs.declared.stage.Step.TheVariants as Steps;
 
 use node_hops::memory_behind;
-use plat_net::{Net, PlatNote, TlmLaw};
+use plat_net::{Net, PlatNote, Sharing, TlmLaw};
 use route_plan::Plan;
 use router_moves::{
     BegunBelow, Down, End, Passed, PassedOn, Rest, RouterResponse, Sent, end_above, end_below,
@@ -60,8 +60,8 @@ pub enum Step {
 }
 
 // Makes what is left to be made below, for a transaction that has ended above.
-fn finish_below<N: Naming<Plan, TlmLaw>, R: Wait>(
-    net: &Net<N>,
+fn finish_below<N: Naming<Plan, TlmLaw>, S: Sharing<N>, R: Wait>(
+    net: &Net<N, S>,
     rt: &R,
     note: PlatNote,
     rest: Rest,
@@ -85,8 +85,8 @@ fn finish_below<N: Naming<Plan, TlmLaw>, R: Wait>(
 
 // Makes what is left to be made below for a response that was sent and has ended above, if it came from
 // there.
-pub(crate) fn finish_away<N: Naming<Plan, TlmLaw>, R: Wait>(
-    net: &Net<N>,
+pub(crate) fn finish_away<N: Naming<Plan, TlmLaw>, S: Sharing<N>, R: Wait>(
+    net: &Net<N, S>,
     rt: &R,
     note: PlatNote,
     away: SentUp,
@@ -108,8 +108,8 @@ pub(crate) fn finish_away<N: Naming<Plan, TlmLaw>, R: Wait>(
 }
 
 /// Looks whether a response that was sent has ended above; by its answer it may have. It makes no entry.
-pub fn look_for_end<N: Naming<Plan, TlmLaw>, R: Wait>(
-    net: &Net<N>,
+pub fn look_for_end<N: Naming<Plan, TlmLaw>, S: Sharing<N>, R: Wait>(
+    net: &Net<N, S>,
     rt: &R,
     note: PlatNote,
     away: &SentUp,
@@ -129,8 +129,8 @@ pub fn look_for_end<N: Naming<Plan, TlmLaw>, R: Wait>(
 }
 
 /// Tries to send a response up, by BEGIN_RESP (IEEE 1666-2011, clause 15.2).
-pub fn send<N: Naming<Plan, TlmLaw>, R: Wait>(
-    net: &Net<N>,
+pub fn send<N: Naming<Plan, TlmLaw>, S: Sharing<N>, R: Wait>(
+    net: &Net<N, S>,
     rt: &R,
     note: PlatNote,
     response: RouterResponse,
@@ -174,8 +174,8 @@ pub fn send<N: Naming<Plan, TlmLaw>, R: Wait>(
 
 /// Makes END_REQ above for a request that has gone down at this time, in picoseconds, where it is owed (IEEE
 /// 1666-2011, clause 15.2).
-pub fn settle<N: Naming<Plan, TlmLaw>, R: Wait>(
-    net: &Net<N>,
+pub fn settle<N: Naming<Plan, TlmLaw>, S: Sharing<N>, R: Wait>(
+    net: &Net<N, S>,
     rt: &R,
     note: PlatNote,
     held: PassedOn,
@@ -196,8 +196,8 @@ pub fn settle<N: Naming<Plan, TlmLaw>, R: Wait>(
 }
 
 /// Calls the memory of a request whose response comes by return (IEEE 1666-2011, clause 14). The response is to go up.
-pub fn serve<N: Naming<Plan, TlmLaw>, R: Wait>(
-    net: &Net<N>,
+pub fn serve<N: Naming<Plan, TlmLaw>, S: Sharing<N>, R: Wait>(
+    net: &Net<N, S>,
     rt: &R,
     note: PlatNote,
     held: PassedOn,
@@ -223,8 +223,8 @@ pub fn serve<N: Naming<Plan, TlmLaw>, R: Wait>(
 
 /// Tries to pass a request on. Where its response comes by return, the memory is called, and the response is
 /// to go up.
-pub(crate) fn pass<N: Naming<Plan, TlmLaw>, R: Wait>(
-    net: &Net<N>,
+pub(crate) fn pass<N: Naming<Plan, TlmLaw>, S: Sharing<N>, R: Wait>(
+    net: &Net<N, S>,
     rt: &R,
     note: PlatNote,
     down: Down,

@@ -12,7 +12,7 @@ ghost use Rattle.router_node.specs.Stages.{IsByRouter};
 
 use crate::tries::{Tried, hold_below, move_once, put_in};
 use node_hops::OneStep;
-use plat_net::{Net, PlatNote, TlmLaw};
+use plat_net::{Net, PlatNote, Sharing, TlmLaw};
 use route_plan::Plan;
 use router_moves::{BegunBelow, PassedOn, Rest, end_above, release};
 use router_node::{RouterNode, serve};
@@ -43,8 +43,8 @@ pub enum Due {
 }
 
 // Makes what is due, and tells what is due then.
-fn make_due<N: Naming<Plan, TlmLaw>, R: Wait>(
-    net: &Net<N>,
+fn make_due<N: Naming<Plan, TlmLaw>, S: Sharing<N>, R: Wait>(
+    net: &Net<N, S>,
     rt: &R,
     note: PlatNote,
     node: &mut RouterNode,
@@ -126,9 +126,9 @@ impl SteppedRouter {
     /// Makes one entry, if it can: what is due, or else the first that a pump would make, in its order and with every try and
     /// every look. What a pump does without an entry it does on the way. It waits where there is nothing that it could do. It
     /// takes no memory and can't fail.
-    pub fn step<N: Naming<Plan, TlmLaw>, R: Wait>(
+    pub fn step<N: Naming<Plan, TlmLaw>, S: Sharing<N>, R: Wait>(
         &mut self,
-        net: &Net<N>,
+        net: &Net<N, S>,
         rt: &R,
         note: PlatNote,
     ) -> (OneStep, PlatNote)

@@ -19,7 +19,7 @@ ghost use Rattle.router_node.specs.declared.stage.Step.TheVariants as Steps;
 ghost use Rattle.router_steps.specs.declared.tries.Tried.TheVariants.{Nothing};
 
 use crate::steps::Due;
-use plat_net::{Net, PlatNote, TlmLaw};
+use plat_net::{Net, PlatNote, Sharing, TlmLaw};
 use route_plan::Plan;
 use router_moves::{BegunBelow, Down, End, Passed, PassedOn, end_below, pass_on, release};
 use router_node::{RouterNode, SentUp, Stage, Step, look_for_end, send_at, take_sent};
@@ -73,8 +73,8 @@ fn take_down(held: &mut VecDeque<Stage>, at: usize) -> Down
 
 /// Holds a request that has gone down and for which no END_REQ is owed, at its place. Where its response came by return,
 /// its memory is to be called first.
-pub(crate) fn hold_below<N: Naming<Plan, TlmLaw>>(
-    net: &Net<N>,
+pub(crate) fn hold_below<N: Naming<Plan, TlmLaw>, S: Sharing<N>>(
+    net: &Net<N, S>,
     note: &PlatNote,
     held: &mut VecDeque<Stage>,
     at: usize,
@@ -106,8 +106,8 @@ pub(crate) fn hold_below<N: Naming<Plan, TlmLaw>>(
 }
 
 // What is due of a request whose BEGIN_REQ was made below: END_REQ above first, where it is owed.
-fn due_below<N: Naming<Plan, TlmLaw>>(
-    net: &Net<N>,
+fn due_below<N: Naming<Plan, TlmLaw>, S: Sharing<N>>(
+    net: &Net<N, S>,
     note: &PlatNote,
     held: &mut VecDeque<Stage>,
     at: usize,
@@ -136,8 +136,8 @@ fn due_below<N: Naming<Plan, TlmLaw>>(
 
 // Makes the first entry that is left to be made below, for a response that was sent and has ended above: END_RESP where it
 // is owed, or else the Release. There is none where it didn't come from there.
-fn finish_one<N: Naming<Plan, TlmLaw>, R: Wait>(
-    net: &Net<N>,
+fn finish_one<N: Naming<Plan, TlmLaw>, S: Sharing<N>, R: Wait>(
+    net: &Net<N, S>,
     rt: &R,
     note: PlatNote,
     away: SentUp,
@@ -170,8 +170,8 @@ fn finish_one<N: Naming<Plan, TlmLaw>, R: Wait>(
 
 // Makes the first entry below for the response at a place, if one that was sent stands there and has ended above. It is
 // held no longer then.
-fn end_one<N: Naming<Plan, TlmLaw>, R: Wait>(
-    net: &Net<N>,
+fn end_one<N: Naming<Plan, TlmLaw>, S: Sharing<N>, R: Wait>(
+    net: &Net<N, S>,
     rt: &R,
     note: PlatNote,
     held: &mut VecDeque<Stage>,
@@ -202,8 +202,8 @@ fn end_one<N: Naming<Plan, TlmLaw>, R: Wait>(
 }
 
 // Tries to send the response at a place up, if one that is to go up stands there.
-fn send_one<N: Naming<Plan, TlmLaw>, R: Wait>(
-    net: &Net<N>,
+fn send_one<N: Naming<Plan, TlmLaw>, S: Sharing<N>, R: Wait>(
+    net: &Net<N, S>,
     rt: &R,
     note: PlatNote,
     held: &mut VecDeque<Stage>,
@@ -230,8 +230,8 @@ fn send_one<N: Naming<Plan, TlmLaw>, R: Wait>(
 }
 
 // Tries BEGIN_REQ below for the request at a place, if one that is to go down stands there.
-fn pass_one<N: Naming<Plan, TlmLaw>, R: Wait>(
-    net: &Net<N>,
+fn pass_one<N: Naming<Plan, TlmLaw>, S: Sharing<N>, R: Wait>(
+    net: &Net<N, S>,
     rt: &R,
     note: PlatNote,
     held: &mut VecDeque<Stage>,
@@ -280,8 +280,8 @@ fn pass_one<N: Naming<Plan, TlmLaw>, R: Wait>(
 }
 
 // Tries a step with the transaction at a place, if it is one for it. It makes one entry at most.
-fn try_one<N: Naming<Plan, TlmLaw>, R: Wait>(
-    net: &Net<N>,
+fn try_one<N: Naming<Plan, TlmLaw>, S: Sharing<N>, R: Wait>(
+    net: &Net<N, S>,
     rt: &R,
     what: Step,
     note: PlatNote,
@@ -309,8 +309,8 @@ fn try_one<N: Naming<Plan, TlmLaw>, R: Wait>(
 }
 
 // Tries a step with each transaction that is held, in order, until one was moved.
-fn try_each<N: Naming<Plan, TlmLaw>, R: Wait>(
-    net: &Net<N>,
+fn try_each<N: Naming<Plan, TlmLaw>, S: Sharing<N>, R: Wait>(
+    net: &Net<N, S>,
     rt: &R,
     what: Step,
     note: PlatNote,
@@ -359,8 +359,8 @@ fn come_in(down: bool) -> Tried
 }
 
 // Tries a step with each transaction that is held, in order, until one was moved.
-fn try_step<N: Naming<Plan, TlmLaw>, R: Wait>(
-    net: &Net<N>,
+fn try_step<N: Naming<Plan, TlmLaw>, S: Sharing<N>, R: Wait>(
+    net: &Net<N, S>,
     rt: &R,
     what: Step,
     note: PlatNote,
@@ -381,8 +381,8 @@ fn try_step<N: Naming<Plan, TlmLaw>, R: Wait>(
 }
 
 // Tries what a pump does first for those that are held, with every look, until one was moved.
-fn try_held<N: Naming<Plan, TlmLaw>, R: Wait>(
-    net: &Net<N>,
+fn try_held<N: Naming<Plan, TlmLaw>, S: Sharing<N>, R: Wait>(
+    net: &Net<N, S>,
     rt: &R,
     note: PlatNote,
     node: &mut RouterNode,
@@ -410,8 +410,8 @@ fn try_held<N: Naming<Plan, TlmLaw>, R: Wait>(
 }
 
 // Fetches as a pump does, with every look: a response from below, or else a request from above.
-fn try_fetches<N: Naming<Plan, TlmLaw>, R: Wait>(
-    net: &Net<N>,
+fn try_fetches<N: Naming<Plan, TlmLaw>, S: Sharing<N>, R: Wait>(
+    net: &Net<N, S>,
     rt: &R,
     note: PlatNote,
     node: &mut RouterNode,
@@ -440,8 +440,8 @@ fn try_fetches<N: Naming<Plan, TlmLaw>, R: Wait>(
 }
 
 /// Makes the first move that a pump would make, in its order and with every try and every look. It makes one entry at most.
-pub(crate) fn move_once<N: Naming<Plan, TlmLaw>, R: Wait>(
-    net: &Net<N>,
+pub(crate) fn move_once<N: Naming<Plan, TlmLaw>, S: Sharing<N>, R: Wait>(
+    net: &Net<N, S>,
     rt: &R,
     note: PlatNote,
     node: &mut RouterNode,

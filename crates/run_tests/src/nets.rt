@@ -6,7 +6,7 @@ use crate::bench::plan_of;
 use crate::phase_schedules::ON_BUS;
 use node_hops::Node;
 use plat_build::{Opened, build, close_unused};
-use plat_net::{Net, TlmLaw};
+use plat_net::{ManyThreads, Net, TlmLaw};
 use route_plan::Plan;
 use router_node::RouterNode;
 use shared_object::Naming;
@@ -18,7 +18,7 @@ use target_node::TargetNode;
 use tlm_types::Memory;
 
 // A router of a net that was just made holds nothing, and a memory has nothing to do.
-fn expect_idle<N: Naming<Plan, TlmLaw>>(rt: &impl Abort, alloc: Global, net: &Net<N>)
+fn expect_idle<N: Naming<Plan, TlmLaw>>(rt: &impl Abort, alloc: Global, net: &Net<N, ManyThreads>)
     requires router { 0 < length N.frame.world.platform.routers }
     requires memory { 0 < length N.frame.world.platform.memories }
 {
@@ -42,7 +42,7 @@ fn entries_of_new<N: Naming<Plan, TlmLaw>, R: Wait + Abort>(
 {
     assert!(rt; plan.platform().routers.as_slice().len() > 0);
     assert!(rt; plan.platform().memories.as_slice().len() > 0);
-    let built = build::<N>(alloc, opened, plan)?;
+    let built = build::<N, ManyThreads>(alloc, opened, plan)?;
     expect_idle::<N>(rt, alloc, &built.net);
     Ok(close_unused(rt, alloc, built)?.len())
 }

@@ -86,8 +86,7 @@ fn the_pace_is_told_of_every_access(rt: HostRuntime) {
     assert!(rt; pace.told() == 2 * ACCESSES && pace.wrong() == 0);
 }
 
-// With logs that are forgotten the same comes of a run, by one worker and by several, but its history can't be read. The
-// first share of turns has an access, after which the memories forget for the first time.
+// With logs that are forgotten the same comes of a run, by one worker and by several, but its history can't be read.
 #[test]
 fn what_is_forgotten_is_counted(rt: HostRuntime) {
     let plan = plan_of(rt.alloc(), BUS, &[ONE, TWO]).expect(&rt, "a plan");

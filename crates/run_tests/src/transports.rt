@@ -14,7 +14,7 @@ use crate::runs::BUS;
 use blocking_path::{b_transport, transport_dbg};
 use generic_payload::Payload;
 use plat_build::{Built, Kept, Opened, Start, build};
-use plat_net::{Carried, Net, PlatNote, TlmLaw};
+use plat_net::{Carried, Net, OneThread, PlatNote, TlmLaw};
 use region_object::payload_cost;
 use route_plan::Plan;
 use shared_object::Naming;
@@ -24,6 +24,9 @@ use std::process::Abort;
 use std::sync::Wait;
 use tlm_types::{Ps, Response, TxnId};
 use token_book::Wallet;
+
+// A net that one thread has.
+type Own<N> = Net<N, OneThread>;
 
 /// What each of the two initiators asks for.
 const SCRIPT: &str = "write 0x104 aabb\ndebug 0x105 2\n";
@@ -39,7 +42,7 @@ struct Bag {
 }
 
 // Nobody passes a hop: no initiator of a blocking platform is of four phases.
-fn none_passes<N: Naming<Plan, TlmLaw>>(net: &Net<N>)
+fn none_passes<N: Naming<Plan, TlmLaw>>(net: &Own<N>)
     requires { IsBlocking net.now.platform }
     ensures { (x : Txn) → HasNoPassage net.now x }
 {
@@ -49,7 +52,7 @@ fn none_passes<N: Naming<Plan, TlmLaw>>(net: &Net<N>)
 // The wallet has a ticket for it, where it has a route.
 fn can_pay<N: Naming<Plan, TlmLaw>>(
     rt: &impl Abort,
-    net: &Net<N>,
+    net: &Own<N>,
     who: u32,
     payload: &Payload,
     wallet: &Wallet,
@@ -79,7 +82,7 @@ fn come_back<N: Naming<Plan, TlmLaw>>(carried: Carried, wallet: Wallet, seq: u64
 }
 
 // Makes the access of the payload.
-fn access<N: Naming<Plan, TlmLaw>, R: Wait + Abort>(rt: &R, net: &Net<N>, who: u32, bag: Bag) -> Bag
+fn access<N: Naming<Plan, TlmLaw>, R: Wait + Abort>(rt: &R, net: &Own<N>, who: u32, bag: Bag) -> Bag
     requires who { who < length net.now.platform.initiators }
     requires blocking { IsBlocking net.now.platform }
     requires bag { IsBag N.table N.tokens bag.payload bag.note bag.wallet }
@@ -104,7 +107,7 @@ fn access<N: Naming<Plan, TlmLaw>, R: Wait + Abort>(rt: &R, net: &Net<N>, who: u
 }
 
 // Makes the debug read of the payload.
-fn look<N: Naming<Plan, TlmLaw>, R: Wait + Abort>(rt: &R, net: &Net<N>, who: u32, bag: Bag) -> Bag
+fn look<N: Naming<Plan, TlmLaw>, R: Wait + Abort>(rt: &R, net: &Own<N>, who: u32, bag: Bag) -> Bag
     requires who { who < length net.now.platform.initiators }
     requires blocking { IsBlocking net.now.platform }
     requires bag { IsBag N.table N.tokens bag.payload bag.note bag.wallet }
@@ -134,7 +137,7 @@ fn has_ended(bag: &Bag, status: Response, at: Ps) -> bool {
 }
 
 // A write of two bytes, and a debug read from the second of them on.
-fn tour<N: Naming<Plan, TlmLaw>, R: Wait + Abort>(rt: &R, net: &Net<N>, who: u32, mut bag: Bag)
+fn tour<N: Naming<Plan, TlmLaw>, R: Wait + Abort>(rt: &R, net: &Own<N>, who: u32, mut bag: Bag)
     requires who { who < length net.now.platform.initiators }
     requires blocking { IsBlocking net.now.platform }
     requires bag { IsBag N.table N.tokens bag.payload bag.note bag.wallet }
@@ -182,7 +185,7 @@ fn alone<N: Naming<Plan, TlmLaw>, R: Wait + Abort>(
     requires blocking { IsBlocking plan.now.platform }
 {
     assert!(rt; plan.platform().initiators.as_slice().len() == 2);
-    let Built { net, mut kept } = build::<N>(alloc, opened, plan).expect(rt, "a net");
+    let Built { net, mut kept } = build::<N, OneThread>(alloc, opened, plan).expect(rt, "a net");
     let bag = bag_of::<N>(&mut kept, 0);
     tour::<N, R>(rt, &net, 0, bag);
 }

@@ -1,4 +1,4 @@
-// What lies under the lock.
+// What is kept under a lock or in a cell.
 ghost use Rattle.std.specs.Prelude.{◌≡◌, ℕ, ◌+◌, ◌<◌, ◌≤◌, [], ◌∷◌, ◌++◌, length, slice_index_or, map, true, false, IfSome, MatchOption, Some, None};
 ghost use Rattle.std.specs.Option.{ForSome, unwrap_or};
 ghost use Rattle.one_history.specs.Moves.{entry, number_of, own_of, KnowsOwn, IsAtGate, drawn, copied, one_gone, left, fresh};
@@ -229,7 +229,7 @@ impl<O: Object + Drop, G, W: Law<Content, G> + World<G, O>, N: Naming<G, W>> Dro
 }
 
 impl<O: Object, G, W: Law<Content, G> + World<G, O>, N: Naming<G, W>> Locked<O, G, W, N> {
-    pub fn new(object: O, seat: ObjectSeat<Content, G, W>, book: Book) -> Locked<O, G, W, N>
+    pub(crate) fn new(object: O, seat: ObjectSeat<Content, G, W>, book: Book) -> Locked<O, G, W, N>
         requires seat { (seat.table ≡ N.table) × (seat.knows ≡ fresh N.frame book.owner) }
         requires book { IsBook N.tokens book.owner (O.room object) (O.bytes_left object) book }
         requires empty { (O.entries object ≡ []) × (O.carried object ≡ []) }
@@ -247,14 +247,14 @@ impl<O: Object, G, W: Law<Content, G> + World<G, O>, N: Naming<G, W>> Locked<O, 
     }
 
     /// The object's number in the history.
-    pub fn number(&self) -> u32
+    pub(crate) fn number(&self) -> u32
         ensures { result ≡ self.now.number }
     {
         self.book.owner()
     }
 
     /// The object's own number.
-    pub fn own_number(&self) -> u32
+    pub(crate) fn own_number(&self) -> u32
         ensures { result ≡ own_number (O.built self.now.object).object }
     {
         self.object.number()
@@ -263,7 +263,7 @@ impl<O: Object, G, W: Law<Content, G> + World<G, O>, N: Naming<G, W>> Locked<O, 
     /// One call: it joins the note, draws where the call is admitted, leaves the gate that the
     /// note is inside, if there is one, applies, and copies a note.
     #[inline(always)]
-    pub fn step(
+    pub(crate) fn step(
         &mut self,
         history: &History<Content, G, W>,
         tickets: &Tokens,
@@ -331,7 +331,7 @@ impl<O: Object, G, W: Law<Content, G> + World<G, O>, N: Naming<G, W>> Locked<O, 
     }
 
     /// The object's log may forget the entries that it has in store. Nothing is drawn.
-    pub fn forget(&mut self)
+    pub(crate) fn forget(&mut self)
         ensures number { self.new.number ≡ self.old.number }
         ensures built { O.built self.new.object ≡ O.built self.old.object }
         ensures entries { O.entries self.new.object ≡ O.entries self.old.object }
@@ -340,7 +340,7 @@ impl<O: Object, G, W: Law<Content, G> + World<G, O>, N: Naming<G, W>> Locked<O, 
     }
 
     /// The object, its seat and its book.
-    pub fn into_parts(self) -> (O, ObjectSeat<Content, G, W>, Book)
+    pub(crate) fn into_parts(self) -> (O, ObjectSeat<Content, G, W>, Book)
         ensures object { result.0 ≡ self.object }
         ensures built { IsBuiltFor W.builds (place N.frame N.tokens self.number (own_number (O.built result.0).object)) (O.built result.0) }
         ensures seat { IsSeat N.table N.frame self.number (O.entries result.0) result.1 }

@@ -111,7 +111,7 @@ pub trait Object {
     fn log(&self) -> &Log
         ensures { result.now.entries ≡ map (logged (built self.now).object) (entries self.now) };
 
-    /// Its log may forget the entries that it has in store. Nothing else changes.
+    /// Its log may forget its entries, and those that come after them. Nothing else changes.
     fn forget(&mut self)
         ensures built { built self.new ≡ built self.old }
         ensures state { follows self.new }

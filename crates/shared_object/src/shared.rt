@@ -1,4 +1,4 @@
-// An object that threads share.
+// An object, by its numbers.
 ghost use Rattle.std.specs.Prelude.{◌≡◌, ℕ, ◌+◌, ◌<◌, ◌≤◌, [], ◌∷◌, ◌++◌, length, slice_index_or, map, true, Some};
 ghost use Rattle.std.specs.Option.{unwrap_or};
 ghost use Rattle.one_history.specs.Moves.{IsAtGate, fresh};
@@ -7,25 +7,38 @@ ghost use Rattle.shared_object.specs.Written.{own_number, sign_of, wrote, placed
 ghost use Rattle.shared_object.specs.Standing.{place, IsBuiltFor, Meets, AreVouched, IsSeat, IsBook};
 ghost use Rattle.shared_object.specs.Steps.{IsNote, IsInside, HasTicket, unspent, Enters};
 
+use crate::keeper::{Keeper, wait_without_end};
 use crate::locked::{Locked, Stepped};
 use crate::naming::Naming;
 use crate::object::{Object, World};
 use one_history::{History, Law, Note, ObjectSeat};
-use std::hint::spin_loop;
-use std::marker::Model;
-use std::sync::{Mutex, MutexGuard, Wait};
+use std::marker::{Model, PhantomData};
+use std::sync::Wait;
 use tlm_types::Content;
 use token_book::{Book, Ticket, Tokens};
 
-/// An object with its seat in the history and its book of tickets, under a lock. Contracts see its
-/// number in the history and its own number.
-pub struct Shared<O: Object, G, W: Law<Content, G> + World<G, O>, N: Naming<G, W>> {
-    lock: Mutex<Locked<O, G, W, N>>,
+/// An object with its seat in the history and its book of tickets, under a lock or in a cell. Contracts see
+/// its number in the history and its own number.
+pub struct Shared<
+    O: Object,
+    G,
+    W: Law<Content, G> + World<G, O>,
+    N: Naming<G, W>,
+    L: Keeper<Locked<O, G, W, N>>,
+> {
+    keeper: L,
     number: u32,
     own: u32,
+    of: PhantomData<(O, G, W, N)>,
 }
 
-impl<O: Object, G, W: Law<Content, G> + World<G, O>, N: Naming<G, W>> Model for Shared<O, G, W, N> {
+impl<
+    O: Object,
+    G,
+    W: Law<Content, G> + World<G, O>,
+    N: Naming<G, W>,
+    L: Keeper<Locked<O, G, W, N>>,
+> Model for Shared<O, G, W, N, L> {
     ghost use Rattle.shared_object.specs.Standing.{Numbers};
 
     ghost Value = { Numbers };
@@ -34,21 +47,33 @@ impl<O: Object, G, W: Law<Content, G> + World<G, O>, N: Naming<G, W>> Model for 
 }
 
 // Written out, so that crates above call it and needn't prove again how each part is let go of.
-impl<O: Object + Drop, G, W: Law<Content, G> + World<G, O>, N: Naming<G, W>> Drop
-    for Shared<O, G, W, N> {
+impl<
+    O: Object,
+    G,
+    W: Law<Content, G> + World<G, O>,
+    N: Naming<G, W>,
+    L: Keeper<Locked<O, G, W, N>> + Drop,
+> Drop for Shared<O, G, W, N, L> {
     fn drop(self) {
         let Shared {
-            lock: _lock,
+            keeper: _keeper,
             number: _,
             own: _,
+            of: _,
         } = self;
     }
 }
 
-impl<O: Object, G, W: Law<Content, G> + World<G, O>, N: Naming<G, W>> Shared<O, G, W, N> {
+impl<
+    O: Object,
+    G,
+    W: Law<Content, G> + World<G, O>,
+    N: Naming<G, W>,
+    L: Keeper<Locked<O, G, W, N>>,
+> Shared<O, G, W, N, L> {
     /// The object with its seat and its book. Object and seat are empty. The object is built as the
     /// world says, and its room, its planned number and the tickets that are out are equal.
-    pub fn new(object: O, seat: ObjectSeat<Content, G, W>, book: Book) -> Shared<O, G, W, N>
+    pub fn new(object: O, seat: ObjectSeat<Content, G, W>, book: Book) -> Shared<O, G, W, N, L>
         requires seat { (seat.table ≡ N.table) × (seat.knows ≡ fresh N.frame book.owner) }
         requires book { IsBook N.tokens book.owner (O.room object) (O.bytes_left object) book }
         requires empty { (O.entries object ≡ []) × (O.carried object ≡ []) }
@@ -60,9 +85,10 @@ impl<O: Object, G, W: Law<Content, G> + World<G, O>, N: Naming<G, W>> Shared<O, 
         let number = book.owner();
         let own = object.number();
         Shared {
-            lock: Mutex::new(Locked::new(object, seat, book)),
+            keeper: L::keep(Locked::new(object, seat, book)),
             number,
             own,
+            of: PhantomData,
         }
     }
 
@@ -80,7 +106,7 @@ impl<O: Object, G, W: Law<Content, G> + World<G, O>, N: Naming<G, W>> Shared<O, 
         self.own
     }
 
-    /// Makes one call on the object, under its lock. The note, which is inside no gate, is handed in and
+    /// Makes one call on the object, alone with it. The note, which is inside no gate, is handed in and
     /// comes back, knowing all that the object has written. Where the call is admitted, its entry is drawn
     /// in the history and added to the log, and the ticket is spent; else the ticket comes back, and
     /// nothing was added. An entry is no direct access, and a closing's gate is drained to the note. The
@@ -131,11 +157,12 @@ impl<O: Object, G, W: Law<Content, G> + World<G, O>, N: Naming<G, W>> Shared<O, 
         ensures look { result.note.knows.looks ≡ note.knows.looks ++ (self.now.number, O.look result.reply) ∷ [] }
         ensures ticket { result.ticket ≡ unspent result.position ticket }
     {
-        let mut guard = take_lock(&self.lock, rt);
-        if guard.number() != self.number || guard.own_number() != self.own {
+        let mut entered = self.keeper.enter(rt);
+        let locked = entered.value_mut();
+        if locked.number() != self.number || locked.own_number() != self.own {
             wait_without_end(rt)
         }
-        guard.step(history, tickets, note, ticket, None, call)
+        locked.step(history, tickets, note, ticket, None, call)
     }
 
     /// Makes one call on the object, as `step` does, with a note that is inside a gate, which it leaves
@@ -189,14 +216,15 @@ impl<O: Object, G, W: Law<Content, G> + World<G, O>, N: Naming<G, W>> Shared<O, 
         ensures look { result.note.knows.looks ≡ note.knows.looks ++ (self.now.number, O.look result.reply) ∷ [] }
         ensures ticket { result.ticket ≡ unspent result.position (Some ticket) }
     {
-        let mut guard = take_lock(&self.lock, rt);
-        if guard.number() != self.number || guard.own_number() != self.own {
+        let mut entered = self.keeper.enter(rt);
+        let locked = entered.value_mut();
+        if locked.number() != self.number || locked.own_number() != self.own {
             wait_without_end(rt)
         }
-        guard.step(history, tickets, note, Some(ticket), Some(gate), call)
+        locked.step(history, tickets, note, Some(ticket), Some(gate), call)
     }
 
-    /// Makes one call on the object, as `step` does, for the only one who has it: no lock is taken.
+    /// Makes one call on the object, as `step` does, for the only one who has it: no keeper is asked.
     #[inline(always)]
     pub fn step_alone<R: Wait>(
         &mut self,
@@ -244,18 +272,17 @@ impl<O: Object, G, W: Law<Content, G> + World<G, O>, N: Naming<G, W>> Shared<O, 
         ensures look { result.note.knows.looks ≡ note.knows.looks ++ (self.old.number, O.look result.reply) ∷ [] }
         ensures ticket { result.ticket ≡ unspent result.position ticket }
     {
-        let locked = self.lock.get_mut();
+        let locked = self.keeper.value_mut();
         if locked.number() != self.number || locked.own_number() != self.own {
             wait_without_end(rt)
         }
         locked.step(history, tickets, note, ticket, None, call)
     }
 
-    /// The object's log may forget the entries that it has in store, so that they can't be read any more.
-    /// Contracts see no change: all that they say of the object's entries stays true. The lock is taken.
+    /// The object's log may forget its entries, and those that come after them, so that they can't be read any
+    /// more. Contracts see no change: all that they say of the object's entries stays true.
     pub fn forget<R: Wait>(&self, rt: &R) {
-        let mut guard = take_lock(&self.lock, rt);
-        guard.forget();
+        self.keeper.enter(rt).value_mut().forget();
     }
 
     /// The object, its seat and its book. The log stands in the seat, and a ticket is out for each
@@ -267,42 +294,16 @@ impl<O: Object, G, W: Law<Content, G> + World<G, O>, N: Naming<G, W>> Shared<O, 
         ensures planned { length (O.entries result.0) + O.room result.0 ≡ slice_index_or N.frame.planned self.number 0 }
         ensures vouched { AreVouched (W.vouches N.frame.world N.tokens self.number) (O.carried result.0) result.1.knows.known }
     {
-        let Shared { lock, number, own } = self;
-        let locked = lock.into_inner();
+        let Shared {
+            keeper,
+            number,
+            own,
+            of: _,
+        } = self;
+        let locked = keeper.into_value();
         if locked.number() != number || locked.own_number() != own {
             wait_without_end(rt)
         }
         locked.into_parts()
     }
-}
-
-// How often a lock is tried before a thread falls asleep.
-const TRIES: u32 = 2000;
-
-// Takes a lock. What is done under it is short, and to wake a thread takes much longer: so it is tried for a while first.
-#[inline(always)]
-fn take_lock<'a, T, R: Wait>(lock: &'a Mutex<T>, rt: &R) -> MutexGuard<'a, T> {
-    match lock.try_lock() {
-        Some(guard) => guard,
-        None => try_for_a_while(lock, rt),
-    }
-}
-
-#[cold]
-fn try_for_a_while<'a, T, R: Wait>(lock: &'a Mutex<T>, rt: &R) -> MutexGuard<'a, T> {
-    for _ in 0..TRIES {
-        if let Some(guard) = lock.try_lock() {
-            return guard;
-        }
-        spin_loop();
-    }
-    lock.lock(rt)
-}
-
-// Never returns. A lock's contents are known by their type alone, which has no numbers in it: that the
-// object under the lock is the one that `new` put there is looked up, and where it weren't, a call would
-// answer nothing rather than something wrong.
-fn wait_without_end<R: Wait>(rt: &R) -> ! {
-    for _ in rt.forever() {}
-    unreachable!()
 }

@@ -13,7 +13,7 @@ use decoupled_run::SteppedInitiator;
 use fourphase_port::SteppedPort;
 use node_hops::OneStep;
 use outside::Pace;
-use plat_net::{Net, PlatNote, TlmLaw};
+use plat_net::{Net, PlatNote, Sharing, TlmLaw};
 use route_plan::Plan;
 use router_steps::SteppedRouter;
 use shared_object::Naming;
@@ -49,10 +49,10 @@ impl SteppedActor {
     /// Its moves up to and with its next entry. A blocking or direct initiator goes on as far as the rounds let it; no other
     /// actor takes part in rounds. The pace is told of what a blocking or direct initiator asks for. It takes no memory and
     /// can't fail.
-    pub fn step<N: Naming<Plan, TlmLaw>, R: Wait, P: Pace>(
+    pub fn step<N: Naming<Plan, TlmLaw>, S: Sharing<N>, R: Wait, P: Pace>(
         &mut self,
         rt: &R,
-        net: &Net<N>,
+        net: &Net<N, S>,
         rounds: &mut Rounds,
         note: PlatNote,
         pace: &P,

@@ -8,7 +8,7 @@ use crate::actor::SteppedActor;
 use decoupled_run::{SteppedInitiator, initiators_stay};
 use fourphase_port::SteppedPort;
 use plat_build::{Kept, Start, style_of};
-use plat_net::{Net, PlatNote, TlmLaw};
+use plat_net::{Net, PlatNote, Sharing, TlmLaw};
 use route_plan::Plan;
 use router_node::RouterNode;
 use router_steps::SteppedRouter;
@@ -20,9 +20,9 @@ use tlm_types::Memory;
 
 // The blocking or direct initiator with this number, with what it starts with, and its note. Its only error is want of
 // memory.
-fn begin_decoupled<N: Naming<Plan, TlmLaw>>(
+fn begin_decoupled<N: Naming<Plan, TlmLaw>, S: Sharing<N>>(
     alloc: Global,
-    net: &Net<N>,
+    net: &Net<N, S>,
     number: u32,
     start: Start,
 ) -> Result<(SteppedActor, PlatNote), Memory>
@@ -39,9 +39,9 @@ fn begin_decoupled<N: Naming<Plan, TlmLaw>>(
 }
 
 // The four-phase initiator with this number, with what it starts with, and its note. Its only error is want of memory.
-fn begin_port<N: Naming<Plan, TlmLaw>>(
+fn begin_port<N: Naming<Plan, TlmLaw>, S: Sharing<N>>(
     alloc: Global,
-    net: &Net<N>,
+    net: &Net<N, S>,
     number: u32,
     start: Start,
 ) -> Result<(SteppedActor, PlatNote), Memory>
@@ -63,9 +63,9 @@ fn begin_port<N: Naming<Plan, TlmLaw>>(
 }
 
 // The initiator with this number, by its style, with what it starts with, and its note. Its only error is want of memory.
-fn begin_initiator<N: Naming<Plan, TlmLaw>>(
+fn begin_initiator<N: Naming<Plan, TlmLaw>, S: Sharing<N>>(
     alloc: Global,
-    net: &Net<N>,
+    net: &Net<N, S>,
     number: u32,
     start: Start,
 ) -> Result<(SteppedActor, PlatNote), Memory>
@@ -81,9 +81,9 @@ fn begin_initiator<N: Naming<Plan, TlmLaw>>(
 }
 
 // Adds the initiator that is next, and answers its note. Its only error is want of memory.
-fn push_initiator<N: Naming<Plan, TlmLaw>>(
+fn push_initiator<N: Naming<Plan, TlmLaw>, S: Sharing<N>>(
     alloc: Global,
-    net: &Net<N>,
+    net: &Net<N, S>,
     kept: &mut Kept<N>,
     actors: &mut Vec<SteppedActor>,
     number: u32,
@@ -105,9 +105,9 @@ fn push_initiator<N: Naming<Plan, TlmLaw>>(
 }
 
 // All initiators of a net, in order, and the note of the last one. Its only error is want of memory.
-fn begin_initiators<N: Naming<Plan, TlmLaw>>(
+fn begin_initiators<N: Naming<Plan, TlmLaw>, S: Sharing<N>>(
     alloc: Global,
-    net: &Net<N>,
+    net: &Net<N, S>,
     kept: &mut Kept<N>,
     actors: &mut Vec<SteppedActor>,
 ) -> Result<PlatNote, Memory>
@@ -128,9 +128,9 @@ fn begin_initiators<N: Naming<Plan, TlmLaw>>(
 }
 
 // Adds the routers of a net behind these actors, of which there are so many. Its only error is want of memory.
-fn begin_routers<N: Naming<Plan, TlmLaw>>(
+fn begin_routers<N: Naming<Plan, TlmLaw>, S: Sharing<N>>(
     alloc: Global,
-    net: &Net<N>,
+    net: &Net<N, S>,
     actors: &mut Vec<SteppedActor>,
 ) -> Result<(), Memory>
     requires begun { HaveBegun N.table N.tokens N.frame actors.old.items }
@@ -146,9 +146,9 @@ fn begin_routers<N: Naming<Plan, TlmLaw>>(
 }
 
 // Adds the memories of a net behind these actors. Its only error is want of memory.
-fn begin_memories<N: Naming<Plan, TlmLaw>>(
+fn begin_memories<N: Naming<Plan, TlmLaw>, S: Sharing<N>>(
     alloc: Global,
-    net: &Net<N>,
+    net: &Net<N, S>,
     actors: &mut Vec<SteppedActor>,
 ) -> Result<(), Memory>
     requires begun { HaveBegun N.table N.tokens N.frame actors.old.items }
@@ -165,9 +165,9 @@ fn begin_memories<N: Naming<Plan, TlmLaw>>(
 
 /// All actors of a net that was just built: its initiators, its routers and its memories, numbered in this order, and the
 /// note that they have in turn. The notes of the others are let go of. Its only error is want of memory.
-pub fn begin_all<N: Naming<Plan, TlmLaw>>(
+pub fn begin_all<N: Naming<Plan, TlmLaw>, S: Sharing<N>>(
     alloc: Global,
-    net: &Net<N>,
+    net: &Net<N, S>,
     kept: &mut Kept<N>,
 ) -> Result<(Vec<SteppedActor>, PlatNote), Memory>
     requires some { 0 < length net.now.platform.initiators }

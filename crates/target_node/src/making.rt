@@ -5,7 +5,7 @@ ghost use Rattle.target_node.specs.Hops.{IsNew};
 use crate::node::TargetNode;
 use event_queue::EventQueue;
 use node_hops::{hops_to, traits_of};
-use plat_net::{Net, TlmLaw};
+use plat_net::{Net, Sharing, TlmLaw};
 use route_plan::Plan;
 use shared_object::Naming;
 use std::alloc::Global;
@@ -15,9 +15,9 @@ use tlm_types::Memory;
 impl TargetNode {
     /// The memory of a net with this number, behind the hops that lead to it. Its queue has room for all of
     /// their lanes. Its only error is want of memory.
-    pub fn new<N: Naming<Plan, TlmLaw>>(
+    pub fn new<N: Naming<Plan, TlmLaw>, S: Sharing<N>>(
         alloc: Global,
-        net: &Net<N>,
+        net: &Net<N, S>,
         memory: u32,
     ) -> Result<TargetNode, Memory>
         requires { memory < length N.frame.world.platform.memories }

@@ -14,7 +14,7 @@ ghost use Rattle.target_node.specs.Items.{HasResponded, HasServedAt, IsFetchedAs
 
 use crate::items::{FromHop, MemoryRequest, MemoryResponse};
 use cargo_net::{Answered, FetchedRequest};
-use plat_net::{Net, PlatNote, TlmLaw};
+use plat_net::{Net, PlatNote, Sharing, TlmLaw};
 use route_plan::Plan;
 use shared_object::Naming;
 use std::sync::Wait;
@@ -24,8 +24,8 @@ use token_book::Ticket;
 /// Fetches the request that waits on a hop to this memory with the least time, equal times in order of arrival; none
 /// exactly where none waits. Where the memory's mode is `accept`, END_REQ is owed, and its ticket comes with the
 /// request, out of the payload's own wallet. It makes no entry.
-pub fn fetch<N: Naming<Plan, TlmLaw>, R: Wait>(
-    net: &Net<N>,
+pub fn fetch<N: Naming<Plan, TlmLaw>, S: Sharing<N>, R: Wait>(
+    net: &Net<N, S>,
     rt: &R,
     memory: u32,
     accepts: bool,
@@ -87,8 +87,8 @@ pub fn fetch<N: Naming<Plan, TlmLaw>, R: Wait>(
 
 /// Makes the END_REQ that is owed for a request, with its ticket, at the time of its BEGIN_REQ (IEEE 1666-2011,
 /// clause 15.2). The request waits to be served then.
-pub fn end<N: Naming<Plan, TlmLaw>, R: Wait>(
-    net: &Net<N>,
+pub fn end<N: Naming<Plan, TlmLaw>, S: Sharing<N>, R: Wait>(
+    net: &Net<N, S>,
     rt: &R,
     memory: u32,
     note: PlatNote,
@@ -128,8 +128,8 @@ pub fn end<N: Naming<Plan, TlmLaw>, R: Wait>(
 
 /// Makes the access of a request that waits, at the time of its BEGIN_REQ (IEEE 1666-2011, clause 14). Its response
 /// is due after the memory's latency, in picoseconds.
-pub fn serve<N: Naming<Plan, TlmLaw>, R: Wait>(
-    net: &Net<N>,
+pub fn serve<N: Naming<Plan, TlmLaw>, S: Sharing<N>, R: Wait>(
+    net: &Net<N, S>,
     rt: &R,
     memory: u32,
     latency: Ps,
@@ -165,8 +165,8 @@ pub fn serve<N: Naming<Plan, TlmLaw>, R: Wait>(
 
 /// Tries BEGIN_RESP on a hop, at the time at which the response is due (IEEE 1666-2011, clause 15.2). Where a
 /// response is open on the hop, this one comes back as it was.
-pub fn respond<N: Naming<Plan, TlmLaw>, R: Wait>(
-    net: &Net<N>,
+pub fn respond<N: Naming<Plan, TlmLaw>, S: Sharing<N>, R: Wait>(
+    net: &Net<N, S>,
     rt: &R,
     note: PlatNote,
     response: MemoryResponse,

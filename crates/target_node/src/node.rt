@@ -17,7 +17,7 @@ use crate::items::{FromHop, MemoryRequest, MemoryResponse};
 use crate::moves::{end, fetch, respond, serve};
 use event_queue::EventQueue;
 use node_hops::{Node, Pumped};
-use plat_net::{Net, PlatNote, TlmLaw};
+use plat_net::{Net, PlatNote, Sharing, TlmLaw};
 use route_plan::Plan;
 use shared_object::Naming;
 use std::sync::Wait;
@@ -50,8 +50,8 @@ impl Drop for TargetNode {
 }
 
 // Fetches a request from the first of these hops at which one waits.
-fn fetch_first<N: Naming<Plan, TlmLaw>, R: Wait>(
-    net: &Net<N>,
+fn fetch_first<N: Naming<Plan, TlmLaw>, S: Sharing<N>, R: Wait>(
+    net: &Net<N, S>,
     rt: &R,
     memory: u32,
     accepts: bool,
@@ -80,8 +80,8 @@ fn fetch_first<N: Naming<Plan, TlmLaw>, R: Wait>(
 }
 
 // Makes END_REQ for a request that was fetched, where it is owed.
-fn end_owed<N: Naming<Plan, TlmLaw>, R: Wait>(
-    net: &Net<N>,
+fn end_owed<N: Naming<Plan, TlmLaw>, S: Sharing<N>, R: Wait>(
+    net: &Net<N, S>,
     rt: &R,
     memory: u32,
     accepts: bool,
@@ -111,7 +111,7 @@ fn end_owed<N: Naming<Plan, TlmLaw>, R: Wait>(
 
 impl TargetNode {
     // Whether a request may wait at one of its hops.
-    fn may_have_request<N: Naming<Plan, TlmLaw>>(&self, net: &Net<N>) -> bool {
+    fn may_have_request<N: Naming<Plan, TlmLaw>, S: Sharing<N>>(&self, net: &Net<N, S>) -> bool {
         for hop in &self.hops {
             if net.may_have_request(*hop) {
                 return true;
@@ -122,9 +122,9 @@ impl TargetNode {
 
     /// Tries the response that is held, if one is, with BEGIN_RESP (IEEE 1666-2011, clause 15.2). Whether it was
     /// sent: that is one entry, else there is none.
-    pub fn send<N: Naming<Plan, TlmLaw>, R: Wait>(
+    pub fn send<N: Naming<Plan, TlmLaw>, S: Sharing<N>, R: Wait>(
         &mut self,
-        net: &Net<N>,
+        net: &Net<N, S>,
         rt: &R,
         note: PlatNote,
     ) -> (bool, PlatNote)
@@ -151,9 +151,9 @@ impl TargetNode {
 
     /// Takes a request in, where the queue has room and one waits at a hop, in order of hops. Whether it did. Its
     /// END_REQ, where the memory's mode is so, is the one entry.
-    pub fn take_in<N: Naming<Plan, TlmLaw>, R: Wait>(
+    pub fn take_in<N: Naming<Plan, TlmLaw>, S: Sharing<N>, R: Wait>(
         &mut self,
-        net: &Net<N>,
+        net: &Net<N, S>,
         rt: &R,
         note: PlatNote,
     ) -> (bool, PlatNote)
@@ -189,9 +189,9 @@ impl TargetNode {
 
     /// Serves the first request of the queue, where no response is held, and holds its response. Whether there was
     /// one: its access is one entry.
-    pub fn serve_first<N: Naming<Plan, TlmLaw>, R: Wait>(
+    pub fn serve_first<N: Naming<Plan, TlmLaw>, S: Sharing<N>, R: Wait>(
         &mut self,
-        net: &Net<N>,
+        net: &Net<N, S>,
         rt: &R,
         note: PlatNote,
     ) -> (bool, PlatNote)
@@ -228,7 +228,12 @@ impl<N: Naming<Plan, TlmLaw>> Node<N> for TargetNode {
     /// ended where the memory's mode is so, and put into the queue at its time plus the latency. Where no response
     /// is held and the queue isn't empty, its first request is served, and its response is tried. Else there is
     /// nothing to do. It takes no memory and can't fail.
-    fn pump<R: Wait>(&mut self, net: &Net<N>, rt: &R, note: PlatNote) -> (Pumped, PlatNote)
+    fn pump<S: Sharing<N>, R: Wait>(
+        &mut self,
+        net: &Net<N, S>,
+        rt: &R,
+        note: PlatNote,
+    ) -> (Pumped, PlatNote)
         requires node { IsTarget N.frame N.tokens self.old note.knows.known }
         requires note { IsNote N.table note }
         requires below { StandBelow note.knows.known note.knows.seen }
@@ -258,7 +263,7 @@ impl<N: Naming<Plan, TlmLaw>> Node<N> for TargetNode {
     }
 
     /// Whether a pump may find something to do, by what the net tells of hops. No clause speaks of it.
-    fn may_move(&self, net: &Net<N>) -> bool {
+    fn may_move<S: Sharing<N>>(&self, net: &Net<N, S>) -> bool {
         let tries = match &self.held {
             Some(response) => net.may_respond(response.hop),
             None => self.queue.len() > 0,

@@ -10,7 +10,7 @@ ghost use Rattle.target_node.specs.Node.{HasMade, HasTried, HasWaited, IsTarget}
 
 use crate::node::TargetNode;
 use node_hops::OneStep;
-use plat_net::{Net, PlatNote, TlmLaw};
+use plat_net::{Net, PlatNote, Sharing, TlmLaw};
 use route_plan::Plan;
 use shared_object::Naming;
 use std::sync::Wait;
@@ -31,9 +31,9 @@ impl TargetNode {
     }
 
     // Goes once through the moves of a step. It answers what the step has come to, if it has.
-    fn try_step<N: Naming<Plan, TlmLaw>, R: Wait>(
+    fn try_step<N: Naming<Plan, TlmLaw>, S: Sharing<N>, R: Wait>(
         &mut self,
-        net: &Net<N>,
+        net: &Net<N, S>,
         rt: &R,
         note: PlatNote,
     ) -> (Option<OneStep>, PlatNote)
@@ -69,9 +69,9 @@ impl TargetNode {
     /// room and a request waits at a hop, in order of hops, it is taken in; that is an entry where the memory's mode is
     /// `accept`, and else the step goes on from the start. Where no response is held and the queue isn't empty,
     /// its first request is served. Else the step waits, and has made no entry. It takes no memory and can't fail.
-    pub fn step<N: Naming<Plan, TlmLaw>, R: Wait>(
+    pub fn step<N: Naming<Plan, TlmLaw>, S: Sharing<N>, R: Wait>(
         &mut self,
-        net: &Net<N>,
+        net: &Net<N, S>,
         rt: &R,
         note: PlatNote,
     ) -> (OneStep, PlatNote)

@@ -1,7 +1,7 @@
 use Rattle.std.proofs.Common.{◌≡◌, ℕ, ◌+◌, ◌-◌, ◌==◌, refl, ap, ◌∙◌, subst, arith}
 use Rattle.std.specs.Prelude.{if◌then◌else◌}
 use Rattle.atomic_table.specs.Seated.{TableId}
-use Rattle.token_book.specs.Purse.{Purse, bytes_of}
+use Rattle.token_book.specs.Purse.{IsOf, Purse, bytes_of}
 use Rattle.token_book.specs.Ticket.{IsTicket}
 use Rattle.region_object.specs.Call.{payload_cost}
 use Rattle.route_plan.specs.Valid.{IsValid}
@@ -49,3 +49,6 @@ returns-clause-used g c =
 
 pub returns-clause-room : goal.returns-clause-room
 returns-clause-room g c = λ m room. roomy_less c.tickets.result.now c.args.wallet.now c.pull-ticket.new.self m c.args.held.memory c.payload_cost-bytes.result c.pull-ticket.ensures.wallet c.requires.may.left room
+
+pub returns-clause-wallet : goal.returns-clause-wallet
+returns-clause-wallet g c = subst (λ (t : TableId). IsOf t c.pull-ticket.new.self) c.tickets.ensures c.pull-ticket.ensures.of

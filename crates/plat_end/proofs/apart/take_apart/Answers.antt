@@ -1,4 +1,5 @@
-use Rattle.std.proofs.Common.{length, ◌∙◌, arith}
+use Rattle.std.proofs.Common.{◌≡◌, ℕ, List, length, slice_get, ap, refl, sym, ◌∙◌, arith}
+use Rattle.std.proofs.lemmas.Option.{slice_get_within}
 use Rattle.plat_net.proofs.ObjectLemmas.{count_of}
 use Rattle.plat_build.proofs.PoolLemmas.{pools_long}
 use Rattle.plat_end.proofs.TicketLemmas.{all_handed_back}
@@ -30,3 +31,21 @@ pub returns-clause-handed_back : goal.returns-clause-handed_back
 returns-clause-handed_back g c =
     let n = g.N.Naming in
     all_handed_back n.table n.frame _ _ _ _ (c.take_pools.ensures.taken _ (c.take_hops.ensures.taken _ c.take_memories.ensures.taken)) c.requires.no_others
+
+pub returns-clause-stores : goal.returns-clause-stores
+returns-clause-stores g c =
+    let p = g.N.Naming.frame.world.platform in
+    let first = c.take_memories.new.apart in
+    let last = c.take_pools.new.apart in
+    let were = c.take_memories.ensures.stores in
+    let beside = c.take_memories.ensures.taken.logs_left.count in
+    let stores : last.stores.items ≡ first.stores.items = rw (c.take_pools.ensures.stores, c.take_hops.ensures.stores) refl in
+    record {
+      count = ap length stores ∙ were.count;
+      each = λ m row log bytes at_row at_log at_bytes.
+          let few = slice_get_within p.memories m row at_row in
+          let logs : slice_get last.logs.items m ≡ slice_get first.logs.items m =
+          c.take_pools.ensures.earlier m (omega (arith, few, c.requires.memories.count, c.take_memories.ensures.count, c.take_hops.ensures.count, c.take_hops.ensures.beside))
+          ∙ c.take_hops.ensures.earlier m (omega (arith, few, c.requires.memories.count, c.take_memories.ensures.count, beside)) in
+          were.each m row log bytes at_row (sym logs ∙ at_log) (ap (λ (bs : List (List ℕ)). slice_get bs m) (sym stores) ∙ at_bytes);
+    }

@@ -1,6 +1,6 @@
-use Rattle.std.proofs.Common.{◌<◌, length, ◌∙◌, arith}
+use Rattle.std.proofs.Common.{◌<◌, length, refl, ◌∙◌, arith}
 use Rattle.node_hops.proofs.Looks.{within_on}
-use Rattle.router_node.proofs.Skips.{none_left, on_end, on_more, on_to, on_within}
+use Rattle.router_node.proofs.Skips.{none_left, on_end, on_more, on_start, on_to, on_within}
 use Rattle.router_node.proofs.node.sweep.Goals as goal
 
 pub next_place-at-requires : goal.next_place-at-requires
@@ -15,6 +15,16 @@ returns-then-at-len-clause-swept g c =
     let h = c.loop-k.held.ok in
     none_left g.N.Naming.frame c.args.hasty c.args.what c.args.held.now.items c.loop-k._k c.next_place-at.result c.loop-k.held.items c.args.note.knows c.loop-k.note.knows c.loop-k.moved (λ l. omega (arith, l, c.if-at-len.true, c.len.ensures, h))
     (on_to g.N.Naming.frame c.args.hasty c.args.what c.args.held.now.items c.loop-k._k c.loop-k.at c.next_place-at.result c.loop-k.held.items c.args.note.knows c.loop-k.note.knows c.loop-k.moved e.on e.within e.each c.loop-k.invariant.swept)
+
+pub loop-k-init : goal.loop-k-init
+loop-k-init g c = record {
+  note = c.requires.note;
+  knew = λ e has. has;
+  below = c.requires.below;
+  held = c.requires.held;
+  capacity = refl;
+  swept = on_start g.N.Naming.frame c.args.hasty c.args.what c.args.held.now.items c.args.note.knows;
+}
 
 pub loop-k-preserved : goal.loop-k-preserved
 loop-k-preserved g c =

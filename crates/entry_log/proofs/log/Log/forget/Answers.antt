@@ -4,12 +4,13 @@ use Rattle.tlm_types.specs.declared.entry.Entry.{Entry}
 use Rattle.log_items.specs.Items.{FullItem, IsWithin}
 use Rattle.entry_log.proofs.log.Log.forget.Goals as goal
 
-pub invariant_of-self : goal.invariant_of-self
-invariant_of-self c =
+pub invariant_of-self-2 : goal.invariant_of-self-2
+invariant_of-self-2 c =
     let count = ap length c.of-past.ensures in
     let bytes = ap length c.clear-2.ensures.items in
     record {
       before = record {
+        none = λ keeps. absurd (cc);
         count = c.len-count.ensures.len ∙ sym count;
         timed = subst (λ (es : List Entry). All (λ (e : Entry). e.time < 2 ^ 64) es) (sym c.of-past.ensures) c.len-count.ensures.timed;
         few = omega arith;

@@ -1,10 +1,11 @@
-use Rattle.std.proofs.Common.{◌≡◌, Bool, ℕ, ◌++◌, map, true, refl, sym, ap, subst, arith, ◌≤◌}
+use Rattle.std.proofs.Common.{◌≡◌, Bool, ℕ, ◌++◌, ◌-◌, ◌==◌, if◌then◌else◌, get_or, slice_set, map, true, refl, sym, ap, subst, arith, ◌≤◌, ◌∙◌}
+use Rattle.std.proofs.lemmas.List.{set-get_or}
 use Rattle.atomic_table.specs.Seated.{TableId}
 use Rattle.view_lists.specs.Lists.{Within}
 use Rattle.shared_object.specs.Standing.{Numbers}
 use Rattle.shared_object.specs.Steps.{Enters}
 use Rattle.shared_object.specs.Written.{placed, written_at, wrote}
-use Rattle.token_book.specs.Purse.{IsOf, bytes_of}
+use Rattle.token_book.specs.Purse.{IsOf, Purse, bytes_of}
 use Rattle.token_book.specs.Ticket.{IsTicket}
 use Rattle.generic_payload.specs.Payload.{PayloadView}
 use Rattle.one_history.specs.declared.entry.Sign.{Sign}
@@ -15,7 +16,8 @@ use Rattle.region_object.specs.Written.{built_of, content_of, written_from}
 use Rattle.cargo_net.specs.Traffic.{Backs, IsMemoryBuilt}
 use Rattle.region_object.specs.Call.{HasPayload, returned}
 use Rattle.plat_net.specs.Calls.{IsCalled}
-use Rattle.plat_net.proofs.CallLemmas.{backed_without_passage, transport_returns, called, memory_read}
+use Rattle.plat_net.specs.Net.{AreMemories}
+use Rattle.plat_net.proofs.CallLemmas.{backed_without_passage, transport_returns, returned_room, called, memory_read}
 use Rattle.plat_net.proofs.net.NetReach.call.Goals as goal
 
 pub step_alone-stepped-requires-clause-ticket : goal.step_alone-stepped-requires-clause-ticket
@@ -89,3 +91,29 @@ step_alone-stepped-requires-clause-tickets g c = c.self.invariant.3
 
 pub returns-clause-note : goal.returns-clause-note
 returns-clause-note g c = c.step_alone-stepped.ensures.note
+
+pub invariant_of-self : goal.invariant_of-self
+invariant_of-self g c =
+    let i = c.self.invariant in
+    let memories = c.self.inside.memories.items in
+    let m = c.args.memory in
+    let place = c.index_mut-place.result.now in
+    let new : c.step_alone-stepped.new.self ≡ get_or memories m place = c.step_alone-stepped.ensures.numbers ∙ c.index_mut-place.ensures.value in
+    let same : slice_set memories m c.step_alone-stepped.new.self ≡ memories = ap (slice_set memories m) new ∙ set-get_or memories m place in
+    (i.0, i.1, i.2, i.3, subst (AreMemories c.self.inside.plan) (sym same) i.4, i.5, i.6, i.7)
+
+pub returns-clause-room : goal.returns-clause-room
+returns-clause-room g c =
+    let s = c.step_alone-stepped.ensures.answer in
+    ap (λ (p : PayloadView). p.room) c.returned.ensures ∙ ap (λ (r : RegionReply). (returned r).room) s.4.1 ∙ returned_room s.0 c.args.call c.requires.fit
+
+pub returns-clause-ticket : goal.returns-clause-ticket
+returns-clause-ticket g c =
+    let m = c.args.memory in
+    let old = c.args.wallet.now in
+    let new = c.pull-ticket.new.self in record {
+      places = ap (λ (p : Purse). p.places) c.pull-ticket.ensures.wallet;
+      left = c.pull-ticket.ensures.left;
+      bytes_left = subst (λ (n : ℕ). (o : ℕ) → bytes_of new o ≡ (if o == m then bytes_of old m - n else bytes_of old o)) c.cost.ensures c.pull-ticket.ensures.bytes;
+      held = c.pull-ticket.ensures.held;
+    }
