@@ -18,7 +18,7 @@ def access(draw, addresses, scale):
         f"debug {address} {count}",
         f"ignore {address}",
         f"invalidate {address} {draw.choice([1, 8, 64, 2**64 - 1])}",
-        f"wait {draw.randrange(50)}",
+        f"wait {draw.choice([draw.randrange(50), draw.randrange(50), 2**32])}",
         "sync",
         "fence",
     ])

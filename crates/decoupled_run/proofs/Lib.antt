@@ -16,3 +16,4 @@ pub mod InvalidateLemmas
 pub mod MoreLemmas
 pub mod RunEntries
 pub mod StepLemmas
+pub mod DoneLemmas

@@ -1,11 +1,13 @@
 -- The items of a log read the same after bytes were appended, and an access reads as its parts.
-use Rattle.std.proofs.Common.{◌≡◌, ℕ, zero, suc, Option, Some, None, ◌+◌, ◌-◌, ◌^◌, ◌<◌, ◌≤◌, List, [], ◌∷◌, ◌++◌, length, drop, slice_range, slice_get, get_or, All, refl, sym, ◌∙◌, arith, append_assoc, length-append}
-use Rattle.std.specs.Prelude.{option_and_then, option_map}
+use Rattle.std.proofs.Common.{◌≡◌, ℕ, zero, suc, Option, Some, None, ◌+◌, ◌-◌, ◌^◌, ◌<◌, ◌≤◌, List, [], ◌∷◌, ◌++◌, length, drop, slice_range, slice_get, get_or, All, ap, refl, sym, ◌∙◌, arith, append_assoc, length-append}
+use Rattle.std.specs.Prelude.{IfSome, option_and_then, option_map}
+use Rattle.std.proofs.lemmas.Option.{slice_get-map}
 use Rattle.std.proofs.lemmas.List.{map-append, take_at, drop_at, take-append-le, drop-append-le, length-drop, append-nil}
 use Rattle.std.proofs.lemmas.List.Elements.{All-cons, All-head, All-nil, All-push, All-tail}
 use Rattle.tlm_types.specs.declared.entry.Entry.{Entry}
 use Rattle.tlm_types.specs.declared.entry.Facts.{Facts}
 use Rattle.tlm_types.specs.declared.entry.Head.{Head}
+use Rattle.log_items.specs.declared.brief.BriefEvent.{BriefEvent}
 use Rattle.log_items.specs.declared.long.Event.{Event}
 use Rattle.log_items.specs.declared.long.Event.TheVariants.{Plain as Simple, Access}
 use Rattle.log_items.specs.declared.long.Plain.TheVariants as plains
@@ -15,7 +17,7 @@ use Rattle.tlm_types.specs.declared.words.Way.{Way}
 use Rattle.tlm_types.specs.declared.words.Command.TheVariants.{Read, Write, Ignore, FetchAdd}
 use Rattle.tlm_types.specs.Entries.{access_by, entry_at, facts_of, head_of, kept_of, kept_sent, plain_of, read_at, sent_by}
 use Rattle.entry_log.specs.LogBytes.{HasParts, IsLast}
-use Rattle.log_items.specs.Items.{FullItem, bytes_for, what_in, item_entry, entries_of, facts_from, head_in, item_for, placed, plain_in, stored_at, IsKept, IsWithin, IsWord}
+use Rattle.log_items.specs.Items.{FullItem, brief_item, brief_what, bytes_for, what_in, item_entry, entries_of, facts_from, head_in, item_for, placed, plain_in, stored_at, IsKept, IsWithin, IsWord}
 
 -- a part of the bytes is the same after more were appended
 pub slice_range-append : (xs ys : List ℕ) (i j : ℕ) → i ≤ j → j ≤ length xs → slice_range (xs ++ ys) i j ≡ slice_range xs i j
@@ -154,6 +156,12 @@ pub read_head : (bytes : List ℕ) (items : List FullItem) (index : ℕ) → opt
 read_head bytes [] index = refl
 read_head bytes (item ∷ items) zero = refl
 read_head bytes (item ∷ items) (suc index) = read_head bytes items index
+
+-- an entry whose item is brief
+pub brief_entry : (bytes : List ℕ) (items : List FullItem) (index : ℕ) (found : Option (Head × BriefEvent)) → IfSome found (λ r. slice_get items index ≡ Some (brief_item r.0 r.1)) →
+    IfSome found (λ r. slice_get (entries_of bytes items) index ≡ Some (entry_at r.0 (brief_what r.1)))
+brief_entry bytes items index None here = here
+brief_entry bytes items index (Some r) here = slice_get-map (item_entry bytes) items index ∙ ap (option_map (item_entry bytes)) here
 
 -- the times of entries are those of their items
 pub entries_timed : (bytes : List ℕ) (items : List FullItem) → All (λ (i : FullItem). i.item.time < 2 ^ 64) items → All (λ (e : Entry). e.time < 2 ^ 64) (entries_of bytes items)

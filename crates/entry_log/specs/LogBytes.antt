@@ -12,7 +12,7 @@ pub record IsPast (keeps : Bool) (past : List Entry) (forgotten : ℕ) : Type 0 
   pub none : keeps ≡ true → forgotten ≡ 0
   pub count : forgotten ≡ length past
   pub timed : All (λ (e : Entry). e.time < 2 ^ 64) past
-  pub few : forgotten < 2 ^ 63
+  pub few : forgotten < 2 ^ 62
 
 -- a log of these items and bytes, with room for so many bytes more, which forgot these entries
 pub record IsStored (keeps : Bool) (past : List Entry) (forgotten : ℕ) (items : List FullItem) (bytes : List ℕ) (room_bytes capacity : ℕ) : Type 0 where

@@ -1,7 +1,7 @@
 // The log of an object: its entries in order, kept without a list of bytes for each.
 ghost use Rattle.std.specs.Prelude.{◌≡◌, ◌≢◌, ◌+◌, ◌^◌, ◌<◌, ◌≤◌, [], ◌++◌, length, true, false, All, Ok, Some, IsOk, IsSome, IsSomeAnd, IfSome, IfOk, IfErr, OnOk, OnErr, IsTrue, ◌↔◌, slice_get, slice_range, option_map, vec_len, vec_capacity};
 ghost use Rattle.entry_log.specs.LogBytes.{HasParts, IsLast, Reads};
-ghost use Rattle.log_items.specs.Items.{IsOrdered};
+ghost use Rattle.log_items.specs.Items.{brief_what, IsOrdered};
 ghost use Rattle.tlm_types.specs.Entries.{access_by, enables_of, entry_at, facts_of, got_of, head_of, is_access, plain_of, read_at, read_sends, sent_of};
 ghost use Rattle.entry_log.specs.Log.{with_entry};
 ghost use Rattle.tlm_types.specs.declared.entry.What.TheVariants.{Call};
@@ -9,11 +9,11 @@ ghost use Rattle.tlm_types.specs.declared.words.Command.TheVariants.{Read};
 
 mod past;
 
-use log_items::{Items, PlacedAccess, Span, WORD, plain_event};
+use log_items::{BriefEvent, Items, PlacedAccess, Span, WORD, copied_head, plain_event};
 use past::Past;
 use std::alloc::Global;
 use std::marker::Model;
-use tlm_types::{Facts, Head, Memory, Phase, TlmSync, TxnId, What};
+use tlm_types::{Facts, Head, Memory, Phase, TlmSync, What};
 
 /// An access of a log, with its bytes. What a read sent isn't kept, so of a read `sent` says nothing.
 #[derive(Clone, Copy)]
@@ -332,6 +332,15 @@ impl Log {
         self.items.what(index as usize)
     }
 
+    /// An entry of a hop or a pool in the brief form, where it is kept so.
+    #[inline(always)]
+    pub fn brief(&self, index: u64) -> Option<(Head, BriefEvent)>
+        requires { self.now.whole ≡ true }
+        ensures { IfSome result (λ r. slice_get self.now.entries index ≡ Some (entry_at r.0 (brief_what r.1))) }
+    {
+        self.items.brief(index as usize)
+    }
+
     /// The plain parts of an access, and for any other entry none.
     #[inline(always)]
     pub fn facts(&self, index: u64) -> Option<Facts>
@@ -442,22 +451,7 @@ const BYTES_MAX: u64 = 0xffff_ffff;
 // An access of so many bytes is a large one.
 const LARGE: u64 = 512;
 
-// Large accesses are handed on as copies, field by field: so what small ones come with stays in registers.
-#[inline(always)]
-fn copied_head(head: &Head) -> Head
-    ensures { result ≡ head.now }
-{
-    Head {
-        position: head.position,
-        object: head.object,
-        txn: TxnId {
-            initiator: head.txn.initiator,
-            seq: head.txn.seq,
-        },
-        time: head.time,
-    }
-}
-
+// The parts of a large access are handed on as copies, as its head is, so what small ones come with stays in registers.
 #[inline(always)]
 fn copied_facts(facts: &Facts) -> Facts
     ensures { result ≡ facts.now }

@@ -8,6 +8,7 @@ use crate::answer::{down, number_of, requested, responding};
 use base_phases::LaneState;
 use std::mem;
 use tlm_types::{Ps, TxnId};
+use view_lists::take_from;
 
 /// Which end of a hop waits for an item: the component downstream or the one upstream.
 #[derive(Clone, Copy)]
@@ -194,7 +195,7 @@ pub(crate) fn take_out<T>(lanes: &mut Vec<Lane<T>>, index: usize) -> Option<T>
         last: _,
         latest: _,
         item,
-    } = lanes.remove(index);
+    } = take_from(lanes, index);
     item
 }
 

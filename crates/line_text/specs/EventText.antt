@@ -1,11 +1,8 @@
 -- The line of a call at a hop, or of an entry of a pool.
 use Rattle.std.specs.Prelude.{ℕ, ◌≤◌, List, ◌++◌, length, Bool, true, false, codes}
-use Rattle.tlm_types.specs.declared.entry.What.{What}
-use Rattle.tlm_types.specs.declared.entry.What.TheVariants as happened
-use Rattle.report_model.specs.Report.{hop_word, what_words}
+use Rattle.log_items.specs.Items.{brief_what}
+use Rattle.report_model.specs.Report.{what_words}
 use Rattle.tlm_model.specs.Text.{line_of}
-use Rattle.line_text.specs.declared.event.Event.{Event}
-use Rattle.line_text.specs.declared.event.Event.TheVariants.{Call, Take, Acquire, Release}
 use Rattle.line_text.specs.declared.event.EventLine.{EventLine}
 use Rattle.line_text.specs.declared.event.EventPlace.{EventPlace}
 use Rattle.line_text.specs.declared.event.EventPlace.TheVariants.{Hop, Pool}
@@ -13,15 +10,8 @@ use Rattle.line_text.specs.Pieces.{seq_text, times_text}
 
 -- the name of a hop or a pool
 abbrev pub place_text : EventPlace → List ℕ
-place_text (Hop up down) = hop_word up.now down.now
+place_text (Hop name) = name.now
 place_text (Pool initiator) = initiator.now ++ codes ".pool"
-
--- what happened, as a history has it
-abbrev pub what_of : Event → What
-what_of (Call phase answer) = happened.Call phase answer
-what_of (Take slot) = happened.Take slot
-what_of (Acquire slot) = happened.Acquire slot
-what_of (Release slot freed) = happened.Release slot freed
 
 -- what stands behind the slot of a release
 abbrev pub freed_text : Bool → List ℕ
@@ -32,11 +22,11 @@ freed_text false = codes "\n"
 abbrev pub event_text : EventLine → List ℕ
 event_text a =
     times_text a.head.position a.head.time ++ (a.initiator.now ++ (seq_text a.head.txn.seq ++ (place_text a.place ++
-    (codes " " ++ line_of (what_words (what_of a.event))))))
+    (codes " " ++ line_of (what_words (brief_what a.event))))))
 
 -- its names are as short as those of a run
 abbrev pub IsBriefPlace : EventPlace → Type 0
-IsBriefPlace (Hop up down) = (length up.now ≤ 1024) × (length down.now ≤ 1024)
+IsBriefPlace (Hop name) = length name.now ≤ 2049
 IsBriefPlace (Pool initiator) = length initiator.now ≤ 1024
 
 pub record IsBrief (a : EventLine) : Type 0 where

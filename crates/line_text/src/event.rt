@@ -3,29 +3,22 @@ ghost use Rattle.std.specs.Prelude.{◌≡◌, ◌+◌, ◌≤◌, ◌++◌, len
 ghost use Rattle.std.specs.Fmt.{decimal};
 ghost use Rattle.report_model.specs.Report.{what_words};
 ghost use Rattle.tlm_model.specs.Text.{line_of};
-ghost use Rattle.line_text.specs.EventText.{event_text, freed_text, place_text, what_of, IsBrief, IsBriefPlace};
+ghost use Rattle.log_items.specs.Items.{brief_what};
+ghost use Rattle.line_text.specs.EventText.{event_text, freed_text, place_text, IsBrief, IsBriefPlace};
 ghost use Rattle.line_text.specs.Pieces.{Adds};
 
 use crate::access::NAME_MAX;
 use crate::call::write_call;
 use crate::pieces::{write_name, write_number, write_seq, write_times, write_word};
+use log_items::BriefEvent;
 use outside::Piece;
-use tlm_types::{Head, Phase, TlmSync};
+use tlm_types::{Head, TlmSync};
 
-/// The name of a hop, by those of its two ends, or of a pool, by that of its initiator.
+/// The name of a hop, or of a pool, by that of its initiator.
 #[derive(Clone, Copy)]
 pub enum EventPlace<'a> {
-    Hop { up: &'a [u8], down: &'a [u8] },
+    Hop { name: &'a [u8] },
     Pool { initiator: &'a [u8] },
-}
-
-/// What happened at a hop or at a pool.
-#[derive(Clone, Copy)]
-pub enum Event {
-    Call { phase: Phase, answer: TlmSync },
-    Take { slot: u32 },
-    Acquire { slot: u32 },
-    Release { slot: u32, freed: bool },
 }
 
 /// The words of the line of a call at a hop, or of an entry of a pool.
@@ -34,8 +27,11 @@ pub struct EventLine<'a> {
     pub head: Head,
     pub initiator: &'a [u8],
     pub place: EventPlace<'a>,
-    pub event: Event,
+    pub event: BriefEvent,
 }
+
+// How many bytes the name of a hop of a run has at most: those of its two ends, and a mark between them.
+const HOP_NAME_MAX: usize = 2 * NAME_MAX + 1;
 
 // How many bytes such a line takes at most, where its names are short.
 const EVENT_MAX: usize = 3173;
@@ -47,7 +43,7 @@ impl EventPlace<'_> {
         ensures { IsTrue result → IsBriefPlace self.now }
     {
         match self {
-            EventPlace::Hop { up, down } => up.len() <= NAME_MAX && down.len() <= NAME_MAX,
+            EventPlace::Hop { name } => name.len() <= HOP_NAME_MAX,
             EventPlace::Pool { initiator } => initiator.len() <= NAME_MAX,
         }
     }
@@ -72,11 +68,7 @@ fn write_place(bytes: &mut [u8], start: usize, place: EventPlace<'_>) -> usize
     ensures within { result ≤ start + 2049 }
 {
     match place {
-        EventPlace::Hop { up, down } => {
-            let mark = write_name(bytes, start, up);
-            let name = write_word(bytes, mark, b">");
-            write_name(bytes, name, down)
-        }
+        EventPlace::Hop { name } => write_name(bytes, start, name),
         EventPlace::Pool { initiator } => {
             let mark = write_name(bytes, start, initiator);
             write_word(bytes, mark, b".pool")
@@ -86,7 +78,7 @@ fn write_place(bytes: &mut [u8], start: usize, place: EventPlace<'_>) -> usize
 
 // A word with its spaces, and the number of a slot.
 #[inline(always)]
-fn write_slot<const N: usize>(bytes: &mut [u8], start: usize, word: &[u8; N], slot: u32) -> usize
+fn write_slot<const N: usize>(bytes: &mut [u8], start: usize, word: &[u8; N], slot: u8) -> usize
     requires { start + N + 20 ≤ length bytes.old }
     ensures adds { Adds bytes.old bytes.new start result (word.now ++ decimal slot) }
     ensures within { result ≤ start + N + 20 }
@@ -97,22 +89,26 @@ fn write_slot<const N: usize>(bytes: &mut [u8], start: usize, word: &[u8; N], sl
 
 // What happened, after a space and with the end of the line.
 #[inline(always)]
-fn write_what(bytes: &mut [u8], start: usize, event: Event) -> usize
+fn write_what(bytes: &mut [u8], start: usize, event: BriefEvent) -> usize
     requires { start + 36 ≤ length bytes.old }
-    ensures adds { Adds bytes.old bytes.new start result (codes " " ++ line_of (what_words (what_of event))) }
+    ensures adds { Adds bytes.old bytes.new start result (codes " " ++ line_of (what_words (brief_what event))) }
     ensures within { result ≤ start + 36 }
 {
     match event {
-        Event::Call { phase, answer } => write_call(bytes, start, phase, answer),
-        Event::Take { slot } => {
+        BriefEvent::Accepted { phase } => write_call(bytes, start, phase, TlmSync::Accepted),
+        BriefEvent::Updated { phase, next } => {
+            write_call(bytes, start, phase, TlmSync::Updated(next))
+        }
+        BriefEvent::Completed { phase } => write_call(bytes, start, phase, TlmSync::Completed),
+        BriefEvent::Take { slot } => {
             let end = write_slot(bytes, start, b" take ", slot);
             write_word(bytes, end, b"\n")
         }
-        Event::Acquire { slot } => {
+        BriefEvent::Acquire { slot } => {
             let end = write_slot(bytes, start, b" acquire ", slot);
             write_word(bytes, end, b"\n")
         }
-        Event::Release { slot, freed } => {
+        BriefEvent::Release { slot, freed } => {
             let end = write_slot(bytes, start, b" release ", slot);
             write_freed(bytes, end, freed)
         }

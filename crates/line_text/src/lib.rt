@@ -17,6 +17,6 @@ mod pieces;
 mod row;
 
 pub use access::AccessLine;
-pub use event::{Event, EventLine, EventPlace};
+pub use event::{EventLine, EventPlace};
 pub use pieces::{LinePiece, PIECE_MAX, write_bytes, write_data, write_piece};
 pub use row::RowLine;

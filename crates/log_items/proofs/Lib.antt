@@ -1,1 +1,2 @@
+mod Briefs
 mod ShortForms

@@ -5,6 +5,9 @@ use Rattle.tlm_types.specs.declared.entry.Facts.{Facts}
 use Rattle.tlm_types.specs.declared.entry.Head.{Head}
 use Rattle.tlm_types.specs.declared.entry.What.{What}
 use Rattle.tlm_types.specs.declared.entry.What.TheVariants as whats
+use Rattle.log_items.specs.declared.brief.Brief.{Brief}
+use Rattle.log_items.specs.declared.brief.BriefEvent.{BriefEvent}
+use Rattle.log_items.specs.declared.brief.BriefEvent.TheVariants as briefs
 use Rattle.log_items.specs.declared.item.Item.{Item}
 use Rattle.log_items.specs.declared.item.Item.TheVariants as items
 use Rattle.log_items.specs.declared.item.ShortAccess.{ShortAccess}
@@ -24,6 +27,7 @@ use Rattle.tlm_types.specs.declared.words.Command.TheVariants.{Read, Write, Igno
 use Rattle.tlm_types.specs.declared.words.ObjectNo.{ObjectNo}
 use Rattle.tlm_types.specs.declared.words.ObjectNo.TheVariants.{Memory, Hop, Pool}
 use Rattle.tlm_types.specs.declared.words.Response.TheVariants.{Ok}
+use Rattle.tlm_types.specs.declared.words.TlmSync.TheVariants.{Accepted, Updated, Completed}
 use Rattle.tlm_types.specs.declared.words.Way.{Way}
 use Rattle.tlm_types.specs.declared.words.Way.TheVariants.{Blocking, FourPhase, Direct, Debug}
 use Rattle.tlm_types.specs.Entries.{access_by, entry_at}
@@ -146,6 +150,35 @@ word_access w = record { command = w.command; initiator = w.initiator; object = 
 
 abbrev pub word_head : Word → ShortHead
 word_head w = record { time = w.time; position = w.position; seq = w.seq }
+
+-- what happened, from the brief form
+abbrev pub brief_plain : BriefEvent → Plain
+brief_plain (briefs.Accepted phase) = Call phase Accepted
+brief_plain (briefs.Updated phase next) = Call phase (Updated next)
+brief_plain (briefs.Completed phase) = Call phase Completed
+brief_plain (briefs.Take slot) = Take slot
+brief_plain (briefs.Acquire slot) = Acquire slot
+brief_plain (briefs.Release slot freed) = Release slot freed
+
+-- the head of a brief item at this object
+abbrev pub brief_head : ObjectNo → Brief → Head
+brief_head object b = record { position = b.position; object = object; txn = record { initiator = b.initiator; seq = b.seq }; time = b.time }
+
+abbrev pub brief_what : BriefEvent → What
+brief_what e = plain_what (brief_plain e)
+
+-- the long form of a brief item with this head
+abbrev pub brief_item : Head → BriefEvent → FullItem
+brief_item head event = placed (item_for head 0 (Simple (brief_plain event)))
+
+-- the long form of a brief item at this object
+abbrev pub brief_form : ObjectNo → Brief → FullItem
+brief_form object b = brief_item (brief_head object b) b.event
+
+-- brief items in their long form, and for how many there is room
+pub record BriefView : Type 0 where
+  pub items : List FullItem
+  pub room : ℕ
 
 -- the long form of an item, where these are the long items
 abbrev pub long_form : List LongItem → Item → FullItem

@@ -364,7 +364,7 @@ fn word_of(bytes: &[u8]) -> [u8; WORD]
 
 // A call at a hop in the short form, where it has one.
 #[inline(always)]
-pub(crate) fn short_call(head: Head, phase: Phase, answer: TlmSync) -> Option<Item>
+fn short_call(head: Head, phase: Phase, answer: TlmSync) -> Option<Item>
     ensures { IfSome result (IsShortFor (item_for head 0 (events.Plain (Call phase answer)))) }
 {
     let ObjectNo::Hop(hop) = head.object else {
@@ -571,7 +571,7 @@ fn full_way(way: ShortWay) -> Way
 
 // The number, where it is so small.
 #[inline(always)]
-fn in_one_byte(number: u32) -> Option<u8>
+pub(crate) fn in_one_byte(number: u32) -> Option<u8>
     ensures { IfSome result (λ byte. byte ≡ number) }
 {
     if number > u8::MAX as u32 {

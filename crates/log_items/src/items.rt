@@ -1,11 +1,14 @@
-// The items of a log: those of most entries in a short form, and the others in a second list.
-ghost use Rattle.std.specs.Prelude.{◌≡◌, ◌^◌, ◌<◌, [], ◌∷◌, ◌++◌, length, Some, IsOk, IfOk, OnOk, OnErr, IfSome, slice_get, option_map, option_and_then, true, false};
-ghost use Rattle.log_items.specs.Items.{access_in, facts_from, head_in, item_for, long_form, placed, plain_in, stored_at, IsOrdered, FitsItems, HasWord};
+// The items of a log: those of most entries in a brief or a short form, and the others in a list of their own.
+ghost use Rattle.std.specs.Prelude.{◌≡◌, ◌+◌, ◌^◌, ◌<◌, [], ◌∷◌, ◌++◌, length, Some, IsOk, IfOk, OnOk, OnErr, IfSome, slice_get, option_map, option_and_then, true, false};
+ghost use Rattle.log_items.specs.Items.{access_in, brief_item, facts_from, head_in, item_for, long_form, placed, plain_in, stored_at, IsOrdered, FitsItems, HasWord};
 ghost use Rattle.log_items.specs.declared.long.Event.TheVariants as events;
 ghost use Rattle.log_items.specs.declared.long.Plain.TheVariants.{Call};
 
-use crate::item::{Item, short_access, short_call, short_event, short_word};
-use crate::long::{Event, LongItem, PlacedAccess, Plain, Span, long_item, stored_access};
+use crate::brief::{BriefEvent, BriefItems};
+use crate::item::{Item, short_access, short_event, short_word};
+use crate::long::{
+    Event, LongItem, PlacedAccess, Plain, Span, copied_head, long_item, stored_access,
+};
 use std::alloc::Global;
 use std::marker::Model;
 use tlm_types::{Facts, Head, Memory, Phase, TlmSync, What};
@@ -14,39 +17,47 @@ use tlm_types::{Facts, Head, Memory, Phase, TlmSync, What};
 /// stand in the item itself, and the room that was made for them.
 #[derive(Drop)]
 pub struct Items {
+    // The first ones, where they are brief.
+    brief: BriefItems,
     items: Vec<Item>,
     long: Vec<LongItem>,
     room: u64,
 }
 
 impl Model for Items {
-    ghost use Rattle.std.specs.Prelude.{map, vec_capacity};
+    ghost use Rattle.std.specs.Prelude.{◌++◌, map, vec_capacity};
     ghost use Rattle.log_items.specs.Items.{AreItems, ItemsView, long_form};
 
     ghost Value = { ItemsView };
 
-    ghost view = { λ l. record { items = map (long_form l.long.items) l.items.items; room = l.room } };
+    ghost view = { λ l. record { items = l.brief.items ++ map (long_form l.long.items) l.items.items; room = l.room } };
 
     ghost invariant = { λ l. AreItems l.items.items l.long.items l.room (vec_capacity l.items) (vec_capacity l.long) };
 }
 
 impl Items {
     /// No items, with room for so many. Its only error is want of memory.
-    // Memory that no item was written to costs nothing, so there is room for the long form of each.
+    // Memory that no item was written to costs nothing, so there is room for each form of each.
     pub fn with_room(alloc: Global, room: u64) -> Result<Items, Memory>
         ensures { IfOk result (λ l. l ≡ record { items = []; room = room }) }
     {
+        let brief = BriefItems::with_room(alloc, room)?;
         let items = Vec::with_capacity(alloc, room as usize)?;
         let long = Vec::with_capacity(alloc, room as usize)?;
-        Ok(Items { items, long, room })
+        Ok(Items {
+            brief,
+            items,
+            long,
+            room,
+        })
     }
 
     /// How many there are.
     pub fn len(&self) -> usize
         ensures len { result ≡ length self.now.items }
-        ensures small { result < 2 ^ 63 }
+        ensures small { result < 2 ^ 63 + 2 ^ 33 }
     {
-        self.items.len()
+        self.brief.len() + self.items.len()
     }
 
     /// For how many room was made.
@@ -60,6 +71,7 @@ impl Items {
     pub fn clear(&mut self)
         ensures { self.new ≡ record self.old { items = [] } }
     {
+        self.brief.clear();
         self.items.clear();
         self.long.clear();
     }
@@ -71,10 +83,10 @@ impl Items {
         ensures err { OnErr result (self.new ≡ self.old) }
         ensures roomy { length self.old.items < self.old.room → IsOk result }
     {
-        match short_event(head, event) {
-            Some(item) => self.push_short(item),
-            None => self.push_long(long_item(head, 0, Event::Plain(event))),
+        if self.items.is_empty() && self.brief.push_event(&head, event) {
+            return Ok(());
         }
+        self.push_other(copied_head(&head), event)
     }
 
     /// Appends a call at a hop, as `push_event` does.
@@ -84,12 +96,23 @@ impl Items {
         ensures err { OnErr result (self.new ≡ self.old) }
         ensures roomy { length self.old.items < self.old.room → IsOk result }
     {
-        match short_call(head, phase, answer) {
+        if self.items.is_empty() && self.brief.push_call(&head, phase, answer) {
+            return Ok(());
+        }
+        self.push_other(copied_head(&head), Plain::Call { phase, answer })
+    }
+
+    // Appends an entry that is no access and has no brief form here, as most such entries have.
+    #[cold]
+    #[inline(never)]
+    fn push_other(&mut self, head: Head, event: Plain) -> Result<(), Memory>
+        ensures ok { OnOk result (self.new ≡ record self.old { items = self.old.items ++ placed (item_for head 0 (events.Plain event)) ∷ [] }) }
+        ensures err { OnErr result (self.new ≡ self.old) }
+        ensures roomy { length self.old.items < self.old.room → IsOk result }
+    {
+        match short_event(head, event) {
             Some(item) => self.push_short(item),
-            None => {
-                let event = Event::Plain(Plain::Call { phase, answer });
-                self.push_long(long_item(head, 0, event))
-            }
+            None => self.push_long(long_item(head, 0, Event::Plain(event))),
         }
     }
 
@@ -166,7 +189,10 @@ impl Items {
         requires { index < length self.now.items }
         ensures { option_map (λ i. head_in i.item) (slice_get self.now.items index) ≡ Some result }
     {
-        self.items[index].head(&self.long)
+        match self.brief.head(index) {
+            Some(head) => head,
+            None => self.items[index - self.brief.len()].head(&self.long),
+        }
     }
 
     /// What happened, and for an access none.
@@ -174,7 +200,18 @@ impl Items {
         requires { index < length self.now.items }
         ensures { result ≡ option_and_then (λ i. plain_in i.item.event) (slice_get self.now.items index) }
     {
-        self.items[index].what(&self.long)
+        match self.brief.get(index) {
+            Some((_, event)) => Some(event.what()),
+            None => self.items[index - self.brief.len()].what(&self.long),
+        }
+    }
+
+    /// An entry of a hop or a pool in the brief form, where it is kept so.
+    #[inline(always)]
+    pub fn brief(&self, index: usize) -> Option<(Head, BriefEvent)>
+        ensures { IfSome result (λ r. slice_get self.now.items index ≡ Some (brief_item r.0 r.1)) }
+    {
+        self.brief.get(index)
     }
 
     /// The plain parts of an access, and for any other entry none.
@@ -183,7 +220,10 @@ impl Items {
         requires { index < length self.now.items }
         ensures { result ≡ option_and_then (λ i. facts_from i.item.event) (slice_get self.now.items index) }
     {
-        self.items[index].facts(&self.long)
+        if self.brief.has(index) {
+            return None;
+        }
+        self.items[index - self.brief.len()].facts(&self.long)
     }
 
     /// An access, with where its bytes stand, and for any other entry none. Where they stand in its item, it comes with
@@ -194,6 +234,9 @@ impl Items {
         ensures access { option_map (λ r. r.0) result ≡ option_and_then (λ i. access_in i.item) (slice_get self.now.items index) }
         ensures own { IfSome result (λ r. option_map (λ b. b.now) r.1 ≡ option_and_then (λ i. i.own) (slice_get self.now.items index)) }
     {
-        self.items[index].access(&self.long)
+        if self.brief.has(index) {
+            return None;
+        }
+        self.items[index - self.brief.len()].access(&self.long)
     }
 }

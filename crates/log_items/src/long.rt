@@ -103,6 +103,23 @@ pub(crate) fn long_item(head: Head, start: u32, event: Event) -> LongItem
     }
 }
 
+/// The head of an entry, field by field: so a part of it that is needed where this is inlined stays in a register, also
+/// where the copy goes to a function that isn't.
+#[inline(always)]
+pub fn copied_head(head: &Head) -> Head
+    ensures { result ≡ head.now }
+{
+    Head {
+        position: head.position,
+        object: head.object,
+        txn: TxnId {
+            initiator: head.txn.initiator,
+            seq: head.txn.seq,
+        },
+        time: head.time,
+    }
+}
+
 pub(crate) fn head_of(item: &LongItem) -> Head
     ensures { result ≡ head_in item.now }
 {

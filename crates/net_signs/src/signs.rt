@@ -80,6 +80,15 @@ fn no_pools<C: Count>(alloc: Global, count: usize) -> Result<Vec<PoolSigns<C>>, 
 }
 
 impl<C: Count> HopSigns<C> {
+    fn count_as<D: Count>(&self, other: &HopSigns<D>) {
+        self.requests.set(other.requests.value());
+        self.responses.set(other.responses.value());
+        self.open_requests.set(other.open_requests.value());
+        self.open_responses.set(other.open_responses.value());
+        self.live.set(other.live.value());
+        self.lanes.set(other.lanes.value());
+    }
+
     // A request was left for the component downstream. It is open where it was only accepted.
     fn leave_request(&self, answer: TlmSync) {
         self.requests.raise();
@@ -129,6 +138,13 @@ impl<C: Count> HopSigns<C> {
     }
 }
 
+impl<C: Count> PoolSigns<C> {
+    fn count_as<D: Count>(&self, other: &PoolSigns<D>) {
+        self.live.set(other.live.value());
+        self.slots.set(other.slots.value());
+    }
+}
+
 impl<C: Count> Signs<C> {
     /// Those of so many hops and initiators before the first call. The only error is want of memory.
     pub fn new(alloc: Global, hops: usize, initiators: usize) -> Result<Signs<C>, AllocError> {
@@ -136,6 +152,16 @@ impl<C: Count> Signs<C> {
             hops: no_hops(alloc, hops)?,
             pools: no_pools(alloc, initiators)?,
         })
+    }
+
+    /// Counts what others have counted, of as many hops and initiators.
+    pub fn count_as<D: Count>(&self, others: &Signs<D>) {
+        for (own, other) in self.hops.iter().zip(others.hops.iter()) {
+            own.count_as(other);
+        }
+        for (own, other) in self.pools.iter().zip(others.pools.iter()) {
+            own.count_as(other);
+        }
     }
 
     fn hop(&self, hop: u32) -> Option<&HopSigns<C>> {

@@ -1,6 +1,7 @@
 -- The pool of an initiator is found among the pools.
 use Rattle.std.proofs.Common.{◌≡◌, ℕ, zero, suc, List, [], ◌∷◌, length, map, Some, refl, sym, ap, subst, ◌∙◌}
 use Rattle.std.specs.Prelude.{slice_get}
+use Rattle.std.proofs.lemmas.List.{length-map}
 use Rattle.tlm_types.specs.declared.words.ObjectNo.{ObjectNo}
 use Rattle.tlm_types.specs.declared.words.ObjectNo.TheVariants.{Pool}
 use Rattle.tlm_model.specs.Plan.{Plan}
@@ -23,3 +24,8 @@ pool_found p q pools read i are same has is =
     unmapped [] k at = cc
     unmapped (x ∷ l) zero at = (x, (0, refl), same_own x.own i at)
     unmapped (x ∷ l) (suc k) at = let r = unmapped l k at in (r.0, (suc r.1.0, r.1.1), r.2)
+
+-- how many pools stand in their list
+pub pools-count : (p world : Plan) (pools : List Numbers) → ArePools p.platform pools → p ≡ world → length pools ≡ length (pools_of world.platform (length world.platform.initiators))
+pools-count p world pools are same =
+    sym (length-map pools (λ (s : Numbers). Pool s.own)) ∙ (ap length are.objects ∙ ap (λ (q : Plan). length (pools_of q.platform (length q.platform.initiators))) same)

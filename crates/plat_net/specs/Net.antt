@@ -1,5 +1,5 @@
 -- The memories, the hops and the pools of a net.
-use Rattle.std.specs.Prelude.{ℕ, ◌≡◌, ◌<◌, true, List, length, map}
+use Rattle.std.specs.Prelude.{ℕ, ◌≡◌, ◌<◌, ◌≤◌, true, List, [], length, map}
 use mathlib.Core.Option.{some}
 use lib.ListN.{get_elem?}
 use Rattle.tlm_types.specs.declared.words.ObjectNo.TheVariants.{Hop, Pool}
@@ -51,3 +51,7 @@ HasPoolOf pools i = (s : Numbers) × Has pools s × (s.own ≡ i)
 
 abbrev pub ArePools : Platform → List Numbers → Type 0
 ArePools p pools = ArePoolsTo p (length p.initiators) pools
+
+-- a list in which nothing stands yet, with this capacity, has room for so many
+abbrev pub IsRoom : {X : Type 0} → ℕ → List X → ℕ → Type 0
+IsRoom count items capacity = (items ≡ []) × (count ≤ capacity)

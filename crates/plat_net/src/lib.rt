@@ -5,6 +5,7 @@
 //!   with its log. `Sharing` says what keeps these: locks, for `ManyThreads`, or cells, for `OneThread`. `TlmLaw` is
 //!   the law of the history: it says which earlier entries back an entry of four-phase traffic, and backs every
 //!   other entry.
+//!   `Net::kept_by` has another way keep them, in a `NetRoom` that was made before.
 //! - `Net::call_memory` makes a call at a memory, and `Net::debug` a debug read along its route. A `Reach` is a
 //!   way to the memories: of a thread that shares the net, or of the only one who has it. `Net::forget_memories` has
 //!   the memories' logs forget what nobody will read.
@@ -29,6 +30,6 @@ mod sharing;
 
 pub use calls::Carried;
 pub use law::{PlatHistory, PlatNote, PlatSeat, SharedHop, SharedMemory, SharedPool, TlmLaw};
-pub use net::{Net, NetParts};
+pub use net::{Net, NetParts, NetRoom};
 pub use reach::Reach;
 pub use sharing::{ManyThreads, OneThread, Sharing};

@@ -1,8 +1,9 @@
 // The net: what threads share of a platform.
-ghost use Rattle.std.specs.Prelude.{◌≡◌, ◌<◌, length};
+ghost use Rattle.std.specs.Prelude.{◌≡◌, ◌<◌, length, vec_capacity};
 ghost use Rattle.view_lists.specs.Lists.{Has};
 ghost use Rattle.route_plan.specs.Valid.{hop_count};
-ghost use Rattle.plat_net.specs.Net.{hop_numbers, memory_numbers, pool_numbers, HasPool, HasPoolOf};
+ghost use Rattle.plat_net.specs.Net.{hop_numbers, memory_numbers, pool_numbers, HasPool, HasPoolOf, IsRoom};
+ghost use Rattle.plat_net.specs.Objects.{pools_of};
 
 use crate::calls::returned;
 use crate::law::{PlatHistory, PlatNote, SharedHop, SharedMemory, SharedPool, TlmLaw};
@@ -12,9 +13,11 @@ use generic_payload::Payload;
 use net_signs::Signs;
 use region_object::RegionCall;
 use route_plan::Plan;
-use shared_object::{Naming, Stepped};
+use shared_object::{Naming, Stepped, kept_by_others};
+use std::alloc::Global;
 use std::marker::Model;
 use std::sync::Wait;
+use tlm_types::Memory;
 use token_book::{Tokens, Wallet};
 
 /// The objects of a platform, as S keeps them, with their history and their tokens, which N names. Contracts
@@ -68,6 +71,18 @@ pub struct NetParts<N: Naming<Plan, TlmLaw>, S: Sharing<N>> {
     pub memories: Vec<SharedMemory<N, S>>,
     pub hops: Vec<SharedHop<N, S>>,
     pub pools: Vec<SharedPool<N, S>>,
+}
+
+/// Room for the objects of a net and for its signs, when they are kept in another way.
+#[derive(Drop)]
+pub struct NetRoom<N: Naming<Plan, TlmLaw>, S: Sharing<N>> {
+    memories: Vec<SharedMemory<N, S>>,
+    hops: Vec<SharedHop<N, S>>,
+    pools: Vec<SharedPool<N, S>>,
+    signs: Signs<S::Count>,
+    ghost for_memories: { IsRoom (length N.frame.world.platform.memories) memories.items (vec_capacity memories) },
+    ghost for_hops: { IsRoom (hop_count N.frame.world.platform) hops.items (vec_capacity hops) },
+    ghost for_pools: { IsRoom (length (pools_of N.frame.world.platform (length N.frame.world.platform.initiators))) pools.items (vec_capacity pools) },
 }
 
 impl<N: Naming<Plan, TlmLaw>, S: Sharing<N>> Net<N, S> {
@@ -187,6 +202,52 @@ impl<N: Naming<Plan, TlmLaw>, S: Sharing<N>> Net<N, S> {
     pub fn forget_memories<R: Wait>(&self, rt: &R) {
         for memory in &self.memories {
             memory.forget(rt);
+        }
+    }
+
+    /// Room for its objects and its signs, when T keeps them. Its only error is want of memory.
+    pub fn room_for<T: Sharing<N>>(&self, alloc: Global) -> Result<NetRoom<N, T>, Memory> {
+        let memories = Vec::with_capacity(alloc, self.memories.len())?;
+        let hops = Vec::with_capacity(alloc, self.hops.len())?;
+        let pools = Vec::with_capacity(alloc, self.pools.len())?;
+        let initiators = self.plan.platform().initiators.as_slice().len();
+        let signs = Signs::new(alloc, self.hops.len(), initiators)?;
+        Ok(NetRoom {
+            memories,
+            hops,
+            pools,
+            signs,
+        })
+    }
+
+    /// The same net, whose objects T keeps from now on, in room that was made for them. It takes no memory.
+    pub fn kept_by<T: Sharing<N>>(self, room: NetRoom<N, T>) -> Net<N, T>
+        ensures { result ≡ self }
+    {
+        let NetRoom {
+            memories,
+            hops,
+            pools,
+            signs,
+        } = room;
+        signs.count_as(&self.signs);
+        let Net {
+            plan,
+            history,
+            tickets,
+            memories: old_memories,
+            hops: old_hops,
+            pools: old_pools,
+            signs: _signs,
+        } = self;
+        Net {
+            plan,
+            history,
+            tickets,
+            memories: kept_by_others(old_memories, memories),
+            hops: kept_by_others(old_hops, hops),
+            pools: kept_by_others(old_pools, pools),
+            signs,
         }
     }
 

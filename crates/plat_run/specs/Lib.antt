@@ -4,3 +4,4 @@ pub mod Nodes
 pub mod Actors
 pub mod Turn
 pub mod HandedIn
+pub mod Begun

@@ -28,9 +28,8 @@ pub(crate) fn forget_unless_kept<N: Naming<Plan, TlmLaw>, S: Sharing<N>, R: Wait
     }
 }
 
-/// Waits for a history that is in store, where the logs are kept. It is one, since then no memory was told to forget: but
-/// objects under locks are known by their types alone, which say nothing of it. So it is looked up, and where it weren't so,
-/// this waits without end.
+/// Waits for a history that is in store, where the logs are kept. It is one, since then no memory was told to forget: but objects that are kept
+/// are known by their types alone, which say nothing of it. So it is looked up, and where it weren't so, this waits without end.
 pub(crate) fn until_in_store<R: Wait>(rt: &R, history: &MergedLog, logs: Logs)
     ensures { logs ≡ Logs.Kept → history.now.whole ≡ true }
 {

@@ -6,6 +6,7 @@ ghost use Rattle.plat_build.specs.Kept.{all_waiting};
 ghost use Rattle.plat_net.specs.Objects.{frame_of};
 ghost use Rattle.run_outcome.specs.Outcome.{IsWhole};
 ghost use Rattle.plat_run.specs.Actors.{is_done, number_of};
+ghost use Rattle.plat_run.specs.Begun.{HasBegun};
 ghost use Rattle.plat_end.specs.End.{AreFinished};
 ghost use Rattle.plat_end.specs.Entries.{entries_read};
 ghost use Rattle.plat_end.specs.Room.{HasRoom};
@@ -31,9 +32,18 @@ use std::thread::Threads;
 use time_board::Board;
 use tlm_types::Memory;
 
-/// Runs the initiators of a net that was just built by so many workers, 1 to 16, until all have finished. Each access and each debug read is told to the pace before it is made, while no lock is
-/// held. The history is good for the plan whatever the workers do in which order, and it is sealed. Its
-/// only error is want of memory, before the first worker starts.
+/// A run before its first turn: its jobs, of which the first so many are those of initiators, the board of their rounds, and room for what these leave.
+#[derive(Drop)]
+pub(crate) struct Begun<N: Naming<Plan, TlmLaw>> {
+    jobs: Vec<Actor<N>>,
+    count: u32,
+    board: Board,
+    handed: HandedIn,
+}
+
+/// Runs the initiators of a net that was just built by so many workers, 1 to 16, until all have finished. Once the workers have left, the caller goes
+/// on alone, and takes no lock for a call at an object any more. Each access and each debug read is told to the pace before it is made, while no lock is
+/// held. The history is good for the plan whatever the workers do in which order, and it is sealed. Its only error is want of memory, before the first worker starts.
 pub fn run<N: Naming<Plan, TlmLaw> + Send + Sync, P: Pace + Sync, R: Threads + Wait + Sync>(
     rt: &R,
     alloc: Global,
@@ -50,13 +60,13 @@ pub fn run<N: Naming<Plan, TlmLaw> + Send + Sync, P: Pace + Sync, R: Threads + W
     ensures world { IfOk result (λ r. (r.1.table ≡ N.table) × (r.1.world ≡ built.net)) }
     ensures whole_log { logs ≡ Logs.Kept → IfOk result (λ r. r.0.history.whole ≡ true) }
 {
-    let Built { mut net, mut kept } = built;
+    let Built { net, mut kept } = built;
     let apart = Apart::room_for(alloc, &net)?;
+    let room = net.room_for::<OneThread>(alloc)?;
     forget_unless_kept(rt, &net, logs);
-    let handed = finish_all(rt, alloc, &mut net, &mut kept, workers, pace)?;
-    let (outcome, sealed) = end_run(rt, net, handed, apart);
-    until_in_store(rt, &outcome.history, logs);
-    Ok((outcome, sealed))
+    let begun = begin_run(rt, alloc, &net, &mut kept)?;
+    let begun = share_turns(rt, alloc, &net, begun, pace, workers)?;
+    Ok(finish_run(rt, net.kept_by(room), begun, apart, pace, logs))
 }
 
 /// Runs the initiators of a net that was just built for one thread, which is the caller's, as `run` does by one worker.
@@ -76,56 +86,66 @@ pub fn run_alone<N: Naming<Plan, TlmLaw>, S: Sharing<N>, P: Pace, R: Wait>(
     ensures world { IfOk result (λ r. (r.1.table ≡ N.table) × (r.1.world ≡ built.net)) }
     ensures whole_log { logs ≡ Logs.Kept → IfOk result (λ r. r.0.history.whole ≡ true) }
 {
-    let Built { mut net, mut kept } = built;
+    let Built { net, mut kept } = built;
     let apart = Apart::room_for(alloc, &net)?;
     forget_unless_kept(rt, &net, logs);
-    let handed = finish_alone(rt, alloc, &mut net, &mut kept, pace)?;
+    let begun = begin_run(rt, alloc, &net, &mut kept)?;
+    Ok(finish_run(rt, net, begun, apart, pace, logs))
+}
+
+// The jobs of a net that was just built, with their board and with room for what they leave. Its only error is want of memory.
+fn begin_run<N: Naming<Plan, TlmLaw>, S: Sharing<N>, R: Wait>(
+    rt: &R,
+    alloc: Global,
+    net: &Net<N, S>,
+    kept: &mut Kept<N>,
+) -> Result<Begun<N>, Memory>
+    requires kept { kept.old ≡ all_waiting net.now.platform }
+    ensures { IfOk result (HasBegun (length N.frame.world.platform.initiators)) }
+{
+    let jobs = begin_jobs(alloc, net, kept)?;
+    let count = net.plan().platform().initiators.as_slice().len() as u32;
+    let handed = HandedIn::with_room(alloc, count)?;
+    let board = begin_board(rt, alloc, &jobs, count)?;
+    Ok(Begun {
+        jobs,
+        count,
+        board,
+        handed,
+    })
+}
+
+// Gives turns by the caller alone until all initiators have finished, takes the net apart, and makes the outcome of it. It takes no memory.
+fn finish_run<N: Naming<Plan, TlmLaw>, S: Sharing<N>, P: Pace, R: Wait>(
+    rt: &R,
+    mut net: Net<N, S>,
+    begun: Begun<N>,
+    apart: Apart,
+    pace: &P,
+    logs: Logs,
+) -> (Outcome, PlatSealed)
+    requires begun { HasBegun (length N.frame.world.platform.initiators) begun }
+    requires apart { HasRoom (length (objects_of N.frame.world.platform)) (length N.frame.world.platform.memories) apart }
+    ensures whole { IsWhole N.frame.world result.0 }
+    ensures core { IsCoreRun N.frame.world result.0.history.entries }
+    ensures sealed { entries_read N.frame.world.platform result.1.entries ≡ result.0.history.entries }
+    ensures world { (result.1.table ≡ N.table) × (result.1.world ≡ N.frame.world) }
+    ensures whole_log { logs ≡ Logs.Kept → result.0.history.whole ≡ true }
+{
+    let Begun {
+        jobs,
+        count,
+        board,
+        handed,
+    } = begun;
+    let jobs = give_all_turns(rt, &mut net, &board, pace, jobs, count);
+    let handed = hand_in(dismiss_nodes(jobs, count), handed);
     let (outcome, sealed) = end_run(rt, net, handed, apart);
     until_in_store(rt, &outcome.history, logs);
-    Ok((outcome, sealed))
+    (outcome, sealed)
 }
 
-// Gives turns to the jobs of a net that was just built by so many workers, until all initiators have finished, and gathers what
-// these leave. Its only error is want of memory, before the first turn.
-fn finish_all<N: Naming<Plan, TlmLaw> + Send + Sync, P: Pace + Sync, R: Threads + Wait + Sync>(
-    rt: &R,
-    alloc: Global,
-    net: &mut Net<N, ManyThreads>,
-    kept: &mut Kept<N>,
-    workers: u32,
-    pace: &P,
-) -> Result<HandedIn, Memory>
-    requires kept { kept.old ≡ all_waiting net.old.platform }
-    ensures { IfOk result (λ h. AreFinished N.table N.tokens N.frame.world (length N.frame.world.platform.initiators) h.ends.items h.wallets.items h.notes.items) }
-{
-    let jobs = begin_jobs(alloc, net, kept)?;
-    let count = net.plan().platform().initiators.as_slice().len() as u32;
-    let handed = HandedIn::with_room(alloc, count)?;
-    let board = begin_board(rt, alloc, &jobs, count)?;
-    let jobs = share_turns(rt, alloc, net, &board, pace, jobs, count, workers)?;
-    Ok(hand_in(finish_jobs(rt, net, &board, pace, jobs, count), handed))
-}
-
-// The same by the caller alone.
-fn finish_alone<N: Naming<Plan, TlmLaw>, S: Sharing<N>, P: Pace, R: Wait>(
-    rt: &R,
-    alloc: Global,
-    net: &mut Net<N, S>,
-    kept: &mut Kept<N>,
-    pace: &P,
-) -> Result<HandedIn, Memory>
-    requires kept { kept.old ≡ all_waiting net.old.platform }
-    ensures { IfOk result (λ h. AreFinished N.table N.tokens N.frame.world (length N.frame.world.platform.initiators) h.ends.items h.wallets.items h.notes.items) }
-{
-    let jobs = begin_jobs(alloc, net, kept)?;
-    let count = net.plan().platform().initiators.as_slice().len() as u32;
-    let handed = HandedIn::with_room(alloc, count)?;
-    let board = begin_board(rt, alloc, &jobs, count)?;
-    Ok(hand_in(finish_jobs(rt, net, &board, pace, jobs, count), handed))
-}
-
-// Takes the net apart whose initiators have left this, and makes the outcome of it. There is room for what its objects
-// leave, so it takes no memory.
+// Takes the net apart whose initiators have left this, and makes the outcome of it. There is room for what its objects leave, so it takes no memory.
 fn end_run<N: Naming<Plan, TlmLaw>, S: Sharing<N>, R: Wait>(
     rt: &R,
     net: Net<N, S>,
@@ -172,27 +192,6 @@ fn begin_board<N: Naming<Plan, TlmLaw>, R: Wait>(
     Ok(board)
 }
 
-// Gives turns by the caller alone to these jobs, of which the first so many are those of initiators, until these have
-// finished, and lets go of the others.
-fn finish_jobs<N: Naming<Plan, TlmLaw>, S: Sharing<N>, P: Pace, R: Wait>(
-    rt: &R,
-    net: &mut Net<N, S>,
-    board: &Board,
-    pace: &P,
-    jobs: Vec<Actor<N>>,
-    count: u32,
-) -> Vec<Actor<N>>
-    requires initiators { count ≡ length N.frame.world.platform.initiators }
-    requires many { count ≤ length jobs.items }
-    requires numbered { AreNumbered number_of jobs.items }
-    ensures numbered { AreNumbered number_of result.items }
-    ensures count { length result.items ≡ count }
-    ensures done { All (λ job. is_done job ≡ true) result.items }
-{
-    let jobs = give_all_turns(rt, net, board, pace, jobs, count);
-    dismiss_nodes(jobs, count)
-}
-
 // Gives turns by the caller alone to these jobs until the first so many have finished.
 // It stays a function of its own: as a part of a greater one a turn takes more instructions.
 #[inline(never)]
@@ -214,31 +213,38 @@ fn give_all_turns<N: Naming<Plan, TlmLaw>, S: Sharing<N>, P: Pace, R: Wait>(
     jobs
 }
 
-// Gives turns to these jobs by so many workers until these have left, if there are more than one. Its only error is want of
-// memory, before the first turn.
+// Gives turns to the jobs by so many workers until these have left, if there are more than one. Its only error is want of memory, before the first turn.
 #[inline(never)]
 fn share_turns<N: Naming<Plan, TlmLaw> + Send + Sync, P: Pace + Sync, R: Threads + Wait + Sync>(
     rt: &R,
     alloc: Global,
     net: &Net<N, ManyThreads>,
-    board: &Board,
+    begun: Begun<N>,
     pace: &P,
-    jobs: Vec<Actor<N>>,
-    count: u32,
     workers: u32,
-) -> Result<Vec<Actor<N>>, Memory>
-    requires numbered { AreNumbered number_of jobs.items }
-    ensures numbered { IfOk result (λ jobs. AreNumbered number_of jobs.items) }
-    ensures count { IfOk result (λ shared. length shared.items ≡ length jobs.items) }
+) -> Result<Begun<N>, Memory>
+    requires { HasBegun (length N.frame.world.platform.initiators) begun }
+    ensures { IfOk result (HasBegun (length N.frame.world.platform.initiators)) }
 {
     // More workers than jobs would find nothing to do.
-    let workers = jobs.len().min(workers as usize);
+    let workers = begun.jobs.len().min(workers as usize);
     if workers <= 1 {
-        return Ok(jobs);
+        return Ok(begun);
     }
+    let Begun {
+        jobs,
+        count,
+        board,
+        handed,
+    } = begun;
     let queue = RunQueue::new(alloc, jobs, count)?;
-    work_all(rt, net, board, &queue, workers as u32, pace);
-    Ok(queue.into_all(rt))
+    work_all(rt, net, &board, &queue, workers as u32, pace);
+    Ok(Begun {
+        jobs: queue.into_all(rt),
+        count,
+        board,
+        handed,
+    })
 }
 
 // Lets go of the routers and memories, which come after the initiators, where as many jobs are done as there are

@@ -186,10 +186,14 @@ impl PortState {
     }
 
     /// What it works on. It works on nothing then.
+    // Often that is nothing, and then nothing is written.
     pub fn take_hand(&mut self) -> Hand
         ensures hand { result ≡ self.old.hand }
         ensures state { self.new ≡ record self.old { hand = Hands.Free } }
     {
+        if let Hand::Free = &self.hand {
+            return Hand::Free;
+        }
         replace(&mut self.hand, Hand::Free)
     }
 
@@ -198,6 +202,9 @@ impl PortState {
         ensures held { result ≡ self.old.held }
         ensures state { self.new ≡ record self.old { held = None } }
     {
+        if self.held.is_none() {
+            return None;
+        }
         self.held.take()
     }
 

@@ -4,7 +4,7 @@
 //! - A `World` says, for a law, how the object of each number is built, and what vouches for an item.
 //! - A `Naming` names one history and its tokens, so that what is kept is known by its type.
 //! - A `Keeper` keeps a value: a `Mutex`, which threads share, or a `RefCell` of one thread, which has no lock
-//!   to take.
+//!   to take. `kept_by_others` has other keepers keep what several have kept.
 //! - `Shared` has an object, its seat in the history and its book of tickets (`Locked`) in a keeper. `step`
 //!   makes one call: it joins a note, draws where the call is admitted, applies it and copies a note.
 //!   `step_leaving` does so with a note that is inside a gate, and leaves it after the draw.
@@ -28,4 +28,4 @@ pub use keeper::{Entered, Keeper};
 pub use locked::{Locked, Stepped};
 pub use naming::Naming;
 pub use object::{Object, World};
-pub use shared::Shared;
+pub use shared::{Shared, kept_by_others};

@@ -1,5 +1,5 @@
 // An object, by its numbers.
-ghost use Rattle.std.specs.Prelude.{◌≡◌, ℕ, ◌+◌, ◌<◌, ◌≤◌, [], ◌∷◌, ◌++◌, length, slice_index_or, map, true, Some};
+ghost use Rattle.std.specs.Prelude.{◌≡◌, ℕ, ◌+◌, ◌<◌, ◌≤◌, [], ◌∷◌, ◌++◌, length, slice_index_or, map, true, Some, vec_capacity};
 ghost use Rattle.std.specs.Option.{unwrap_or};
 ghost use Rattle.one_history.specs.Moves.{IsAtGate, fresh};
 ghost use Rattle.one_history.specs.Gates.{total_gates};
@@ -86,6 +86,24 @@ impl<
         let own = object.number();
         Shared {
             keeper: L::keep(Locked::new(object, seat, book)),
+            number,
+            own,
+            of: PhantomData,
+        }
+    }
+
+    /// The same object, which another keeper keeps from now on.
+    pub fn kept_by<M: Keeper<Locked<O, G, W, N>>>(self) -> Shared<O, G, W, N, M>
+        ensures { result ≡ self }
+    {
+        let Shared {
+            keeper,
+            number,
+            own,
+            of: _,
+        } = self;
+        Shared {
+            keeper: M::keep(keeper.into_value()),
             number,
             own,
             of: PhantomData,
@@ -306,4 +324,26 @@ impl<
         }
         locked.into_parts()
     }
+}
+
+/// The same objects in order, which other keepers keep from now on. It takes no memory: room was made for them.
+pub fn kept_by_others<
+    O: Object,
+    G,
+    W: Law<Content, G> + World<G, O>,
+    N: Naming<G, W>,
+    L: Keeper<Locked<O, G, W, N>> + Drop,
+    M: Keeper<Locked<O, G, W, N>>,
+>(
+    objects: Vec<Shared<O, G, W, N, L>>,
+    mut room: Vec<Shared<O, G, W, N, M>>,
+) -> Vec<Shared<O, G, W, N, M>>
+    requires empty { room.items ≡ [] }
+    requires room { length objects.items ≤ vec_capacity room }
+    ensures { result.items ≡ objects.items }
+{
+    for object in objects {
+        room.push_reserved(object.kept_by());
+    }
+    room
 }

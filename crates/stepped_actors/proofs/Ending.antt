@@ -1,5 +1,5 @@
 -- What initiators leave that have finished.
-use Rattle.std.proofs.Common.{◌≡◌, ℕ, List, length, sym, subst, inl, inr}
+use Rattle.std.proofs.Common.{◌≡◌, ℕ, List, length, sym, subst, inl}
 use Rattle.atomic_table.specs.Seated.{TableId}
 use Rattle.view_lists.specs.Lists.{Within}
 use Rattle.one_history.specs.declared.entry.Entry.{Entry as HistoryEntry}
@@ -18,20 +18,7 @@ use Rattle.port_moves.specs.State.{IsPort, StateView, with_note}
 use Rattle.net_end.specs.Closed.{events_in}
 use Rattle.net_end.specs.Done.{IsDoneWithGrants}
 use Rattle.net_end.specs.Leaves.{IsFinished}
-use Rattle.decoupled_run.specs.End.{IsFinished as IsDecoupledFinished}
 use Rattle.decoupled_run.proofs.BeginLemmas.{nothing_past}
-
-pub decoupled_finished : (table tokens : TableId) (p : Plan) (k : ℕ) (end : EndOf) (note : Held Content Plan) (wallet : Purse) → IsDecoupledFinished table tokens p k end note wallet → IsFinished table tokens p k end note wallet
-decoupled_finished table tokens p k end note wallet is = record {
-  note_of = is.note_of;
-  wallet_of = is.wallet_of;
-  no_others = is.no_others;
-  done = λ all tells. record {
-    initiator = is.initiator;
-    at = is.at;
-    by_style = inr (is.decoupled, record { run = is.done all tells; grants = is.grants all tells });
-  };
-}
 
 module _ (table tokens : TableId) (frame : Frame Plan) (s : StateView) (note : Held Content Plan) (end : EndOf) (port : IsPort table tokens frame (with_note s note)) (finished : HasFinished s) (end_is : IsEndOfPort s.port end) where
   abbrev p : Plan

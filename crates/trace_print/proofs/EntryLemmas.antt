@@ -23,9 +23,7 @@ use Rattle.tlm_model.specs.declared.trace.Trace.TheVariants.{All, Accesses, None
 use Rattle.report_model.specs.Report.{bytes_word, command_word, entry_words, freed_words, has_operand, initiator_name, kind_word, memory_name, object_word, operand_text, phase_word, range_word, shown_by, status_word, sync_words, traced, txn_word, way_word, what_words}
 use Rattle.tlm_types.specs.Entries.{is_access}
 use Rattle.tlm_model.specs.Text.{address_word, data_word, line_of}
-use Rattle.line_text.specs.EventText.{freed_text, what_of}
-use Rattle.line_text.specs.declared.event.Event.{Event}
-use Rattle.line_text.specs.declared.event.Event.TheVariants as events
+use Rattle.line_text.specs.EventText.{freed_text}
 use Rattle.line_text.specs.Pieces.{asked_text, seq_text, status_text, times_text, unmasked_text, width_text}
 use Rattle.trace_print.specs.Told.{access_words, operand_at, shown_at, shown_of, text_of}
 use Rattle.trace_print.proofs.TextLemmas.{access-line, head-front}
@@ -148,17 +146,6 @@ has-facts (Call f a) = refl
 has-facts (Take s) = refl
 has-facts (Acquire s) = refl
 has-facts (Release s f) = refl
-
--- what is no access and happens at no hop and no pool, happens to a grant
-pub of-a-grant : (w : What) → is_access w ≡ false → ((e : Event) → what_of e ≢ w) → ((a b c : ℕ) (k : Kind) → w ≢ Granted a b c k) → ((a b : ℕ) → w ≢ Invalidated a b) → ((a : ℕ) → w ≢ Closed a) → ⊥
-of-a-grant (Accessed way a status got) none event granted invalidated closed = true≢false none
-of-a-grant (Granted a b c k) none event granted invalidated closed = granted a b c k refl
-of-a-grant (Invalidated a b) none event granted invalidated closed = invalidated a b refl
-of-a-grant (Closed a) none event granted invalidated closed = closed a refl
-of-a-grant (Call f a) none event granted invalidated closed = event (events.Call f a) refl
-of-a-grant (Take s) none event granted invalidated closed = event (events.Take s) refl
-of-a-grant (Acquire s) none event granted invalidated closed = event (events.Acquire s) refl
-of-a-grant (Release s f) none event granted invalidated closed = event (events.Release s f) refl
 
 -- what isn't kept as an access is as it happened
 pub plain-is : (w v : What) → plain_of w ≡ Some v → (v ≡ w) × (is_access v ≡ false)

@@ -1,8 +1,9 @@
 -- The names of hops by their ends.
-use Rattle.std.proofs.Common.{◌≡◌, ℕ, ◌+◌, ◌<◌, zero, suc, length, List, [], ◌∷◌, ◌++◌, map, Option, Some, refl, ap, sym, ◌∙◌, arith}
-use Rattle.std.specs.Prelude.{slice_get, unwrap_or}
+use Rattle.std.proofs.Common.{◌≡◌, ℕ, ◌+◌, ◌<◌, zero, suc, length, List, [], ◌∷◌, ◌++◌, map, Option, Some, inl, inr, refl, ap, sym, ◌∙◌, arith}
+use Rattle.std.specs.Prelude.{option_map, slice_get, unwrap_or}
 use Rattle.std.specs.List.{enumerate_from, flat_map}
 use Rattle.std.proofs.lemmas.List.{map-append}
+use Rattle.std.proofs.lemmas.Option.{slice_get-map}
 use Rattle.tlm_types.specs.declared.words.ObjectNo.{ObjectNo}
 use Rattle.tlm_types.specs.declared.words.ObjectNo.TheVariants.{Memory as memory_object, Hop, Pool}
 use Rattle.tlm_model.specs.declared.platform.InitiatorRow.{InitiatorRow}
@@ -12,7 +13,8 @@ use Rattle.tlm_model.specs.declared.platform.WindowRow.{WindowRow}
 use Rattle.report_model.specs.Report.{hop_word, hop_words, name_of_initiator, name_of_router, object_word, target_name}
 use Rattle.route_plan.specs.declared.ends.HopEnds.{HopEnds}
 use Rattle.route_plan.specs.Routes.{binding_ends, ends_of, router_ends, window_ends}
-use Rattle.trace_print.specs.Hops.{ends_at, hop_word_by, hop_word_of, object_word_by, up_name}
+use Rattle.run_outcome.proofs.ListLemmas.{at_push}
+use Rattle.trace_print.specs.Hops.{ends_at, hop_word_by, hop_word_of, object_word_by, up_name, AreHopNames}
 
 -- the rows from the n-th on are these
 abbrev Continues : {X : Type 0} → List X → ℕ → List X → Type 0
@@ -57,6 +59,19 @@ words-of-ends p =
     map-append (hop_word_of p) (map binding_ends (enumerate_from 0 p.initiators)) (flat_map router_ends (enumerate_from 0 p.routers))
     ∙ (ap (λ (l : List (List ℕ)). l ++ map (hop_word_of p) (flat_map router_ends (enumerate_from 0 p.routers))) (bindings p 0 p.initiators (start p.initiators))
     ∙ ap (λ (l : List (List ℕ)). map (λ (i : InitiatorRow). hop_word i.name (target_name p i.bind)) p.initiators ++ l) (routers p 0 p.routers (start p.routers)))
+
+-- the word of the hop with these ends
+pub hop-named : (p : Platform) (h : ℕ) (ends : HopEnds) → slice_get (ends_of p) h ≡ Some ends → slice_get (hop_words p) h ≡ Some (hop_word_of p ends)
+hop-named p h ends there =
+    ap (λ (l : List (List ℕ)). slice_get l h) (sym (words-of-ends p)) ∙ (slice_get-map (hop_word_of p) (ends_of p) h ∙ ap (option_map (hop_word_of p)) there)
+
+-- the names of hops with one more
+pub names-push : (p : Platform) (names : List (List ℕ)) (name : List ℕ) → AreHopNames p names → slice_get (hop_words p) (length names) ≡ Some name → AreHopNames p (names ++ name ∷ [])
+names-push p names name are next h n there =
+    elim (at_push names name h n there) [
+      | inl early ↦ are h n early
+      | inr last ↦ ap (λ (k : ℕ). slice_get (hop_words p) k) last.0 ∙ (next ∙ ap Some last.1)
+    ]
 
 word-at : (p : Platform) (ends : List HopEnds) (h : ℕ) → hop_word_by p (slice_get ends h) ≡ unwrap_or (slice_get (map (hop_word_of p) ends) h) []
 word-at p [] h = refl

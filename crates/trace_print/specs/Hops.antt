@@ -1,9 +1,9 @@
 -- The name of a hop by its two ends.
-use Rattle.std.specs.Prelude.{ℕ, List, [], ◌++◌, Option, Some, None, slice_get, codes}
+use Rattle.std.specs.Prelude.{ℕ, ◌≡◌, List, [], ◌++◌, Option, Some, None, slice_get, codes}
 use Rattle.tlm_model.specs.declared.platform.Platform.{Platform}
 use Rattle.tlm_types.specs.declared.words.ObjectNo.{ObjectNo}
 use Rattle.tlm_types.specs.declared.words.ObjectNo.TheVariants.{Memory as memory_object, Hop, Pool}
-use Rattle.report_model.specs.Report.{hop_word, initiator_name, memory_name, name_of_router, target_name}
+use Rattle.report_model.specs.Report.{hop_word, hop_words, initiator_name, memory_name, name_of_router, target_name}
 use Rattle.route_plan.specs.declared.ends.HopEnds.{HopEnds}
 use Rattle.route_plan.specs.declared.ends.Up.{Up}
 use Rattle.route_plan.specs.declared.ends.Up.TheVariants.{Initiator, Router}
@@ -32,3 +32,7 @@ abbrev pub object_word_by : Platform → ObjectNo → Option HopEnds → List �
 object_word_by p (memory_object m) ends = memory_name p m
 object_word_by p (Hop h) ends = hop_word_by p ends
 object_word_by p (Pool i) ends = initiator_name p i ++ codes ".pool"
+
+-- these are the names of hops, each at its number
+abbrev pub AreHopNames : Platform → List (List ℕ) → Type 0
+AreHopNames p names = (h : ℕ) (name : List ℕ) → slice_get names h ≡ Some name → slice_get (hop_words p) h ≡ Some name

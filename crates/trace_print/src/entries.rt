@@ -1,28 +1,29 @@
 // The lines of the entries of a history.
-ghost use Rattle.std.specs.Prelude.{◌≡◌, ◌≢◌, ◌<◌, ◌∷◌, [], ◌++◌, Some, IfSome, IfNone, length, slice_get, map, codes, true, false, if◌then◌else◌};
+ghost use Rattle.std.specs.Prelude.{◌≡◌, ◌<◌, ◌∷◌, [], ◌++◌, Some, IfSome, IfNone, length, slice_get, map, codes, true, false, if◌then◌else◌};
 ghost use Rattle.std.specs.Fmt.{decimal};
 ghost use Rattle.std.specs.List.{join_with_byte};
 ghost use Rattle.tlm_types.specs.declared.entry.Entry.{Entry};
-ghost use Rattle.tlm_types.specs.declared.entry.What.TheVariants.{Granted, Call};
+ghost use Rattle.tlm_types.specs.declared.entry.What.TheVariants.{Granted, Call, Invalidated, Release};
 ghost use Rattle.report_model.specs.Report.{entry_words, has_operand, operand_text, traced, txn_word, what_words};
-ghost use Rattle.tlm_types.specs.Entries.{is_access};
+ghost use Rattle.tlm_types.specs.Entries.{entry_at, is_access};
 ghost use Rattle.tlm_model.specs.Text.{line_of};
 ghost use Rattle.tlm_model.specs.declared.trace.Trace.TheVariants as Traces;
 ghost use Rattle.run_outcome.specs.Places.{MergedView};
 ghost use Rattle.line_text.specs.AccessText.{access_text, IsShort};
-ghost use Rattle.line_text.specs.EventText.{event_text, what_of, IsBrief};
-ghost use Rattle.line_text.specs.declared.event.Event.{Event};
+ghost use Rattle.line_text.specs.EventText.{event_text, IsBrief};
+ghost use Rattle.log_items.specs.Items.{brief_what};
 ghost use Rattle.trace_print.specs.Hops.{ends_at, object_word_by};
 ghost use Rattle.trace_print.specs.Putting.{Puts, page};
 ghost use Rattle.trace_print.specs.Told.{access_words, shown_of, text_of};
 
 use crate::line::{Line, flush, put, put_piece, put_whole};
-use crate::names::{ends_at, initiator_name, memory_name, place_at, put_object, put_txn};
+use crate::names::{Names, ends_at, initiator_name, memory_name, put_object, put_txn};
 use crate::words::{kind_text, phase_text, put_data, put_number, put_range, put_sync, put_text};
 use entry_log::{Log, LoggedAccess};
-use line_text::{AccessLine, Event, EventLine, LinePiece};
+use line_text::{AccessLine, EventLine, LinePiece};
+use log_items::BriefEvent;
 use outside::Sink;
-use route_plan::{HopEnds, Plan};
+use route_plan::HopEnds;
 use run_outcome::LogReader;
 use tlm_model::{Platform, Trace};
 use tlm_types::{Command, Facts, Head, Kind, ObjectNo, Phase, TlmSync, What};
@@ -138,46 +139,25 @@ fn put_slot<K: Sink>(out: &mut K, line: &mut Line, word: &[u8], slot: u32)
     put_number(out, line, slot as u64);
 }
 
-// What happened at a hop or a pool.
-fn put_event<K: Sink>(out: &mut K, line: &mut Line, event: &Event)
+// A slot that was released, and whether its payload was freed.
+fn put_released<K: Sink>(out: &mut K, line: &mut Line, slot: u32, freed: bool)
     ensures { Puts (page (K.taken out.old) (K.faults out.old) line.old)
         (page (K.taken out.new) (K.faults out.new) line.new)
-        (join_with_byte 32 (what_words (what_of event.now))) }
+        (join_with_byte 32 (what_words (Release slot freed))) }
 {
-    match event {
-        Event::Call { phase, answer } => put_call(out, line, *phase, *answer),
-        Event::Take { slot } => put_slot(out, line, b"take ", *slot),
-        Event::Acquire { slot } => put_slot(out, line, b"acquire ", *slot),
-        Event::Release { slot, freed } => {
-            put_slot(out, line, b"release ", *slot);
-            if *freed {
-                put(out, line, b" freed");
-            }
-        }
+    put_slot(out, line, b"release ", slot);
+    if freed {
+        put(out, line, b" freed");
     }
 }
 
-// What happened to a grant, where it is no access and nothing that happens at a hop or a pool.
-fn put_grant_event<K: Sink>(out: &mut K, line: &mut Line, what: &What)
-    requires access { is_access what.now ≡ false }
-    requires event { (event : Event) → what_of event ≢ what.now }
+fn put_invalidated<K: Sink>(out: &mut K, line: &mut Line, first: u64, last: u64)
     ensures { Puts (page (K.taken out.old) (K.faults out.old) line.old)
-        (page (K.taken out.new) (K.faults out.new) line.new) (join_with_byte 32 (what_words what.now)) }
+        (page (K.taken out.new) (K.faults out.new) line.new)
+        (join_with_byte 32 (what_words (Invalidated first last))) }
 {
-    match what {
-        What::Granted {
-            gate,
-            first,
-            last,
-            kind,
-        } => put_granted(out, line, *gate, *first, *last, *kind),
-        What::Invalidated { first, last } => {
-            put(out, line, b"invalidated ");
-            put_range(out, line, *first, *last);
-        }
-        What::Closed { gate } => put_slot(out, line, b"closed ", *gate),
-        _ => unreachable!(),
-    }
+    put(out, line, b"invalidated ");
+    put_range(out, line, first, last);
 }
 
 // What happened, where it is no access.
@@ -186,9 +166,20 @@ fn put_no_access<K: Sink>(out: &mut K, line: &mut Line, what: &What)
     ensures { Puts (page (K.taken out.old) (K.faults out.old) line.old)
         (page (K.taken out.new) (K.faults out.new) line.new) (join_with_byte 32 (what_words what.now)) }
 {
-    match event_of(what) {
-        Some(event) => put_event(out, line, &event),
-        None => put_grant_event(out, line, what),
+    match what {
+        What::Call { phase, answer } => put_call(out, line, *phase, *answer),
+        What::Take { slot } => put_slot(out, line, b"take ", *slot),
+        What::Acquire { slot } => put_slot(out, line, b"acquire ", *slot),
+        What::Release { slot, freed } => put_released(out, line, *slot, *freed),
+        What::Granted {
+            gate,
+            first,
+            last,
+            kind,
+        } => put_granted(out, line, *gate, *first, *last, *kind),
+        What::Invalidated { first, last } => put_invalidated(out, line, *first, *last),
+        What::Closed { gate } => put_slot(out, line, b"closed ", *gate),
+        What::Access { .. } => unreachable!(),
     }
 }
 
@@ -276,48 +267,45 @@ pub fn access_line<'a>(platform: &'a Platform, log: &'a Log, index: u64) -> Opti
     if line.is_short() { Some(line) } else { None }
 }
 
-// What happened, where it happened at a hop or a pool.
+// The line of an entry with this head, where its names are as short as those of a run.
 #[inline(always)]
-fn event_of(what: &What) -> Option<Event>
-    ensures is { IfSome result (λ event. what_of event ≡ what.now) }
-    ensures none { IfNone result ((event : Event) → what_of event ≢ what.now) }
-{
-    match what {
-        What::Call { phase, answer } => Some(Event::Call {
-            phase: *phase,
-            answer: *answer,
-        }),
-        What::Take { slot } => Some(Event::Take { slot: *slot }),
-        What::Acquire { slot } => Some(Event::Acquire { slot: *slot }),
-        What::Release { slot, freed } => Some(Event::Release {
-            slot: *slot,
-            freed: *freed,
-        }),
-        _ => None,
-    }
-}
-
-/// The line of the entry at this place, where it is a call at a hop or an entry of a pool, and its names are
-/// as short as those of a run.
-#[inline(always)]
-pub fn event_line<'a>(plan: &'a Plan, log: &Log, index: u64) -> Option<EventLine<'a>>
-    requires whole { log.now.whole ≡ true }
-    requires index { index < length log.now.entries }
+fn event_line<'a>(names: &'a Names<'_>, head: Head, event: BriefEvent) -> Option<EventLine<'a>>
     ensures brief { IfSome result IsBrief }
-    ensures text { (e : Entry) → slice_get log.now.entries index ≡ Some e →
-        IfSome result (λ line. event_text line ≡ line_of (entry_words plan.now.platform e)) }
+    ensures text { IfSome result (λ line. event_text line ≡ line_of (entry_words names.now.platform (entry_at head (brief_what event)))) }
 {
-    let what = log.what(index)?;
-    let event = event_of(&what)?;
-    let head = log.head(index);
-    let place = place_at(plan, head.object)?;
+    let place = names.place_at(head.object)?;
     let line = EventLine {
         head,
-        initiator: initiator_name(plan.platform(), head.txn.initiator).as_bytes(),
+        initiator: initiator_name(names.platform(), head.txn.initiator).as_bytes(),
         place,
         event,
     };
     if line.is_brief() { Some(line) } else { None }
+}
+
+/// The line of the entry at this place, where the log has it in the brief form, as nearly all calls at hops and entries
+/// of pools.
+#[inline(always)]
+pub fn brief_line<'a>(names: &'a Names<'_>, log: &Log, index: u64) -> Option<EventLine<'a>>
+    requires { log.now.whole ≡ true }
+    ensures brief { IfSome result IsBrief }
+    ensures text { (e : Entry) → slice_get log.now.entries index ≡ Some e →
+        IfSome result (λ line. event_text line ≡ line_of (entry_words names.now.platform e)) }
+{
+    let (head, event) = log.brief(index)?;
+    event_line(names, head, event)
+}
+
+/// The line of the entry at this place, where it is another call at a hop or entry of a pool.
+pub fn other_line<'a>(names: &'a Names<'_>, log: &Log, index: u64) -> Option<EventLine<'a>>
+    requires whole { log.now.whole ≡ true }
+    requires index { index < length log.now.entries }
+    ensures brief { IfSome result IsBrief }
+    ensures text { (e : Entry) → slice_get log.now.entries index ≡ Some e →
+        IfSome result (λ line. event_text line ≡ line_of (entry_words names.now.platform e)) }
+{
+    let event = BriefEvent::of(log.what(index)?)?;
+    event_line(names, log.head(index), event)
 }
 
 /// The trace shows the entry at this place.
@@ -334,20 +322,37 @@ pub fn is_shown(log: &Log, index: u64, trace: Trace) -> bool
     }
 }
 
-// Puts the line of the entry at this place, where it is no short access.
-#[inline(always)]
-fn put_other<K: Sink>(out: &mut K, line: &mut Line, plan: &Plan, log: &Log, index: u64)
+// Puts the line of the entry at this place, where it is no short access and not in the brief form.
+fn put_other<K: Sink>(out: &mut K, line: &mut Line, names: &Names<'_>, log: &Log, index: u64)
     requires whole { log.now.whole ≡ true }
     requires index { index < length log.now.entries }
     ensures { (e : Entry) → slice_get log.now.entries index ≡ Some e →
         Puts (page (K.taken out.old) (K.faults out.old) line.old)
-        (page (K.taken out.new) (K.faults out.new) line.new) (line_of (entry_words plan.now.platform e)) }
+        (page (K.taken out.new) (K.faults out.new) line.new) (line_of (entry_words names.now.platform e)) }
 {
-    if let Some(event) = event_line(plan, log, index) {
+    if let Some(event) = other_line(names, log, index) {
         put_whole(out, line, &event);
     } else {
-        let ends = ends_at(plan, log.head(index).object);
-        put_entry(out, line, plan.platform(), ends, log, index);
+        let ends = ends_at(names.plan(), log.head(index).object);
+        put_entry(out, line, names.platform(), ends, log, index);
+    }
+}
+
+// Puts the line of the entry at this place.
+#[inline(always)]
+fn put_line<K: Sink>(out: &mut K, line: &mut Line, names: &Names<'_>, log: &Log, index: u64)
+    requires whole { log.now.whole ≡ true }
+    requires index { index < length log.now.entries }
+    ensures { (e : Entry) → slice_get log.now.entries index ≡ Some e →
+        Puts (page (K.taken out.old) (K.faults out.old) line.old)
+        (page (K.taken out.new) (K.faults out.new) line.new) (line_of (entry_words names.now.platform e)) }
+{
+    if let Some(access) = access_line(names.platform(), log, index) {
+        put_whole(out, line, &access);
+    } else if let Some(event) = brief_line(names, log, index) {
+        put_whole(out, line, &event);
+    } else {
+        put_other(out, line, names, log, index);
     }
 }
 
@@ -356,7 +361,7 @@ fn put_other<K: Sink>(out: &mut K, line: &mut Line, plan: &Plan, log: &Log, inde
 fn put_traced<K: Sink>(
     out: &mut K,
     line: &mut Line,
-    plan: &Plan,
+    names: &Names<'_>,
     log: &Log,
     index: u64,
     trace: Trace,
@@ -366,15 +371,10 @@ fn put_traced<K: Sink>(
     ensures { (e : Entry) → slice_get log.now.entries index ≡ Some e →
         Puts (page (K.taken out.old) (K.faults out.old) line.old)
         (page (K.taken out.new) (K.faults out.new) line.new)
-        (text_of (map (entry_words plan.now.platform) (traced trace (e ∷ [])))) }
+        (text_of (map (entry_words names.now.platform) (traced trace (e ∷ [])))) }
 {
-    if !is_shown(log, index, trace) {
-        return;
-    }
-    if let Some(access) = access_line(plan.platform(), log, index) {
-        put_whole(out, line, &access);
-    } else {
-        put_other(out, line, plan, log, index);
+    if is_shown(log, index, trace) {
+        put_line(out, line, names, log, index);
     }
 }
 
@@ -382,17 +382,17 @@ fn put_traced<K: Sink>(
 fn put_entries<K: Sink>(
     out: &mut K,
     line: &mut Line,
-    plan: &Plan,
+    names: &Names<'_>,
     reader: &mut LogReader<'_>,
     trace: Trace,
 )
     ensures { Puts (page (K.taken out.old) (K.faults out.old) line.old)
         (page (K.taken out.new) (K.faults out.new) line.new)
-        (text_of (map (entry_words plan.now.platform) (traced trace reader.old.entries))) }
+        (text_of (map (entry_words names.now.platform) (traced trace reader.old.entries))) }
 {
     for position in 0..reader.len() {
         let (log, index) = reader.at(position);
-        put_traced(out, line, plan, log, index, trace);
+        put_traced(out, line, names, log, index, trace);
     }
 }
 
@@ -400,7 +400,7 @@ fn put_entries<K: Sink>(
 pub fn put_shown<K: Sink>(
     out: &mut K,
     line: &mut Line,
-    plan: &Plan,
+    names: &Names<'_>,
     reader: Option<LogReader<'_>>,
     trace: Trace,
 )
@@ -408,9 +408,9 @@ pub fn put_shown<K: Sink>(
     ensures { (log : MergedView) → IfSome reader.entry (λ r. r ≡ log) →
         Puts (page (K.taken out.old) (K.faults out.old) line.old)
         (page (K.taken out.new) (K.faults out.new) line.new)
-        (text_of (map (entry_words plan.now.platform) (traced trace log.entries))) }
+        (text_of (map (entry_words names.now.platform) (traced trace log.entries))) }
 {
     if let Some(mut reader) = reader {
-        put_entries(out, line, plan, &mut reader, trace);
+        put_entries(out, line, names, &mut reader, trace);
     }
 }

@@ -6,7 +6,7 @@
 //!
 //! Promises: on Ok the sink took the report of the definitions, byte for byte. Where the sink fails it
 //! took a prefix of the report, its count of faults rose, and nothing is written after that. Memory is
-//! taken before the first write, for one line, so where it is refused the sink took nothing. A line is
+//! taken before the first write, for one line and for names, so where it is refused the sink took nothing. A line is
 //! one piece for the sink. Every kind of entry is printed, whatever its numbers.
 //!
 //! `laws` says what a report tells: of a good history of a valid plan, the report with all entries names
@@ -34,6 +34,7 @@ use crate::ends::put_initiators;
 use crate::entries::put_shown;
 use crate::line::{Line, end_line, flush, put};
 use crate::memories::put_memories;
+use crate::names::Names;
 use crate::words::put_number;
 use outside::Sink;
 use route_plan::Plan;
@@ -104,21 +105,21 @@ fn reader_for(
 fn put_report<K: Sink>(
     out: &mut K,
     line: &mut Line,
-    plan: &Plan,
+    names: &Names<'_>,
     outcome: &Outcome,
     reader: Option<LogReader<'_>>,
     trace: Trace,
 )
-    requires reportable { IsReportable plan.now outcome.now }
+    requires reportable { IsReportable names.now outcome.now }
     requires reader { IfSome reader (λ r. r ≡ outcome.now.history) }
     requires none { IfNone reader (trace ≡ Traces.None) }
     ensures { Puts (page (K.taken out.old) (K.faults out.old) line.old)
         (page (K.taken out.new) (K.faults out.new) line.new)
-        (report_of trace plan.now outcome.now.history.entries) }
+        (report_of trace names.now outcome.now.history.entries) }
 {
-    let platform = plan.platform();
+    let platform = names.platform();
     put_title(out, line);
-    put_shown(out, line, plan, reader, trace);
+    put_shown(out, line, names, reader, trace);
     put_initiators(
         out,
         line,
@@ -157,8 +158,9 @@ pub fn print<K: Sink>(
     ensures later { K.faults out.old ≤ K.faults out.new }
 {
     let mut line = Line::with_room(alloc)?;
+    let names = Names::of_plan(alloc, plan)?;
     let reader = reader_for(alloc, &outcome.history, trace)?;
-    put_report(out, &mut line, plan, outcome, reader, trace);
+    put_report(out, &mut line, &names, outcome, reader, trace);
     flush(out, &mut line);
     if line.has_failed() {
         return Err(PrintFault::Failed);

@@ -1,5 +1,5 @@
 // Names of a platform's components, as the report has them.
-ghost use Rattle.std.specs.Prelude.{◌≡◌, ◌++◌, codes, slice_get, IfSome};
+ghost use Rattle.std.specs.Prelude.{◌≡◌, ◌++◌, codes, slice_get, IfOk, IfSome};
 ghost use Rattle.report_model.specs.Report.{initiator_name, memory_name, name_of_router, object_word, seq_word, target_name, txn_word};
 ghost use Rattle.line_text.specs.EventText.{place_text};
 ghost use Rattle.trace_print.specs.Hops.{ends_at, hop_word_of, object_word_by, up_name};
@@ -10,8 +10,10 @@ use crate::words::put_text;
 use line_text::{EventPlace, LinePiece};
 use outside::Sink;
 use route_plan::{HopEnds, Plan, Up};
+use std::alloc::Global;
+use std::marker::Model;
 use tlm_model::{Platform, Target};
-use tlm_types::{ObjectNo, TxnId};
+use tlm_types::{Memory, ObjectNo, TxnId};
 
 /// The name of an initiator, and an empty one where there is none.
 pub fn initiator_name(platform: &Platform, number: u32) -> &str
@@ -123,30 +125,82 @@ pub fn put_object<K: Sink>(
     }
 }
 
-// The name of a hop, by those of its ends.
-#[inline(always)]
-fn hop_place(platform: &Platform, ends: HopEnds) -> EventPlace<'_>
-    ensures { place_text result ≡ hop_word_of platform.now ends }
+// The name of a hop, by those of its ends. Its only error is want of memory.
+fn hop_name(alloc: Global, platform: &Platform, ends: HopEnds) -> Result<Vec<u8>, Memory>
+    ensures { IfOk result (λ v. v.items ≡ hop_word_of platform.now ends) }
 {
-    EventPlace::Hop {
-        up: up_name(platform, ends.up).as_bytes(),
-        down: target_name(platform, ends.down).as_bytes(),
-    }
+    let mut name = Vec::new(alloc);
+    name.extend_from_slice(up_name(platform, ends.up).as_bytes())?;
+    name.extend_from_slice(b">")?;
+    name.extend_from_slice(target_name(platform, ends.down).as_bytes())?;
+    Ok(name)
 }
 
-/// The name of a hop or a pool. `None` for a memory, and for a hop that isn't there.
-#[inline(always)]
-pub fn place_at(plan: &Plan, object: ObjectNo) -> Option<EventPlace<'_>>
-    ensures { IfSome result (λ place. place_text place ≡ object_word plan.now.platform object) }
-{
-    match object {
-        ObjectNo::Memory(_) => None,
-        ObjectNo::Hop(number) => {
-            let ends = plan.hop_ends(number)?;
-            Some(hop_place(plan.platform(), ends))
+/// The names of a plan's components, which contracts see: those of its hops are made once, and not for each entry.
+#[derive(Drop)]
+pub struct Names<'a> {
+    plan: &'a Plan,
+    hops: Vec<Vec<u8>>,
+}
+
+impl<'a> Model for Names<'a> {
+    ghost use Rattle.std.specs.Prelude.{map};
+    ghost use Rattle.tlm_model.specs.Plan as model;
+    ghost use Rattle.trace_print.specs.Hops.{AreHopNames};
+
+    ghost Value = { model.Plan };
+
+    ghost view = { λ n. n.plan.now };
+
+    ghost invariant = { λ n. AreHopNames n.plan.now.platform (map (λ v. v.items) n.hops.items) };
+}
+
+impl<'a> Names<'a> {
+    /// The names of a plan. Its only error is want of memory.
+    pub fn of_plan(alloc: Global, plan: &'a Plan) -> Result<Names<'a>, Memory>
+        ensures { IfOk result (λ n. n ≡ plan.now) }
+    {
+        let platform = plan.platform();
+        let mut hops = Vec::new(alloc);
+        for hop in 0..u32::MAX {
+            let Some(ends) = plan.hop_ends(hop) else {
+                break;
+            };
+            hops.push(hop_name(alloc, platform, ends)?)?;
         }
-        ObjectNo::Pool(number) => Some(EventPlace::Pool {
-            initiator: initiator_name(plan.platform(), number).as_bytes(),
-        }),
+        Ok(Names { plan, hops })
+    }
+
+    /// The plan.
+    pub fn plan(&self) -> &'a Plan
+        ensures { result.now ≡ self.now }
+    {
+        self.plan
+    }
+
+    /// Its platform.
+    pub fn platform(&self) -> &'a Platform
+        ensures { result.now ≡ self.now.platform }
+    {
+        self.plan.platform()
+    }
+
+    /// The name of a hop or a pool. `None` for a memory, and for a hop that isn't there.
+    #[inline(always)]
+    pub fn place_at(&self, object: ObjectNo) -> Option<EventPlace<'_>>
+        ensures { IfSome result (λ place. place_text place ≡ object_word self.now.platform object) }
+    {
+        match object {
+            ObjectNo::Memory(_) => None,
+            ObjectNo::Hop(number) => {
+                let name = self.hops.get(number as usize)?;
+                Some(EventPlace::Hop {
+                    name: name.as_slice(),
+                })
+            }
+            ObjectNo::Pool(number) => Some(EventPlace::Pool {
+                initiator: initiator_name(self.platform(), number).as_bytes(),
+            }),
+        }
     }
 }

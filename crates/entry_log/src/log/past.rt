@@ -73,4 +73,4 @@ impl Log {
 const SETTLED: usize = 64;
 
 // A log forgets fewer entries, so that they can still be counted with those in store.
-const FORGOTTEN_MAX: u64 = 0x8000_0000_0000_0000;
+const FORGOTTEN_MAX: u64 = 0x4000_0000_0000_0000;

@@ -8,9 +8,9 @@ returns-clause-lanes g c = λ lane e.
     let xs = c.args.lanes.now.items in
     let i = c.args.index in
     let h : i < length xs = c.requires in
-    let same : c.remove-item.result ≡ lane = read_twice xs i c.remove-item.result lane h c.remove-item.ensures.value e in
+    let same : c.take_from-item.result ≡ lane = read_twice xs i c.take_from-item.result lane h c.take_from-item.ensures.value e in
     record {
       here = split_at xs i lane h ∙ ap (λ (l : Lane g.row.T.Denot). take i xs ++ l ∷ drop (suc i) xs) (sym e);
-      after = c.remove-item.ensures.items;
+      after = c.take_from-item.ensures.items;
       carried = ap (λ (l : Lane g.row.T.Denot). l.item) same;
     }

@@ -8,16 +8,16 @@ use Rattle.plat_run.proofs.running.run.Goals as goal
 
 pub returns-clause-whole : goal.returns-clause-whole
 returns-clause-whole g c =
-    subst (λ (p : Plan). IsWhole p c.end_run-outcome.result.0) (ap (λ (f : Frame Plan). f.world) c.requires.frame) c.end_run-outcome.ensures.whole
+    subst (λ (p : Plan). IsWhole p c.finish_run.result.0) (ap (λ (f : Frame Plan). f.world) c.requires.frame) c.finish_run.ensures.whole
 
 pub returns-clause-core : goal.returns-clause-core
 returns-clause-core g c =
-    subst (λ (p : Plan). IsCoreRun p c.end_run-outcome.result.0.history.entries) (ap (λ (f : Frame Plan). f.world) c.requires.frame) c.end_run-outcome.ensures.core
+    subst (λ (p : Plan). IsCoreRun p c.finish_run.result.0.history.entries) (ap (λ (f : Frame Plan). f.world) c.requires.frame) c.finish_run.ensures.core
 
 pub returns-clause-sealed : goal.returns-clause-sealed
 returns-clause-sealed g c =
-    subst (λ (p : Plan). entries_read p.platform c.end_run-outcome.result.1.entries ≡ c.end_run-outcome.result.0.history.entries) (ap (λ (f : Frame Plan). f.world) c.requires.frame) c.end_run-outcome.ensures.sealed
+    subst (λ (p : Plan). entries_read p.platform c.finish_run.result.1.entries ≡ c.finish_run.result.0.history.entries) (ap (λ (f : Frame Plan). f.world) c.requires.frame) c.finish_run.ensures.sealed
 
 pub returns-clause-world : goal.returns-clause-world
 returns-clause-world g c =
-    subst (λ (p : Plan). (c.end_run-outcome.result.1.table ≡ g.N.Naming.table) × (c.end_run-outcome.result.1.world ≡ p)) (ap (λ (f : Frame Plan). f.world) c.requires.frame) c.end_run-outcome.ensures.world
+    subst (λ (p : Plan). (c.finish_run.result.1.table ≡ g.N.Naming.table) × (c.finish_run.result.1.world ≡ p)) (ap (λ (f : Frame Plan). f.world) c.requires.frame) c.finish_run.ensures.world

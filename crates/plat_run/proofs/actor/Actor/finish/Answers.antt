@@ -3,7 +3,7 @@ use Rattle.initiator_run.specs.Run.{Run}
 use Rattle.decoupled_run.specs.End.{IsFinished as IsDecoupledFinished}
 use Rattle.plat_run.specs.Actors.{number_of}
 use Rattle.net_end.specs.Leaves.{IsFinished}
-use Rattle.plat_run.proofs.SealLemmas.{decoupled_finished}
+use Rattle.decoupled_run.proofs.DoneLemmas.{decoupled_finished}
 use Rattle.plat_run.proofs.actor.Actor.finish.Goals as goal
 
 pub returns-in-Decoupled : goal.returns-in-Decoupled

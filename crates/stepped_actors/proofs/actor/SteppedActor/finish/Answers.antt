@@ -2,7 +2,8 @@ use Rattle.std.proofs.Common.{sym, subst}
 use Rattle.net_end.specs.Leaves.{IsFinished}
 use Rattle.stepped_actors.specs.declared.actor.SteppedActor.{SteppedActor}
 use Rattle.stepped_actors.specs.Actors.{HasEnded, KeepsAs, number_of}
-use Rattle.stepped_actors.proofs.Ending.{decoupled_finished, port_finished}
+use Rattle.decoupled_run.proofs.DoneLemmas.{decoupled_finished}
+use Rattle.stepped_actors.proofs.Ending.{port_finished}
 use Rattle.stepped_actors.proofs.actor.SteppedActor.finish.Goals as goal
 
 pub returns-in-Decoupled : goal.returns-in-Decoupled

@@ -1,5 +1,0 @@
-use Rattle.trace_print.proofs.Putting.{puts-more}
-use Rattle.trace_print.proofs.entries.put_event.Goals as goal
-
-pub returns-then-freed : goal.returns-then-freed
-returns-then-freed g c = rw (c.in-Release.is, c.if-freed.true) (puts-more _ _ _ _ _ c.put_slot-in-Release.ensures c.put.ensures)
