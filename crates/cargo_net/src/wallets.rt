@@ -15,7 +15,7 @@ pub(crate) fn put_back(tickets: &Tokens, number: u32, ticket: Option<Ticket>, ca
     let Some(ticket) = ticket else { unreachable!() };
     let Ticket { entry, bytes: _ } = ticket;
     let mut cargo = cargo;
-    cargo.baton.wallet.put(tickets, entry);
+    cargo.baton.wallet.put_one(tickets, number, entry);
     cargo
 }
 

@@ -1,7 +1,6 @@
 -- An initiator before its first turn has the tickets for all that its script asks for, and a direct one for a grant of each gate.
-use Rattle.std.proofs.Common.{◌≡◌, ◌≢◌, ◌⊎◌, ℕ, zero, suc, ◌+◌, ◌*◌, ◌<◌, ◌≤◌, Bool, true, List, [], ◌∷◌, length, Option, Some, None, slice_get, refl, ap, sym, subst, ◌∙◌, inl, inr, arith}
-use Rattle.std.specs.Prelude.{IsSome, IsSomeAnd}
-use Rattle.std.specs.FinMap as map
+use Rattle.std.proofs.Common.{◌≡◌, ◌≢◌, ◌⊎◌, ℕ, zero, suc, ◌+◌, ◌*◌, ◌<◌, ◌≤◌, Bool, true, List, [], ◌∷◌, length, Option, Some, slice_get, refl, ap, sym, subst, ◌∙◌, inl, inr, arith}
+use Rattle.std.specs.Prelude.{IsSomeAnd}
 use Rattle.std.proofs.lemmas.Bool.{cases_eq}
 use Rattle.std.proofs.lemmas.List.Sums.{sum_by-take-le}
 use mathlib.Core.Option.{some}
@@ -11,8 +10,8 @@ use Rattle.view_lists.proofs.Members.{has_later, has_none}
 use Rattle.one_history.specs.declared.entry.Entry.{Entry as HistoryEntry}
 use Rattle.one_history.specs.declared.view.Frame.{Frame}
 use Rattle.one_history.specs.declared.view.View.{View}
-use Rattle.token_book.specs.Pocket.{Pocket}
-use Rattle.token_book.specs.Purse.{HasPlace, Purse, bytes_of, left_in, left_of}
+use Rattle.token_book.specs.Purse.{Purse, bytes_of, left_of}
+use Rattle.token_book.proofs.Purses.{nothing_past}
 use Rattle.tlm_types.specs.declared.entry.Content.{Content}
 use Rattle.tlm_types.specs.declared.words.ObjectNo.TheVariants.{Memory}
 use Rattle.tlm_model.specs.declared.operation.Operation.{Operation}
@@ -20,7 +19,7 @@ use Rattle.tlm_model.specs.declared.platform.InitiatorRow.{InitiatorRow}
 use Rattle.tlm_model.specs.declared.platform.MemoryRow.{MemoryRow}
 use Rattle.tlm_model.specs.declared.platform.Style.{Style}
 use Rattle.tlm_model.specs.declared.platform.Style.TheVariants.{FourPhase}
-use Rattle.tlm_model.specs.Plan.{Plan, Initiator, initiators_from, initiators_of}
+use Rattle.tlm_model.specs.Plan.{Plan, Initiator, initiators_of}
 use Rattle.tlm_model.specs.Scripts.{first_gate}
 use Rattle.tlm_model.proofs.InitiatorLemmas.{initiator_from}
 use Rattle.generic_payload.specs.Payload.{PayloadView}
@@ -36,7 +35,7 @@ use Rattle.script_engine.proofs.Steps.{begins}
 use Rattle.initiator_run.specs.Come.{HasCome}
 use Rattle.initiator_run.specs.Left.{asked_in, logged_in}
 use Rattle.initiator_run.specs.Run.{Run, fresh_run}
-use Rattle.initiator_run.proofs.BeginLemmas.{proper_at, syncs_bound}
+use Rattle.initiator_run.proofs.BeginLemmas.{proper_at, script_from, syncs_bound}
 use Rattle.initiator_run.proofs.EndLemmas.{HasCome-begun}
 use Rattle.run_outcome.proofs.ListLemmas.{has_element}
 use Rattle.run_outcome.proofs.PlanLemmas.{initiator_number}
@@ -64,14 +63,6 @@ asks_shared p i m = refl
 bytes_shared : (p : Plan) (i : Initiator) (m : ℕ) → logged_in p i m i.script ≡ logged_share p i m
 unfolding logged_share
 bytes_shared p i m = refl
-
--- a wallet has no tickets of an object that has no place in it
-pub nothing_past : (w : Purse) (n k : ℕ) → ((o : ℕ) → HasPlace w o → o < n) → n ≤ k → left_of w k ≡ 0
-nothing_past w n k few past = by (map.get w.held k) refl
-  where
-    by : (pocket : Option Pocket) → map.get w.held k ≡ pocket → left_in pocket ≡ 0
-    by None is = refl
-    by (Some pocket) is = let less = few k (subst IsSome (sym is) refl) in absurd (omega arith)
 
 -- no more gates aren't known to be given than there are
 ungiven_most : (p : Plan) (known : List (HistoryEntry Content)) (n : ℕ) → n ≤ length p.platform.memories → all_ungiven p known n ≤ first_gate p.platform n
@@ -189,15 +180,6 @@ module _ (frame : Frame Plan) (valid : IsValid frame.world) (n : ℕ) (i : Initi
         };
         answered = tt;
       }
-
--- an initiator has the row and the script of its number
-pub script_from : (k n : ℕ) (rows : List InitiatorRow) (scripts : List (List Operation)) (i : Initiator) → slice_get (initiators_from k rows scripts) n ≡ Some i → slice_get scripts n ≡ Some i.script
-script_from k n [] scripts i is = cc
-script_from k n (row ∷ rows) [] i is = cc
-script_from k zero (row ∷ rows) (script ∷ scripts) i is =
-    let same : record { number = k; row = row; script = script } ≡ i = cc in
-    ap (λ (x : Initiator). Some x.script) same
-script_from k (suc n) (row ∷ rows) (script ∷ scripts) i is = script_from (k + 1) n rows scripts i is
 
 same_script : (a b : List Operation) → Some a ≡ Some b → a ≡ b
 same_script a b q = cc

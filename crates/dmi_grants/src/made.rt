@@ -128,7 +128,7 @@ fn put_back<N: Naming<Plan, TlmLaw>, S: Sharing<N>>(
     let Some(Ticket { entry, bytes: _ }) = ticket else {
         return;
     };
-    wallet.put(net.tickets(), entry);
+    wallet.put_one(net.tickets(), memory, entry);
 }
 
 /// Makes a call at the memory with this number, which may add an entry without bytes. A ticket of the

@@ -4,7 +4,6 @@ ghost use Rattle.entry_log.specs.LogBytes.{HasParts, IsLast, Reads};
 ghost use Rattle.log_items.specs.Items.{brief_what, IsOrdered};
 ghost use Rattle.tlm_types.specs.Entries.{access_by, enables_of, entry_at, facts_of, got_of, head_of, is_access, plain_of, read_at, read_sends, sent_of};
 ghost use Rattle.entry_log.specs.Log.{with_entry};
-ghost use Rattle.tlm_types.specs.declared.entry.What.TheVariants.{Call};
 ghost use Rattle.tlm_types.specs.declared.words.Command.TheVariants.{Read};
 
 mod past;
@@ -13,7 +12,7 @@ use log_items::{BriefEvent, Items, PlacedAccess, Span, WORD, copied_head, plain_
 use past::Past;
 use std::alloc::Global;
 use std::marker::Model;
-use tlm_types::{Facts, Head, Memory, Phase, TlmSync, What};
+use tlm_types::{Facts, Head, Memory, What};
 
 /// An access of a log, with its bytes. What a read sent isn't kept, so of a read `sent` says nothing.
 #[derive(Clone, Copy)]
@@ -136,7 +135,6 @@ impl Log {
 
     /// Appends an entry that isn't an access. It is `Ok` where there is room for it. Its only error is
     /// want of memory, after which the log is as before.
-    #[inline(always)]
     pub fn push(&mut self, head: Head, what: What) -> Result<(), Memory>
         requires { is_access what ≡ false }
         ensures ok { OnOk result (self.new ≡ with_entry self.old (entry_at head what)) }
@@ -148,14 +146,14 @@ impl Log {
         Ok(())
     }
 
-    /// Appends the entry of a call at a hop, as `push` does.
+    /// Appends the entry of what happened at a hop or in a pool, as `push` does.
     #[inline(always)]
-    pub fn push_call(&mut self, head: Head, phase: Phase, answer: TlmSync) -> Result<(), Memory>
-        ensures ok { OnOk result (self.new ≡ with_entry self.old (entry_at head (Call phase answer))) }
+    pub fn push_brief(&mut self, head: Head, event: BriefEvent) -> Result<(), Memory>
+        ensures ok { OnOk result (self.new ≡ with_entry self.old (entry_at head (brief_what event))) }
         ensures err { OnErr result (self.new ≡ self.old) }
         ensures roomy { length self.old.entries < self.old.room → IsOk result }
     {
-        self.items.push_call(head, phase, answer)?;
+        self.items.push_brief(head, event)?;
         self.settle();
         Ok(())
     }

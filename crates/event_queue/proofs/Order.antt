@@ -1,5 +1,5 @@
 -- Items that wait: their order, as they come and go.
-use Rattle.std.proofs.Common.{◌≡◌, ◌<◌, ◌≤◌, ℕ, suc, ◌+◌, ◌*◌, ◌^◌, ◌==◌, Bool, true, false, cond, not, List, [], ◌∷◌, ◌++◌, length, map, get_or, nat_lt, insert, All, Some, Result, Ok, Err, refl, sym, ap, subst, ◌∙◌, append_assoc, le_refl, arith}
+use Rattle.std.proofs.Common.{◌≡◌, ◌<◌, ◌≤◌, ℕ, ◌+◌, ◌*◌, ◌^◌, ◌==◌, Bool, true, false, List, [], ◌∷◌, ◌++◌, length, map, get_or, nat_lt, All, Some, Result, Ok, Err, refl, sym, ap, subst, ◌∙◌, append_assoc, le_refl, arith}
 use Rattle.std.specs.Prelude.{IsOk, OnOk, if◌then◌else◌}
 use Rattle.std.specs.BinaryHeap.{IsHeap, IsUpperBound}
 use Rattle.std.specs.Cmp.{nat_eq_equiv, ranks}
@@ -8,16 +8,18 @@ use Rattle.std.specs.List.Sorted.{IsPermutation}
 use Rattle.std.specs.Ordering.{MatchOrdering, is_lt, nat_cmp, ordering_then}
 use Rattle.std.specs.declared.cmp.Ordering.{Ordering}
 use Rattle.std.specs.declared.cmp.Ordering.TheVariants.{Less, Equal, Greater}
-use Rattle.std.proofs.lemmas.Bool.{eq-eqb, eqb-false, eqb-true, false≢true, le-ltb, lt-ltb, ltb-false, ltb-true, ne_eqb}
+use Rattle.std.proofs.lemmas.Bool.{eqb-false, false≢true, le-ltb, lt-ltb, ltb-false, ltb-true, ne_eqb}
 use Rattle.std.proofs.lemmas.List.Elements.{All-from_recursion, recursion_from_All}
 use Rattle.std.proofs.lemmas.List.{length-map}
 use Rattle.std.proofs.lemmas.List.Sorted.{All-permutation, IsPermutation-refl, IsPermutation-sym}
 use Rattle.std.proofs.lemmas.Map.Keys.{IsDistinct-IsPermutation, IsDistinct-cons, IsDistinct-from_apart, IsDistinct-head, IsDistinct-tail, ge_from_not_lt}
 use Rattle.std.proofs.lemmas.Option.{none-some, same_Some}
 use Rattle.event_queue.specs.declared.waiting.Waiting.{Waiting}
-use Rattle.event_queue.specs.EventQueue.{first_time, notified, place_after}
+use Rattle.event_queue.specs.EventQueue.{first_time, notified}
 use Rattle.event_queue.specs.Kept.{AreWaiting}
 use Rattle.event_queue.specs.Waiting.{AreNumbered, given, given_in_order, given_sooner, in_order, put, rank}
+use Rattle.event_queue.specs.Line.{joined}
+use Rattle.event_queue.proofs.Line.{count_joined, notified_next}
 
 as_true : (b c : Bool) → (b ≡ true → c ≡ true) → (c ≡ true → b ≡ true) → b ≡ c
 as_true true true f g = refl
@@ -38,9 +40,6 @@ later_rank a b c d h small = by (nat_cmp a b) (ranks a b) h
 pub on_ok : {X E : Type 0} (P : Type 0) (r : Result X E) → IsOk r → OnOk r P → P
 on_ok P (Ok x) ok h = h
 on_ok P (Err e) ok h = absurd (false≢true ok)
-
-pub time_is : {X : Type 0} (time : ℕ) (e : ℕ × X) (es rest : List (ℕ × X)) → Some time ≡ first_time es → es ≡ e ∷ rest → time ≡ e.0
-time_is time e es rest is same = same_Some time e.0 (is ∙ ap first_time same)
 
 no_items : {X : Type 0} (es : List X) → length es ≡ 0 → es ≡ []
 no_items [] h = refl
@@ -150,19 +149,14 @@ module _ {T : Type 0} where
       as_true (nat_lt (rank w) (rank x)) (nat_lt w.at x.at) (λ e. let lt = ltb-true (rank w) (rank x) e in lt-ltb w.at x.at (omega (arith, lt, later)))
       (λ e. let lt = ltb-true w.at x.at e in lt-ltb (rank w) (rank x) (omega (arith, lt, small)))
 
-  insert_later : (e y : ℕ × T) (es : List (ℕ × T)) (k : ℕ) → insert (e ∷ es) (1 + k) y ≡ e ∷ insert es k y
-  insert_later e y es k = let next : 1 + k ≡ suc k = omega arith in ap (λ n. insert (e ∷ es) n y) next
-
   put_notified : (w : Waiting T) (ws : List (Waiting T)) → AllByRecursion (λ x. x.order < w.order) ws → w.order < 2 ^ 64 → map given (put w ws) ≡ notified (map given ws) w.item w.at
   put_notified w [] all small = refl
   put_notified w (x ∷ xs) all small =
-      ap (λ b. map given (if b then w ∷ x ∷ xs else x ∷ put w xs)) (rank_test w x all.0 small) ∙ by_case (nat_lt w.at x.at) refl (put_notified w xs all.1 small)
+      ap (λ b. map given (if b then w ∷ x ∷ xs else x ∷ put w xs)) (rank_test w x all.0 small) ∙ by_case (nat_lt w.at x.at) (put_notified w xs all.1 small) ∙ sym (notified_next (given x) (map given xs) w.item w.at)
     where
-      by_case : (b : Bool) → nat_lt w.at x.at ≡ b → map given (put w xs) ≡ notified (map given xs) w.item w.at → map given (if b then w ∷ x ∷ xs else x ∷ put w xs) ≡ notified (map given (x ∷ xs)) w.item w.at
-      by_case true at rest = ap (λ b. insert (map given (x ∷ xs)) (cond (not b) (1 + place_after (map given xs) w.at) 0) (given w)) (sym at)
-      by_case false at rest =
-          ap (λ es. given x ∷ es) rest ∙ sym (insert_later (given x) (given w) (map given xs) (place_after (map given xs) w.at))
-          ∙ ap (λ b. insert (map given (x ∷ xs)) (cond (not b) (1 + place_after (map given xs) w.at) 0) (given w)) (sym at)
+      by_case : (b : Bool) → map given (put w xs) ≡ notified (map given xs) w.item w.at → map given (if b then w ∷ x ∷ xs else x ∷ put w xs) ≡ (if b then given w ∷ map given (x ∷ xs) else given x ∷ notified (map given xs) w.item w.at)
+      by_case true rest = refl
+      by_case false rest = ap (λ es. given x ∷ es) rest
 
   -- the first of a heap is given first
   pub first_is_least : (next : ℕ) (x : Waiting T) (rest : List (Waiting T)) → AreNumbered next (x ∷ rest) → next ≤ 2 ^ 64 → IsUpperBound given_sooner x rest → AllByRecursion (λ y. rank x < rank y) rest
@@ -244,15 +238,14 @@ module _ {T : Type 0} where
   pub count_given : (ws : List (Waiting T)) → length (given_in_order ws) ≡ length ws
   count_given ws = length-map (in_order ws) given ∙ order_count ws
 
+  pub count_all : (line : List (ℕ × T)) (ws : List (Waiting T)) (m n : ℕ) → m ≡ length line → n ≡ length ws → length (joined line (given_in_order ws)) ≡ m + n
+  count_all line ws m n first second = omega (arith, count_joined line (given_in_order ws), count_given ws, first, second)
+
   pub none_given : (ws : List (Waiting T)) (n : ℕ) → n ≡ length ws → n ≡ 0 → given_in_order ws ≡ []
   none_given ws n is zero_is = no_items (given_in_order ws) (omega (arith, count_given ws, is, zero_is))
 
   pub some_given : (ws : List (Waiting T)) (n : ℕ) → n ≡ length ws → 0 < n → given_in_order ws ≡ [] → ⊥
   some_given ws n is some none = omega (arith, count_given ws, is, some, ap length none)
-
-  pub empty_by_test : (ws : List (Waiting T)) (n : ℕ) (b : Bool) → n ≡ length ws → b ≡ (n == 0) → (b ≡ true → given_in_order ws ≡ []) × (given_in_order ws ≡ [] → b ≡ true)
-  empty_by_test ws n b is test =
-      (λ e. none_given ws n is (eqb-true n 0 (sym test ∙ e)), λ none. test ∙ eq-eqb n 0 (omega (arith, count_given ws, is, ap length none)))
 
   -- nothing waits
   pub none_wait : (ws : List (Waiting T)) → ws ≡ [] → IsHeap given_sooner ws → AreWaiting 0 ws
@@ -283,19 +276,12 @@ module _ {T : Type 0} where
   waits_too next w ws after waits is small perm heap = record { heap = heap; numbered = pushed_numbered next w ws after waits.numbered is small perm }
 
   -- what a first time says of all
-  pub none_due : (now : ℕ) (time : ℕ) (es : List (ℕ × T)) → All (λ (e : ℕ × T). time ≤ e.0) es → now < time → All (λ (e : ℕ × T). now < e.0) es
-  none_due now time es all early k d lt = let le = all k d lt in omega (arith, le, early)
-
   pub first_due : (now : ℕ) (time : ℕ) (es : List (ℕ × T)) → Some time ≡ first_time es → (now < time → ⊥) → All (λ (e : ℕ × T). now < e.0) es → ⊥
   first_due now time [] is late all = absurd (none-some time (sym is))
   first_due now time (e ∷ es) is late all =
       let same : time ≡ e.0 = same_Some time e.0 is in
       let early : now < e.0 = all 0 e (omega arith) in
       late (omega (arith, same, early))
-
-  pub first_some : (time : ℕ) (es : List (ℕ × T)) → Some time ≡ first_time es → es ≡ [] → ⊥
-  first_some time [] is none = none-some time (sym is)
-  first_some time (e ∷ es) is none = let n = ap length none in omega (arith, n)
 
   -- the first of what waits is moved behind what was moved before, with a number of its own
   pub moved_on : (next k : ℕ) (to after from rest : List (Waiting T)) (all : List (ℕ × T)) (x w : Waiting T) → AreWaiting next from → next ≤ 2 ^ 64 → IsPermutation from (x ∷ rest) → IsUpperBound given_sooner x rest

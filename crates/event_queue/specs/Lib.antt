@@ -1,3 +1,4 @@
 pub mod EventQueue
 pub mod Waiting
+pub mod Line
 pub mod Kept

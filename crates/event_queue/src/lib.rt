@@ -5,9 +5,11 @@
 //!   the order in which they are given, and its room.
 //! - `tlm_types::Memory` is the error of `new`, which was refused memory.
 //!
-//! What waits is a heap, by times and by numbers that count notifications: adding and giving take time in
-//! proportion to the logarithm of how many wait. Where the last number was taken, once in 2^64
-//! notifications, what waits moves to a second heap of the same room, with new numbers.
+//! An entry that is no earlier than all before it, as most are, stands at the end of a line, and stays in its place
+//! until it is given. One that is earlier than the last of the line waits in a heap, by times and by numbers
+//! that count these: adding and giving take time in proportion to the logarithm of how many are in the heap.
+//! Where the last number was taken, once in 2^64 notifications, what is in the heap moves to a second one of the
+//! same room, with new numbers.
 //!
 //! Promises: entries are given in the order of their times, those of equal times in the order of their
 //! notification. An entry is given as soon as its time has come, and none before. No call but `new`

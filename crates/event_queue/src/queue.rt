@@ -1,13 +1,15 @@
 // The queue.
-ghost use Rattle.std.specs.Prelude.{◌≡◌, ◌+◌, ◌<◌, ◌≤◌, ◌^◌, ◌↔◌, ◌++◌, [], ◌∷◌, length, All, IsNone, IfNone, IfSome, IfOk, IsTrue};
+ghost use Rattle.std.specs.Prelude.{◌≡◌, ◌+◌, ◌<◌, ◌≤◌, ◌^◌, ◌↔◌, ◌++◌, [], ◌∷◌, true, false, Some, length, All, IsNone, IfNone, IfSome, IfOk, IsTrue};
+ghost use Rattle.std.specs.List.{AllByRecursion};
 ghost use Rattle.std.specs.BinaryHeap.{heap_capacity, heap_items, heap_len};
 ghost use Rattle.event_queue.specs.EventQueue.{notified, first_time};
 ghost use Rattle.event_queue.specs.Kept.{AreWaiting};
+ghost use Rattle.event_queue.specs.Line.{AreSplit, joined, last_time};
 ghost use Rattle.event_queue.specs.Waiting.{given_in_order};
 
 use crate::waiting::Waiting;
 use std::alloc::Global;
-use std::collections::BinaryHeap;
+use std::collections::{BinaryHeap, VecDeque};
 use std::marker::Model;
 use std::mem;
 use tlm_types::Memory;
@@ -16,27 +18,33 @@ use tlm_types::Memory;
 /// absolute, in picoseconds.
 #[derive(Drop)]
 pub struct EventQueue<T> {
-    waiting: BinaryHeap<Waiting<T>>,
-    /// Empty, with the same room: what waits moves there when it is numbered anew.
+    /// In the order of their times: each was notified when none of these was later.
+    line: VecDeque<(u64, T)>,
+    /// Those that were notified when the last of the line was later. Mostly there is none.
+    early: BinaryHeap<Waiting<T>>,
+    /// Empty, with the same room: what is early moves there when it is numbered anew.
     spare: BinaryHeap<Waiting<T>>,
-    /// The number of the next notification.
+    /// The number of the next notification of one that is early.
     next: u64,
     room: u32,
 }
 
 impl<T> Model for EventQueue<T> {
-    ghost use Rattle.std.specs.Prelude.{◌≡◌, ◌≤◌, ◌<◌, ◌^◌, []};
+    ghost use Rattle.std.specs.Prelude.{◌≡◌, ◌+◌, ◌≤◌, ◌<◌, ◌^◌};
     ghost use Rattle.std.specs.BinaryHeap.{heap_capacity, heap_items, heap_len};
+    ghost use Rattle.std.specs.VecDeque.{deque_capacity, deque_len};
     ghost use Rattle.event_queue.specs.EventQueue.{Events};
     ghost use Rattle.event_queue.specs.Kept.{AreWaiting};
+    ghost use Rattle.event_queue.specs.Line.{AreSplit, joined};
     ghost use Rattle.event_queue.specs.Waiting.{given_in_order};
 
     ghost Value = { Events T };
 
-    ghost view = { λ q. record { entries = given_in_order (heap_items q.waiting); room = q.room } };
+    ghost view = { λ q. record { entries = joined q.line.items (given_in_order (heap_items q.early)); room = q.room } };
 
-    ghost invariant = { λ q. AreWaiting q.next (heap_items q.waiting) × AreWaiting 0 (heap_items q.spare)
-        × (heap_len q.waiting ≤ q.room) × (q.room ≤ heap_capacity q.waiting) × (q.room ≤ heap_capacity q.spare)
+    ghost invariant = { λ q. AreWaiting q.next (heap_items q.early) × AreWaiting 0 (heap_items q.spare)
+        × AreSplit q.line.items (given_in_order (heap_items q.early)) × (deque_len q.line + heap_len q.early ≤ q.room)
+        × (q.room ≤ heap_capacity q.early) × (q.room ≤ heap_capacity q.spare) × (q.room ≤ deque_capacity q.line)
         × (heap_len q.spare ≡ 0) × (q.room < 2 ^ 32) × (q.next < 2 ^ 64) };
 }
 
@@ -64,44 +72,85 @@ fn number_anew<T>(from: &mut BinaryHeap<Waiting<T>>, to: &mut BinaryHeap<Waiting
     }
 }
 
-// The number of the next notification, and the one after it. Where the last number was taken, what waits is
-// numbered anew.
+// The number of the next that is early. Where the last number was taken, those that are early are numbered
+// anew.
 fn take_number<T>(
-    waiting: &mut BinaryHeap<Waiting<T>>,
+    early: &mut BinaryHeap<Waiting<T>>,
     spare: &mut BinaryHeap<Waiting<T>>,
     next: u64,
     room: u32,
 ) -> u64
-    requires waiting { AreWaiting next (heap_items waiting.old) }
+    requires waiting { AreWaiting next (heap_items early.old) }
     requires spare { AreWaiting 0 (heap_items spare.old) × (heap_len spare.old ≡ 0) }
-    requires room { (heap_len waiting.old ≤ room) × (room ≤ heap_capacity waiting.old) × (room ≤ heap_capacity spare.old) }
-    ensures same { given_in_order (heap_items waiting.new) ≡ given_in_order (heap_items waiting.old) }
-    ensures waiting { AreWaiting result (heap_items waiting.new) }
+    requires room { (heap_len early.old ≤ room) × (room ≤ heap_capacity early.old) × (room ≤ heap_capacity spare.old) }
+    ensures same { given_in_order (heap_items early.new) ≡ given_in_order (heap_items early.old) }
+    ensures waiting { AreWaiting result (heap_items early.new) }
     ensures spare { AreWaiting 0 (heap_items spare.new) × (heap_len spare.new ≡ 0) }
-    ensures count { heap_len waiting.new ≡ heap_len waiting.old }
-    ensures room { (room ≤ heap_capacity waiting.new) × (room ≤ heap_capacity spare.new) }
+    ensures count { heap_len early.new ≡ heap_len early.old }
+    ensures room { (room ≤ heap_capacity early.new) × (room ≤ heap_capacity spare.new) }
     ensures more { result + 1 < 2 ^ 64 }
 {
     if next < u64::MAX {
         return next;
     }
-    let count = waiting.len() as u64;
-    number_anew(waiting, spare, next);
-    mem::swap(waiting, spare);
+    let count = early.len() as u64;
+    number_anew(early, spare, next);
+    mem::swap(early, spare);
     count
 }
 
-// The time of the first of these, where the numbers are below this one.
-fn first_at<T>(waiting: &BinaryHeap<Waiting<T>>, next: u64) -> Option<u64>
-    requires { AreWaiting next (heap_items waiting.now) }
-    ensures first { result ≡ first_time (given_in_order (heap_items waiting.now)) }
-    ensures least { IfSome result (λ time. All (λ e. time ≤ e.0) (given_in_order (heap_items waiting.now))) }
-    ensures empty { IsNone result ↔ (given_in_order (heap_items waiting.now) ≡ []) }
+// The time of the first of those that are early, where the numbers are below this one.
+fn early_at<T>(early: &BinaryHeap<Waiting<T>>, next: u64) -> Option<u64>
+    requires { AreWaiting next (heap_items early.now) }
+    ensures first { result ≡ first_time (given_in_order (heap_items early.now)) }
+    ensures least { IfSome result (λ time. All (λ e. time ≤ e.0) (given_in_order (heap_items early.now))) }
+    ensures empty { IsNone result ↔ (given_in_order (heap_items early.now) ≡ []) }
 {
     let _ = next;
-    match waiting.peek() {
+    match early.peek() {
         Some(first) => Some(first.at),
         None => None,
+    }
+}
+
+// The time of the first of a line.
+fn line_at<T>(line: &VecDeque<(u64, T)>) -> Option<u64>
+    ensures { result ≡ first_time line.now.items }
+{
+    match line.front() {
+        Some(first) => Some(first.0),
+        None => None,
+    }
+}
+
+// Whether none of a line is later than this time.
+fn is_last<T>(line: &VecDeque<(u64, T)>, at: u64) -> bool
+    ensures { IsTrue result ↔ last_time line.now.items ≤ at }
+{
+    match line.back() {
+        Some(last) => last.0 <= at,
+        None => true,
+    }
+}
+
+// The time of the first of all, and whether it is early.
+fn first_of<T>(
+    line: &VecDeque<(u64, T)>,
+    early: &BinaryHeap<Waiting<T>>,
+    next: u64,
+) -> Option<(u64, bool)>
+    requires waiting { AreWaiting next (heap_items early.now) }
+    requires split { AreSplit line.now.items (given_in_order (heap_items early.now)) }
+    ensures first { IfSome result (λ f. Some f.0 ≡ first_time (joined line.now.items (given_in_order (heap_items early.now)))) }
+    ensures least { IfSome result (λ f. All (λ e. f.0 ≤ e.0) (joined line.now.items (given_in_order (heap_items early.now)))) }
+    ensures early { IfSome result (λ f. f.1 ≡ true → AllByRecursion (λ e. f.0 < e.0) line.now.items × (Some f.0 ≡ first_time (given_in_order (heap_items early.now)))) }
+    ensures late { IfSome result (λ f. f.1 ≡ false → AllByRecursion (λ e. f.0 ≤ e.0) (given_in_order (heap_items early.now)) × (Some f.0 ≡ first_time line.now.items)) }
+    ensures empty { IsNone result ↔ (joined line.now.items (given_in_order (heap_items early.now)) ≡ []) }
+{
+    let late = line_at(line)?;
+    match early_at(early, next) {
+        Some(at) if at < late => Some((at, true)),
+        _ => Some((late, false)),
     }
 }
 
@@ -110,13 +159,19 @@ impl<T> EventQueue<T> {
     pub fn new(alloc: Global, room: u32) -> Result<EventQueue<T>, Memory>
         ensures { IfOk result (λ q. q ≡ record { entries = []; room = room }) }
     {
-        let waiting = BinaryHeap::with_capacity(alloc, room as usize)?;
+        let line = VecDeque::with_capacity(alloc, room as usize)?;
+        let Ok(early) = BinaryHeap::with_capacity(alloc, room as usize) else {
+            line.destroy_empty();
+            return Err(Memory);
+        };
         let Ok(spare) = BinaryHeap::with_capacity(alloc, room as usize) else {
-            waiting.destroy_empty();
+            line.destroy_empty();
+            early.destroy_empty();
             return Err(Memory);
         };
         Ok(EventQueue {
-            waiting,
+            line,
+            early,
             spare,
             next: 0,
             room,
@@ -129,9 +184,13 @@ impl<T> EventQueue<T> {
         requires { length self.old.entries < self.old.room }
         ensures { self.new ≡ record self.old { entries = notified self.old.entries item at } }
     {
-        let order = take_number(&mut self.waiting, &mut self.spare, self.next, self.room);
+        if is_last(&self.line, at) {
+            self.line.push_back_reserved((at, item));
+            return;
+        }
+        let order = take_number(&mut self.early, &mut self.spare, self.next, self.room);
         self.next = order + 1;
-        self.waiting.push(Waiting { at, order, item }).unwrap();
+        self.early.push(Waiting { at, order, item }).unwrap();
     }
 
     /// Gives the first entry whose time is at most `now`, in picoseconds, with its time.
@@ -146,12 +205,16 @@ impl<T> EventQueue<T> {
         ensures first { IfSome result (λ given. self.old.entries ≡ given ∷ self.new.entries) }
         ensures room { self.new.room ≡ self.old.room }
     {
-        let first = first_at(&self.waiting, self.next)?;
+        let (first, is_early) = first_of(&self.line, &self.early, self.next)?;
         if now < first {
             return None;
         }
-        let given = self.waiting.pop()?;
-        let Waiting { at, order: _, item } = given;
+        if is_early {
+            let given = self.early.pop()?;
+            let Waiting { at, order: _, item } = given;
+            return Some((at, item));
+        }
+        let (at, item) = self.line.pop_front()?;
         Some((at, item))
     }
 
@@ -161,7 +224,8 @@ impl<T> EventQueue<T> {
         ensures least { IfSome result (λ time. All (λ e. time ≤ e.0) self.now.entries) }
         ensures empty { IsNone result ↔ (self.now.entries ≡ []) }
     {
-        first_at(&self.waiting, self.next)
+        let (first, _) = first_of(&self.line, &self.early, self.next)?;
+        Some(first)
     }
 
     /// How many entries wait.
@@ -169,13 +233,13 @@ impl<T> EventQueue<T> {
         ensures count { result ≡ length self.now.entries }
         ensures within { result ≤ self.now.room }
     {
-        self.waiting.len() as u32
+        (self.line.len() + self.early.len()) as u32
     }
 
     pub fn is_empty(&self) -> bool
         ensures { IsTrue result ↔ (self.now.entries ≡ []) }
     {
-        self.waiting.is_empty()
+        self.line.is_empty()
     }
 
     /// How many entries may wait at a time.

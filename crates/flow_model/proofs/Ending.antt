@@ -35,7 +35,7 @@ some_same : {X : Type 0} (a b : X) → Some a ≡ Some b → a ≡ b
 some_same a b q = cc
 
 -- only the last of these says ends a sequence
-abbrev EndsLast : List Saying → Type 0
+abbrev pub EndsLast : List Saying → Type 0
 EndsLast [] = Unit {0}
 EndsLast (s ∷ []) = Unit {0}
 EndsLast (s ∷ t ∷ l) = (¬ IsEnding s.phase s.answer) × EndsLast (t ∷ l)
@@ -51,11 +51,11 @@ whole_by (c ∷ cs) (d ∷ t ∷ s) e l p (inr i) z =
     let r : cs ≡ t ∷ s = whole_by cs (t ∷ s) e l.1 p.1 i z in
     λ j. p.0 j ∷ r j
 
-abbrev AllEndLast : List (List Saying) → Type 0
+abbrev pub AllEndLast : List (List Saying) → Type 0
 AllEndLast [] = Unit {0}
 AllEndLast (s ∷ ss) = EndsLast s × AllEndLast ss
 
-whole_of : (ss : List (List Saying)) (cs : List Saying) (e : Saying) → AllEndLast ss → IsPrefixOf ss cs → In cs e → IsEnding e.phase e.answer → IsOneOf ss cs
+pub whole_of : (ss : List (List Saying)) (cs : List Saying) (e : Saying) → AllEndLast ss → IsPrefixOf ss cs → In cs e → IsEnding e.phase e.answer → IsOneOf ss cs
 whole_of [] cs e l p i z = p
 whole_of (s ∷ ss) cs e l (inl p) i z = inl (whole_by cs s e l.0 p i z)
 whole_of (s ∷ ss) cs e l (inr p) i z = inr (whole_of ss cs e l.1 p i z)

@@ -15,3 +15,4 @@ mod Waiting
 mod Adding
 mod Closings
 mod Stepping
+pub mod Finished

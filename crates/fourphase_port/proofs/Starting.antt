@@ -1,5 +1,5 @@
 -- A port that begins is a port.
-use Rattle.std.proofs.Common.{◌≡◌, ℕ, zero, suc, ◌+◌, ◌*◌, ◌<◌, ◌≤◌, List, [], ◌∷◌, length, Some, refl, sym, ap, ◌∙◌, subst, arith}
+use Rattle.std.proofs.Common.{◌≡◌, ℕ, ◌+◌, ◌*◌, ◌<◌, ◌≤◌, List, [], length, Some, refl, sym, ap, ◌∙◌, subst, arith}
 use Rattle.std.specs.Prelude.{slice_get}
 use Rattle.std.specs.List.{AllByRecursion}
 use Rattle.view_lists.proofs.Members.{has_none}
@@ -10,8 +10,7 @@ use Rattle.one_history.specs.declared.view.Frame.{Frame}
 use Rattle.tlm_types.specs.declared.entry.Content.{Content}
 use Rattle.tlm_types.specs.declared.words.ObjectNo.TheVariants.{Memory}
 use Rattle.tlm_model.specs.declared.operation.Operation.{Operation}
-use Rattle.tlm_model.specs.declared.platform.InitiatorRow.{InitiatorRow}
-use Rattle.tlm_model.specs.Plan.{Plan, Initiator, initiators_from, initiators_of}
+use Rattle.tlm_model.specs.Plan.{Plan, Initiator, initiators_of}
 use Rattle.traffic_script.specs.Proper.{IsProper}
 use Rattle.token_book.specs.Purse.{Purse, bytes_of}
 use Rattle.generic_payload.specs.Payload.{PayloadView}
@@ -27,6 +26,7 @@ use Rattle.port_model.specs.Stages.{count_of}
 use Rattle.port_model.specs.Way.{IsUnderWay, Port}
 use Rattle.port_model.proofs.Starts.{begins_law, numbers_count}
 use Rattle.run_outcome.proofs.PlanLemmas.{initiator_number, initiator_within}
+use Rattle.initiator_run.proofs.BeginLemmas.{script_from}
 use Rattle.script_engine.specs.State.{State, begun_engine}
 use Rattle.script_engine.proofs.Remaining.{few_numbers}
 use Rattle.fourphase_port.specs.Fresh.{IsFresh}
@@ -40,15 +40,6 @@ no_bytes_more p i m = refl
 
 none_more : (a : ℕ) → a ≤ a + 0
 none_more a = omega arith
-
-script_from : (k n : ℕ) (rows : List InitiatorRow) (scripts : List (List Operation)) (i : Initiator) → slice_get (initiators_from k rows scripts) n ≡ Some i → slice_get scripts n ≡ Some i.script
-script_from k n [] scripts i is = cc
-script_from k n (row ∷ rows) [] i is = cc
-script_from k zero (row ∷ rows) (script ∷ scripts) i is = ap (λ (x : Initiator). Some x.script) (same _ i is)
-  where
-    same : (a b : Initiator) → Some a ≡ Some b → a ≡ b
-    same a b q = cc
-script_from k (suc n) (row ∷ rows) (script ∷ scripts) i is = script_from (k + 1) n rows scripts i is
 
 -- room for all that a script may have outstanding
 pub room_enough : (p q : Plan) (n : ℕ) (script : List Operation) (long : ℕ) → q ≡ p → slice_get q.scripts n ≡ Some script → long ≡ length script → (i : Initiator) → slice_get (initiators_of p) n ≡ Some i → count_of i ≤ 2 * long

@@ -46,7 +46,7 @@ pub(crate) fn take<N: Naming<Plan, TlmLaw>, S: Sharing<N>, R: Wait>(
     let ticket = state.pull(net.tickets(), pool);
     match net.take(rt, initiator, note, ticket, txn, state.time()) {
         Taken::Full { ticket, note } => {
-            state.put_ticket(net.tickets(), ticket);
+            state.put_ticket(net.tickets(), pool, ticket);
             (Moved::ends(false, Pumped::Nothing), note)
         }
         Taken::Took { baton, note } => {

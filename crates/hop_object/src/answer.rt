@@ -27,7 +27,7 @@ pub(crate) fn requested(state: LaneState) -> bool
 }
 
 // The mark of a BEGIN_RESP on a lane of this state.
-pub(crate) fn mark_of(state: LaneState) -> u32
+pub(crate) fn mark_of(state: LaneState) -> u8
     ensures { result ≡ mark_of state }
 {
     if requested(state) { 1 } else { 0 }

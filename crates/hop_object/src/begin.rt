@@ -12,7 +12,8 @@ use crate::hop::Hop;
 use crate::lane::{Lane, any_responding, put, requester};
 use crate::legs::issue;
 use base_phases::LaneState;
-use tlm_types::{Head, ObjectNo, Phase, Ps, TlmSync, TxnId};
+use log_items::BriefEvent;
+use tlm_types::{Head, ObjectNo, Phase, Ps, ReqMode, TlmSync, TxnId};
 use token_book::Tokens;
 
 impl<T> Hop<T> {
@@ -41,11 +42,11 @@ impl<T> Hop<T> {
                 item,
             };
         }
-        let answer = request_answer(self.traits.req, any_responding(&self.lanes));
+        let answer = self.begin_answer();
         let time = at.max(self.request_end);
         match answer {
             TlmSync::Accepted => {
-                self.leave(position, txn, at, LaneState::Requested, item);
+                self.leave(position, txn, at, answer, LaneState::Requested, item);
                 Begun::Left { answer, at: time }
             }
             TlmSync::Completed => {
@@ -67,22 +68,40 @@ impl<T> Hop<T> {
                 }
             }
             TlmSync::Updated(_) => {
-                self.leave_ended(position, txn, at, item);
+                self.leave_ended(position, txn, at, answer, item);
                 Begun::Left { answer, at: time }
             }
         }
     }
 
+    // How the component downstream answers BEGIN_REQ. The lanes are looked at only where its mode asks for it.
+    #[inline(always)]
+    fn begin_answer(&self) -> TlmSync
+        ensures { result ≡ begin_answer self.now }
+    {
+        let mode = self.traits.req;
+        let open = matches!(mode, ReqMode::BeginResp) && any_responding(&self.lanes);
+        request_answer(mode, open)
+    }
+
     // A BEGIN_REQ whose item waits for the component downstream.
     #[inline(always)]
-    fn leave(&mut self, position: u64, txn: TxnId, at: Ps, state: LaneState, item: T)
+    fn leave(
+        &mut self,
+        position: u64,
+        txn: TxnId,
+        at: Ps,
+        answer: TlmSync,
+        state: LaneState,
+        item: T,
+    )
         requires can { can_begin self.old ≡ true }
+        requires answer { answer ≡ begin_answer self.old }
         requires may { MayCall self.old position }
         requires next { next_state Free BeginReq (begin_answer self.old) ≡ Some state }
         requires down { is_down state ≡ true }
         ensures { self.new ≡ entered self.old (begin_entry self.old position txn at (begin_answer self.old)) (begin_answer self.old) state (Some item) self.old.book }
     {
-        let answer = request_answer(self.traits.req, any_responding(&self.lanes));
         let time = at.max(self.request_end);
         let head = Head {
             position,
@@ -90,7 +109,8 @@ impl<T> Hop<T> {
             txn,
             time,
         };
-        self.log.push_call(head, Phase::BeginReq, answer, 0);
+        let event = BriefEvent::of_call(Phase::BeginReq, answer);
+        self.log.push(head, event, 0);
         self.request_end = request_end_begun(self.request_end, answer, time);
         let lane = Lane {
             txn,
@@ -105,13 +125,14 @@ impl<T> Hop<T> {
 
     // The same, where the answer ends the request. This and the next two aren't made part of the caller, which would grow very
     // large.
-    fn leave_ended(&mut self, position: u64, txn: TxnId, at: Ps, item: T)
+    fn leave_ended(&mut self, position: u64, txn: TxnId, at: Ps, answer: TlmSync, item: T)
         requires can { can_begin self.old ≡ true }
+        requires answer { answer ≡ begin_answer self.old }
         requires may { MayCall self.old position }
         requires next { next_state Free BeginReq (begin_answer self.old) ≡ Some Waiting }
         ensures { self.new ≡ entered self.old (begin_entry self.old position txn at (begin_answer self.old)) (begin_answer self.old) Waiting (Some item) self.old.book }
     {
-        self.leave(position, txn, at, LaneState::Waiting, item);
+        self.leave(position, txn, at, answer, LaneState::Waiting, item);
     }
 
     // A BEGIN_REQ that is answered with BEGIN_RESP: the leg goes back at once.
@@ -123,7 +144,6 @@ impl<T> Hop<T> {
         ensures hop { self.new ≡ entered self.old (begin_entry self.old position txn at (begin_answer self.old)) (begin_answer self.old) Responding None (leg_out self.old.book position Responding) }
         ensures leg { result ≡ leg_at self.old.book position Responding }
     {
-        let answer = TlmSync::Updated(Phase::BeginResp);
         let time = at.max(self.request_end);
         let head = Head {
             position,
@@ -131,7 +151,11 @@ impl<T> Hop<T> {
             txn,
             time,
         };
-        self.log.push_call(head, Phase::BeginReq, answer, 0);
+        let event = BriefEvent::Updated {
+            phase: Phase::BeginReq,
+            next: Phase::BeginResp,
+        };
+        self.log.push(head, event, 0);
         self.request_end = time;
         let lane = Lane {
             txn,
@@ -159,8 +183,10 @@ impl<T> Hop<T> {
             txn,
             time,
         };
-        self.log
-            .push_call(head, Phase::BeginReq, TlmSync::Completed, 0);
+        let event = BriefEvent::Completed {
+            phase: Phase::BeginReq,
+        };
+        self.log.push(head, event, 0);
         self.request_end = time;
     }
 }

@@ -9,7 +9,8 @@ use crate::hop::Hop;
 use crate::lane::{change, let_go, take_out};
 use crate::legs::{issue, redeem};
 use base_phases::LaneState;
-use tlm_types::{Head, ObjectNo, Phase, Ps, TlmSync};
+use log_items::BriefEvent;
+use tlm_types::{Head, ObjectNo, Phase, Ps};
 use token_book::Tokens;
 
 impl<T> Hop<T> {
@@ -36,8 +37,10 @@ impl<T> Hop<T> {
             txn,
             time,
         };
-        self.log
-            .push_call(head, Phase::EndReq, TlmSync::Accepted, 0);
+        let event = BriefEvent::Accepted {
+            phase: Phase::EndReq,
+        };
+        self.log.push(head, event, 0);
         self.request_end = time;
         let next = LaneState::Waiting;
         let was = change(&mut self.lanes, index, next, time, position, None);
@@ -65,8 +68,10 @@ impl<T> Hop<T> {
             txn,
             time,
         };
-        self.log
-            .push_call(head, Phase::EndResp, TlmSync::Completed, 0);
+        let event = BriefEvent::Completed {
+            phase: Phase::EndResp,
+        };
+        self.log.push(head, event, 0);
         self.response_end = self.response_end.max(time);
         let was = take_out(&mut self.lanes, index);
         let_go(was);

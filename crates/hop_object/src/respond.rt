@@ -11,6 +11,7 @@ use crate::call::{Leg, Responded};
 use crate::hop::Hop;
 use crate::lane::{any_responding, change, let_go, responder};
 use crate::legs::redeem;
+use log_items::BriefEvent;
 use tlm_types::{Head, ObjectNo, Phase, Ps};
 use token_book::Tokens;
 
@@ -67,8 +68,8 @@ impl<T> Hop<T> {
             txn,
             time,
         };
-        self.log
-            .push_call(head, Phase::BeginResp, answer, mark_of(state));
+        let event = BriefEvent::of_call(Phase::BeginResp, answer);
+        self.log.push(head, event, mark_of(state));
         self.request_end = request_end_responded(self.request_end, state, answer, time);
         self.response_end = response_end_responded(self.response_end, answer, time);
         let next = state_by(answer);

@@ -1,8 +1,8 @@
 // The briefest form of an entry: one that is no access, of a log whose entries are all of one object. The logs of hops
 // and pools have such entries alone, and together they are longer than those of the memories.
 ghost use Rattle.std.specs.Prelude.{◌≡◌, ◌^◌, ◌<◌, ◌≤◌, ◌↔◌, ◌++◌, ◌∷◌, [], false, length, None, Some, IfOk, IfSome, IsSome, IsTrue, option_and_then, option_map, slice_get};
-ghost use Rattle.log_items.specs.Items.{access_in, brief_head, brief_item, brief_plain, brief_what, facts_from, head_in, item_for, placed};
-ghost use Rattle.log_items.specs.declared.long.Event.TheVariants as events;
+ghost use Rattle.log_items.specs.Items.{access_in, brief_head, brief_item, brief_plain, brief_what, facts_from, head_in};
+ghost use Rattle.tlm_types.specs.declared.entry.What.TheVariants as whats;
 ghost use Rattle.log_items.specs.declared.long.Plain.TheVariants.{Call};
 
 use crate::item::in_one_byte;
@@ -89,30 +89,10 @@ impl BriefItems {
         self.items.clear();
     }
 
-    // Appends a call at a hop, where it has a brief form and there is room for it, and answers whether it did.
+    // Appends an entry where its numbers are small and there is room for it, and answers whether it did.
     #[inline(always)]
-    pub(crate) fn push_call(&mut self, head: &Head, phase: Phase, answer: TlmSync) -> bool
-        ensures pushed { IsTrue result → self.new ≡ record self.old { items = self.old.items ++ placed (item_for head.now 0 (events.Plain (Call phase answer))) ∷ [] } }
-        ensures not { result ≡ false → self.new ≡ self.old }
-    {
-        self.push(head, brief_call(phase, answer))
-    }
-
-    // Appends an entry that is no access, as `push_call` does.
-    #[inline(always)]
-    pub(crate) fn push_event(&mut self, head: &Head, event: Plain) -> bool
-        ensures pushed { IsTrue result → self.new ≡ record self.old { items = self.old.items ++ placed (item_for head.now 0 (events.Plain event)) ∷ [] } }
-        ensures not { result ≡ false → self.new ≡ self.old }
-    {
-        match brief_event(event) {
-            Some(event) => self.push(head, event),
-            None => false,
-        }
-    }
-
-    #[inline(always)]
-    fn push(&mut self, head: &Head, event: BriefEvent) -> bool
-        ensures pushed { IsTrue result → self.new ≡ record self.old { items = self.old.items ++ placed (item_for head.now 0 (events.Plain (brief_plain event))) ∷ [] } }
+    pub(crate) fn push(&mut self, head: &Head, event: BriefEvent) -> bool
+        ensures pushed { IsTrue result → self.new ≡ record self.old { items = self.old.items ++ brief_item head.now event ∷ [] } }
         ensures not { result ≡ false → self.new ≡ self.old }
     {
         if self.items.is_empty() {
@@ -189,6 +169,13 @@ impl BriefEvent {
         brief_event(plain_event(what))
     }
 
+    /// A call at a hop.
+    pub fn of_call(phase: Phase, answer: TlmSync) -> BriefEvent
+        ensures { brief_what result ≡ whats.Call phase answer }
+    {
+        brief_call(phase, answer)
+    }
+
     /// What happened.
     #[inline(always)]
     pub fn what(self) -> What
@@ -217,6 +204,13 @@ impl BriefEvent {
     }
 }
 
+// What happened, from the brief form.
+pub(crate) fn plain_of(event: BriefEvent) -> Plain
+    ensures { result ≡ brief_plain event }
+{
+    plain_event(event.what())
+}
+
 // The numbers of an entry are as small as the brief form asks.
 #[inline(always)]
 fn is_brief(head: &Head) -> bool
@@ -229,7 +223,6 @@ fn is_brief(head: &Head) -> bool
 }
 
 // A call at a hop.
-#[inline(always)]
 fn brief_call(phase: Phase, answer: TlmSync) -> BriefEvent
     ensures { brief_plain result ≡ Call phase answer }
 {
@@ -241,8 +234,7 @@ fn brief_call(phase: Phase, answer: TlmSync) -> BriefEvent
 }
 
 // What happened in the brief form, where it has one.
-#[inline(always)]
-fn brief_event(event: Plain) -> Option<BriefEvent>
+pub(crate) fn brief_event(event: Plain) -> Option<BriefEvent>
     ensures { IfSome result (λ brief. brief_plain brief ≡ event) }
 {
     match event {

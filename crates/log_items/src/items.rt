@@ -2,16 +2,15 @@
 ghost use Rattle.std.specs.Prelude.{◌≡◌, ◌+◌, ◌^◌, ◌<◌, [], ◌∷◌, ◌++◌, length, Some, IsOk, IfOk, OnOk, OnErr, IfSome, slice_get, option_map, option_and_then, true, false};
 ghost use Rattle.log_items.specs.Items.{access_in, brief_item, facts_from, head_in, item_for, long_form, placed, plain_in, stored_at, IsOrdered, FitsItems, HasWord};
 ghost use Rattle.log_items.specs.declared.long.Event.TheVariants as events;
-ghost use Rattle.log_items.specs.declared.long.Plain.TheVariants.{Call};
 
-use crate::brief::{BriefEvent, BriefItems};
+use crate::brief::{BriefEvent, BriefItems, brief_event, plain_of};
 use crate::item::{Item, short_access, short_event, short_word};
 use crate::long::{
     Event, LongItem, PlacedAccess, Plain, Span, copied_head, long_item, stored_access,
 };
 use std::alloc::Global;
 use std::marker::Model;
-use tlm_types::{Facts, Head, Memory, Phase, TlmSync, What};
+use tlm_types::{Facts, Head, Memory, What};
 
 /// The items of a log. Contracts see the list of them in their long form, each with the bytes of its entry where they
 /// stand in the item itself, and the room that was made for them.
@@ -77,35 +76,43 @@ impl Items {
     }
 
     /// Appends an entry that is no access. It is `Ok` where there is room for it. Its only error is want of memory.
-    #[inline(always)]
     pub fn push_event(&mut self, head: Head, event: Plain) -> Result<(), Memory>
         ensures ok { OnOk result (self.new ≡ record self.old { items = self.old.items ++ placed (item_for head 0 (events.Plain event)) ∷ [] }) }
         ensures err { OnErr result (self.new ≡ self.old) }
         ensures roomy { length self.old.items < self.old.room → IsOk result }
     {
-        if self.items.is_empty() && self.brief.push_event(&head, event) {
-            return Ok(());
+        match brief_event(event) {
+            Some(event) => self.push_brief(head, event),
+            None => self.push_plain(head, event),
         }
-        self.push_other(copied_head(&head), event)
     }
 
-    /// Appends a call at a hop, as `push_event` does.
+    /// Appends what happened at a hop or in a pool, as `push_event` does.
     #[inline(always)]
-    pub fn push_call(&mut self, head: Head, phase: Phase, answer: TlmSync) -> Result<(), Memory>
-        ensures ok { OnOk result (self.new ≡ record self.old { items = self.old.items ++ placed (item_for head 0 (events.Plain (Call phase answer))) ∷ [] }) }
+    pub fn push_brief(&mut self, head: Head, event: BriefEvent) -> Result<(), Memory>
+        ensures ok { OnOk result (self.new ≡ record self.old { items = self.old.items ++ brief_item head event ∷ [] }) }
         ensures err { OnErr result (self.new ≡ self.old) }
         ensures roomy { length self.old.items < self.old.room → IsOk result }
     {
-        if self.items.is_empty() && self.brief.push_call(&head, phase, answer) {
+        if self.items.is_empty() && self.brief.push(&head, event) {
             return Ok(());
         }
-        self.push_other(copied_head(&head), Plain::Call { phase, answer })
+        self.push_wide(copied_head(&head), event)
     }
 
-    // Appends an entry that is no access and has no brief form here, as most such entries have.
+    // The same, where it isn't kept in the brief form. Most such entries are.
     #[cold]
     #[inline(never)]
-    fn push_other(&mut self, head: Head, event: Plain) -> Result<(), Memory>
+    fn push_wide(&mut self, head: Head, event: BriefEvent) -> Result<(), Memory>
+        ensures ok { OnOk result (self.new ≡ record self.old { items = self.old.items ++ brief_item head event ∷ [] }) }
+        ensures err { OnErr result (self.new ≡ self.old) }
+        ensures roomy { length self.old.items < self.old.room → IsOk result }
+    {
+        self.push_plain(head, plain_of(event))
+    }
+
+    // Appends an entry that is no access in a short or a long form.
+    fn push_plain(&mut self, head: Head, event: Plain) -> Result<(), Memory>
         ensures ok { OnOk result (self.new ≡ record self.old { items = self.old.items ++ placed (item_for head 0 (events.Plain event)) ∷ [] }) }
         ensures err { OnErr result (self.new ≡ self.old) }
         ensures roomy { length self.old.items < self.old.room → IsOk result }

@@ -1,21 +1,22 @@
 // A log whose entries have numbers.
-ghost use Rattle.std.specs.Prelude.{◌≡◌, ◌<◌, true, false, [], length, map, IfOk};
-ghost use Rattle.tlm_types.specs.Entries.{entry_at, is_access};
-ghost use Rattle.tlm_types.specs.declared.entry.What.TheVariants.{Call};
+ghost use Rattle.std.specs.Prelude.{◌≡◌, ◌<◌, true, [], length, map, IfOk};
+ghost use Rattle.tlm_types.specs.Entries.{entry_at};
+ghost use Rattle.log_items.specs.Items.{brief_what};
 ghost use Rattle.flow_model.specs.Events.{entries};
 ghost use Rattle.numbered_log.specs.Logged.{event_of, with_event};
 
 use entry_log::Log;
+use log_items::BriefEvent;
 use std::alloc::Global;
 use std::marker::Model;
-use tlm_types::{Head, Memory, Phase, TlmSync, What};
+use tlm_types::{Head, Memory};
 
-/// A log without accesses, and the number of each entry. Contracts see its entries with their numbers,
+/// A log without accesses, and the number of each entry, which is below 256. Contracts see its entries with their numbers,
 /// and for how many there is room.
 #[derive(Drop)]
 pub struct NumberedLog {
     log: Log,
-    numbers: Vec<u32>,
+    numbers: Vec<u8>,
 }
 
 impl Model for NumberedLog {
@@ -53,7 +54,7 @@ impl NumberedLog {
     }
 
     /// The numbers of the entries, in order.
-    pub fn numbers(&self) -> &[u32]
+    pub fn numbers(&self) -> &[u8]
         ensures { result.now ≡ map (λ e. e.number) self.now.events }
     {
         self.numbers.as_slice()
@@ -67,26 +68,13 @@ impl NumberedLog {
         self.log
     }
 
-    /// Appends the entry of a call at a hop with its number. The room for it is there.
+    /// Appends what happened at a hop or in a pool with its number. The room for it is there.
     #[inline(always)]
-    pub fn push_call(&mut self, head: Head, phase: Phase, answer: TlmSync, number: u32)
+    pub fn push(&mut self, head: Head, event: BriefEvent, number: u8)
         requires { length self.old.events < self.old.room }
-        ensures { self.new ≡ with_event self.old (event_of (entry_at head (Call phase answer)) number) }
+        ensures { self.new ≡ with_event self.old (event_of (entry_at head (brief_what event)) number) }
     {
-        let Ok(()) = self.log.push_call(head, phase, answer) else {
-            unreachable!()
-        };
-        self.numbers.push_reserved(number);
-    }
-
-    /// Appends an entry with its number. The room for it is there.
-    #[inline(always)]
-    pub fn push(&mut self, head: Head, what: What, number: u32)
-        requires room { length self.old.events < self.old.room }
-        requires what { is_access what ≡ false }
-        ensures { self.new ≡ with_event self.old (event_of (entry_at head what) number) }
-    {
-        let Ok(()) = self.log.push(head, what) else {
+        let Ok(()) = self.log.push_brief(head, event) else {
             unreachable!()
         };
         self.numbers.push_reserved(number);

@@ -11,7 +11,7 @@ use one_history::{Closed, Drawn, History, Looked, NoLaw, Note, ObjectSeat, Sign}
 use std::alloc::Global;
 use std::thread::{Threads, join};
 use tlm_types::Memory;
-use token_book::{Book, Ticket, Tokens, Wallet};
+use token_book::{Book, Tokens, Wallet};
 
 /// A history of numbers.
 pub type Past = History<u64, (), NoLaw>;
@@ -109,11 +109,8 @@ fn pay(tokens: &Tokens, book: &mut Book, wallet: &mut Wallet)
     ensures book { (book.new.table ≡ tokens.now) × (book.new.owner ≡ book.old.owner) }
     ensures of { IsOf tokens.now wallet.new }
 {
-    let Ticket { entry, bytes } = wallet.pull(tokens, book.owner(), 0);
-    tokens.retire(book, entry);
-    if let Some(bytes) = bytes {
-        tokens.retire(book, bytes);
-    }
+    let ticket = wallet.pull(tokens, book.owner(), 0);
+    ticket.retire(tokens, book);
 }
 
 // Whether so many tickets of each owner are left.

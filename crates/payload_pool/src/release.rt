@@ -9,7 +9,8 @@ use crate::baton::{Baton, Hold, Own};
 use crate::pool::Pool;
 use crate::slot::{KeptPayload, place_of};
 use crate::take::head;
-use tlm_types::{Ps, What};
+use log_items::BriefEvent;
+use tlm_types::Ps;
 use token_book::{One, Tokens};
 
 impl Pool {
@@ -39,12 +40,11 @@ impl Pool {
         let number = (name % 32).min(15);
         let txn = self.slots[place].txn();
         let freed = self.slots[place].give_back(number, kept);
-        let what = What::Release {
-            slot: place as u32,
+        let event = BriefEvent::Release {
+            slot: place as u8,
             freed,
         };
-        self.log
-            .push(head(self.initiator, position, txn, at), what, number);
+        self.log.push(head(self.initiator, position, txn, at), event, number as u8);
         freed
     }
 

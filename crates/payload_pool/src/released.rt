@@ -32,7 +32,7 @@ impl Pool {
         let log = self.log.log();
         let numbers = self.log.numbers();
         let what = log.what(at as u64);
-        is_release(log.head(at as u64), &what, numbers[at], txn, number)
+        is_release(log.head(at as u64), &what, numbers[at] as u32, txn, number)
     }
 
     /// Whether its log has the Release of a transaction with this number: 0 and up for the references that were

@@ -10,7 +10,8 @@ ghost use Rattle.payload_pool.specs.Calls.{is_out, Takes, Acquires};
 use crate::baton::{Baton, Hold, Own};
 use crate::pool::Pool;
 use crate::slot::{KeptPayload, free_place, place_of};
-use tlm_types::{Head, ObjectNo, Ps, TxnId, What};
+use log_items::BriefEvent;
+use tlm_types::{Head, ObjectNo, Ps, TxnId};
 use token_book::{Book, Tokens};
 
 // Where and when an entry happens.
@@ -65,9 +66,9 @@ impl Pool {
         let place = free_place(&self.slots)?;
         let KeptPayload { payload, wallet } = self.slots[place].begin(txn, position);
         let slot = place as u32;
-        let what = What::Take { slot };
+        let event = BriefEvent::Take { slot: place as u8 };
         self.log
-            .push(head(self.initiator, position, txn, at), what, 0);
+            .push(head(self.initiator, position, txn, at), event, 0);
         let own = issue_own(tokens, &mut self.book, 32 * position as u32 + 16);
         Some(Baton {
             payload,
@@ -101,9 +102,9 @@ impl Pool {
         let Some(place) = place_of(&self.slots, name) else {
             unreachable!()
         };
-        let what = What::Acquire { slot: place as u32 };
+        let event = BriefEvent::Acquire { slot: place as u8 };
         let head = head(self.initiator, position, self.slots[place].txn(), at);
-        self.log.push(head, what, name % 16);
+        self.log.push(head, event, (name % 16) as u8);
         self.slots[place].acquire();
         let own = issue_own(tokens, &mut self.book, name + 1);
         let hold = issue_hold(tokens, &mut self.book, name - 16);

@@ -1,8 +1,7 @@
 -- To which component each hop of a platform leads, and how a hop is made.
-use Rattle.std.proofs.Common.{◌≡◌, ℕ, zero, suc, ◌+◌, ◌-◌, ◌<◌, ◌≤◌, List, [], ◌∷◌, ◌++◌, length, take, map, get_or, nat_lt, true, Option, Some, None, refl, sym, ◌∙◌, ap, arith, subst}
+use Rattle.std.proofs.Common.{◌≡◌, ℕ, zero, suc, ◌+◌, ◌-◌, ◌≤◌, List, [], ◌∷◌, length, take, map, get_or, Some, refl, sym, ◌∙◌, ap, arith, subst}
 use Rattle.std.specs.Prelude.{slice_get, sum_by, IsTrue}
-use Rattle.std.specs.List.{flat_map}
-use Rattle.std.proofs.lemmas.List.{map-append, take_all}
+use Rattle.std.proofs.lemmas.List.{take_all}
 use Rattle.std.proofs.lemmas.List.Sums.{sum_by-cons}
 use Rattle.atomic_table.specs.Seated.{TableId}
 use Rattle.one_history.specs.declared.view.Frame.{Frame}
@@ -20,65 +19,23 @@ use Rattle.tlm_model.specs.Plan.{Plan}
 use Rattle.tlm_model.specs.Route.{window_hop}
 use Rattle.platform_model.specs.Bounded.{is_there}
 use Rattle.route_plan.specs.Valid.{hop_count}
-use Rattle.token_book.specs.Account.{Account, fresh as fresh_book}
+use Rattle.token_book.specs.Account.{Account}
 use Rattle.flow_model.specs.Platform.{all_windows, hop_in, hop_to, no_hop}
 use Rattle.flow_model.specs.World.{HopEnds}
 use Rattle.hop_object.specs.declared.call.HopTraits.{HopTraits}
 use Rattle.hop_object.specs.Objects.{built_of}
 use Rattle.hop_object.specs.View.{HopView}
 use Rattle.cargo_model.specs.declared.cargo.Cargo.{Cargo}
-use Rattle.cargo_model.specs.Known.{object_number, objects_of}
-use Rattle.cargo_net.specs.Gates.{gates_at, gates_of}
+use Rattle.cargo_model.specs.Known.{object_number}
+use Rattle.cargo_model.proofs.HopEnds.{back_at, front_at, window_among, windows_before}
 use Rattle.cargo_net.specs.Traffic.{IsHopBuilt}
 use Rattle.plat_build.specs.Hops.{IsMadeTo, IsNextHop}
-use Rattle.plat_net.specs.Objects.{HasObject, frame_of}
+use Rattle.plat_net.specs.Objects.{frame_of}
 use Rattle.plat_build.specs.Supplies.{IsSupply}
 use Rattle.plat_build.specs.declared.supplies.Supply.{Supply}
 use Rattle.plat_net.proofs.Lookups.{short_at}
 use Rattle.plat_net.proofs.NumberLemmas.{hop_number, hop_there}
 use Rattle.plat_net.proofs.ObjectLemmas.{gates_at_object}
-
--- an element of a mapped list, in front of another and behind one
-front_at : {X Y : Type 0} (f : X → Y) (xs : List X) (ys : List Y) (n : ℕ) (x : X) (d : Y) → slice_get xs n ≡ Some x → get_or (map f xs ++ ys) n d ≡ f x
-front_at f [] ys n x d q = cc
-front_at f (y ∷ xs) ys zero x d q = ap f (one y x q)
-  where
-    one : {X : Type 0} (y x : X) → Some y ≡ Some x → y ≡ x
-    one y x q = cc
-front_at f (y ∷ xs) ys (suc n) x d q = front_at f xs ys n x d q
-
-back_at : {X Y : Type 0} (f : X → Y) (xs : List X) (ys : List Y) (n m : ℕ) (d : Y) → m ≡ length xs + n → get_or (map f xs ++ ys) m d ≡ get_or ys n d
-back_at f [] ys n m d q = ap (λ (k : ℕ). get_or ys k d) (zero_more m n q)
-  where
-    zero_more : (m n : ℕ) → m ≡ 0 + n → m ≡ n
-    zero_more m n q = omega arith
-back_at f (x ∷ xs) ys n zero d q = absurd (omega arith)
-back_at f (x ∷ xs) ys n (suc m) d q = back_at f xs ys n m d (omega arith)
-
--- the window of a router among all windows
-abbrev windows_before : List RouterRow → ℕ → ℕ
-windows_before rows r = sum_by (λ (row : RouterRow). length row.windows) (take r rows)
-
-window_among : (g : WindowRow → HopEnds) (rows : List RouterRow) (r index m : ℕ) (row : RouterRow) (v : WindowRow) (d : HopEnds) → slice_get rows r ≡ Some row → slice_get row.windows index ≡ Some v → m ≡ windows_before rows r + index
-    → get_or (map g (flat_map (λ (x : RouterRow). x.windows) rows)) m d ≡ g v
-window_among g [] r index m row v d is at q = cc
-window_among g (x ∷ rows) zero index m row v d is at q =
-    let s : x ≡ row = one x row is in
-    ap (λ (l : List HopEnds). get_or l m d) (map-append g x.windows (flat_map (λ (y : RouterRow). y.windows) rows))
-    ∙ front_at g x.windows (map g (flat_map (λ (y : RouterRow). y.windows) rows)) m v d
-    (ap (slice_get x.windows) (none m index q) ∙ subst (λ (y : RouterRow). slice_get y.windows index ≡ Some v) (sym s) at)
-  where
-    one : (x y : RouterRow) → Some x ≡ Some y → x ≡ y
-    one x y q = cc
-
-    none : (m n : ℕ) → m ≡ 0 + n → m ≡ n
-    none m n q = omega arith
-window_among g (x ∷ rows) (suc r) index m row v d is at q =
-    let t : windows_before (x ∷ rows) (suc r) ≡ length x.windows + windows_before rows r = sum_by-cons (λ (y : RouterRow). length y.windows) x (take r rows) in
-    let e : m ≡ length x.windows + (windows_before rows r + index) = omega arith in
-    ap (λ (l : List HopEnds). get_or l m d) (map-append g x.windows (flat_map (λ (y : RouterRow). y.windows) rows))
-    ∙ (back_at g x.windows (map g (flat_map (λ (y : RouterRow). y.windows) rows)) (windows_before rows r + index) m d e
-    ∙ window_among g rows r index (windows_before rows r + index) row v d is at refl)
 
 -- the hop of an initiator's binding
 pub binding_next : (p : Platform) (i : ℕ) (row : InitiatorRow) → slice_get p.initiators i ≡ Some row → IsTrue (is_there p row.bind) → IsNextHop p i row.response row.bind

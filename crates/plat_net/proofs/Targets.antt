@@ -1,24 +1,24 @@
 -- Where the hops of a platform lead.
-use Rattle.std.proofs.Common.{◌≡◌, ℕ, zero, suc, ◌+◌, ◌-◌, ◌<◌, ◌≤◌, List, [], ◌∷◌, ◌++◌, length, take, map, get_or, cond, Bool, true, false, Option, Some, None, refl, sym, ◌∙◌, ap, arith, subst}
+use Rattle.std.proofs.Common.{◌≡◌, ℕ, zero, suc, ◌+◌, ◌-◌, ◌<◌, List, [], ◌∷◌, ◌++◌, length, take, map, get_or, Option, Some, None, refl, sym, ◌∙◌, ap, arith, subst}
 use Rattle.std.specs.Prelude.{IsSomeAnd, slice_get, sum_by}
 use Rattle.std.specs.List.{enumerate_from, flat_map}
 use Rattle.std.proofs.lemmas.List.{map-append}
 use Rattle.std.proofs.lemmas.List.Sums.{sum_by-cons}
 use Rattle.tlm_model.specs.declared.platform.InitiatorRow.{InitiatorRow}
-use Rattle.tlm_model.specs.declared.platform.MemoryRow.{MemoryRow}
 use Rattle.tlm_model.specs.declared.platform.Platform.{Platform}
 use Rattle.tlm_model.specs.declared.platform.RouterRow.{RouterRow}
 use Rattle.tlm_model.specs.declared.platform.Target.{Target}
 use Rattle.tlm_model.specs.declared.platform.Target.TheVariants.{Router, Memory}
 use Rattle.tlm_model.specs.declared.platform.WindowRow.{WindowRow}
 use Rattle.tlm_model.specs.Plan.{Initiator}
-use Rattle.tlm_model.specs.Route.{Found, hops_of, into_memory, into_router, into_window, window_has, later, route_of, walk, window_hop, window_of}
+use Rattle.tlm_model.specs.Route.{Found, hops_of, route_of, window_hop, window_of}
 use Rattle.flow_model.specs.Platform.{all_windows}
 use Rattle.flow_model.specs.World.{Passage, hop_at}
 use Rattle.tlm_model.proofs.InitiatorLemmas.{initiator_from}
 use Rattle.route_plan.specs.declared.ends.HopEnds.{HopEnds}
 use Rattle.route_plan.specs.Routes.{binding_ends, ends_of, router_ends, window_ends}
 use Rattle.cargo_model.specs.Stops.{GoesOn, Stop, hop_behind, past_router, past_target, past_window, stop_at, window_at, window_by}
+use Rattle.cargo_model.proofs.HopEnds.{few_hops, found_at}
 use Rattle.cargo_model.proofs.Ways.{ways_law}
 use Rattle.plat_net.specs.Laws.{EndsAreStops}
 use Rattle.plat_net.specs.Places.{LeadsTo}
@@ -116,38 +116,6 @@ leads_at p h to leads = go (slice_get (ends_of p) h) refl leads
     go : (o : Option HopEnds) → slice_get (ends_of p) h ≡ o → IsSomeAnd o (λ (e : HopEnds). e.down ≡ to) → target_in p h ≡ to
     go None at l = absurd l
     go (Some e) at l = ends_at p h e at ∙ l
-
-found_at : (n : ℕ) (ws : List WindowRow) (a : ℕ) (f : Found) → window_of n ws a ≡ Some f → (k : ℕ) × (f.index ≡ n + k) × (slice_get ws k ≡ Some f.window)
-found_at n [] a f q = cc
-found_at n (v ∷ ws) a f q = go (λ r. found_at (n + 1) ws a f r) (window_has v a) q
-  where
-    one : (g f : Found) → Some g ≡ Some f → g ≡ f
-    one g f q = cc
-
-    go : (window_of (n + 1) ws a ≡ Some f → (k : ℕ) × (f.index ≡ (n + 1) + k) × (slice_get ws k ≡ Some f.window)) → (b : Bool) → cond b (Some (record { index = n; window = v })) (window_of (n + 1) ws a) ≡ Some f → (k : ℕ) × (f.index ≡ n + k) × (slice_get (v ∷ ws) k ≡ Some f.window)
-    go more true q =
-        let s : record { index = n; window = v } ≡ f = one _ f q in
-        let i : n ≡ f.index = ap (λ (g : Found). g.index) s in
-        (0, omega arith, ap (λ (g : Found). Some g.window) s)
-    go more false q = let r = more q in let i : f.index ≡ (n + 1) + r.0 = r.1 in (suc r.0, omega arith, r.2)
-
--- a walk passes no more hops than it may
-few_hops : (fuel : ℕ) (p : Platform) (t : Target) (a b : ℕ) → length (walk fuel p t a b).hops ≤ fuel
-few_hops zero p t a b = omega arith
-few_hops (suc fuel) p (Memory m) a b = at (slice_get p.memories m)
-  where
-    at : (row : Option MemoryRow) → length (into_memory row m a b).hops ≤ suc fuel
-    at None = omega arith
-    at (Some row) = omega arith
-few_hops (suc fuel) p (Router r) a b = by_router (λ t c d. few_hops fuel p t c d) (slice_get p.routers r)
-  where
-    by_window : ((t : Target) (c d : ℕ) → length (walk fuel p t c d).hops ≤ fuel) → (c : ℕ) (f : Option Found) → length (into_window p r f a c (λ t b c. walk fuel p t b c)).hops ≤ suc fuel
-    by_window more c None = omega arith
-    by_window more c (Some f) = let m = more f.window.to (a - f.window.first + f.window.base) c in omega (arith, m)
-
-    by_router : ((t : Target) (c d : ℕ) → length (walk fuel p t c d).hops ≤ fuel) → (row : Option RouterRow) → length (into_router p r row a b (λ t b c. walk fuel p t b c)).hops ≤ suc fuel
-    by_router more None = omega arith
-    by_router more (Some row) = by_window more (later b row.latency) (window_of 0 row.windows a)
 
 -- the hop behind a window that was found
 behind : (p : Platform) (s : Stop) (t : Target) (f : Found) → window_at p s t ≡ Some f → target_in p (hop_behind p t f.index) ≡ (past_target p s t).to

@@ -58,15 +58,15 @@ impl PortState {
         self.wallet.pull(tickets, object, 0)
     }
 
-    /// Puts a ticket back that wasn't spent.
-    pub fn put_ticket(&mut self, tickets: &Tokens, ticket: Ticket)
+    /// Puts a ticket of this object back that wasn't spent.
+    pub fn put_ticket(&mut self, tickets: &Tokens, object: u32, ticket: Ticket)
         requires of { IsOf tickets.now self.old.wallet }
-        requires ticket { (object : ℕ) × IsTicket tickets.now object ticket × HasRoom self.old.wallet object × (amount_of ticket.bytes ≡ 0) }
+        requires ticket { IsTicket tickets.now object ticket × HasRoom self.old.wallet object × (amount_of ticket.bytes ≡ 0) }
         ensures state { self.new ≡ (let wallet = self.new.wallet in record self.old { wallet = wallet }) }
-        ensures back { (object : ℕ) → IsTicket tickets.now object ticket → Gets tickets.now object 1 0 self.old.wallet self.new.wallet }
-        ensures within { (object : ℕ) → IsTicket tickets.now object ticket → (o : ℕ) → HasPlace self.new.wallet o → HasPlace self.old.wallet o ⊎ (o ≡ object) }
+        ensures back { Gets tickets.now object 1 0 self.old.wallet self.new.wallet }
+        ensures within { (o : ℕ) → HasPlace self.new.wallet o → HasPlace self.old.wallet o ⊎ (o ≡ object) }
     {
-        put_back(tickets, &mut self.wallet, ticket);
+        put_back(tickets, &mut self.wallet, object, ticket);
     }
 
     // One more access is outstanding.

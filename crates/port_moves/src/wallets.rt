@@ -8,7 +8,6 @@ ghost use Rattle.port_moves.specs.Wallets.{Gets, Gives};
 use token_book::{Ticket, Tokens, Wallet};
 
 // Moves one ticket of an object, for so many bytes.
-#[tactic(auto, using(crate::proofs::WalletLemmas::pulled_in, crate::proofs::WalletLemmas::put_once, crate::proofs::WalletLemmas::put_twice))]
 pub(crate) fn hand_one(
     tickets: &Tokens,
     from: &mut Wallet,
@@ -25,15 +24,10 @@ pub(crate) fn hand_one(
     ensures from_in { (o : ℕ) → HasPlace from.new o → HasPlace from.old o }
     ensures to_in { (o : ℕ) → HasPlace to.new o → HasPlace to.old o ⊎ (o ≡ object) }
 {
-    let Ticket { entry, bytes } = from.pull(tickets, object, bytes);
-    to.put(tickets, entry);
-    if let Some(bytes) = bytes {
-        to.put(tickets, bytes);
-    }
+    from.give(tickets, to, object, 1, bytes);
 }
 
 /// Moves so many tickets of an object at once, which are for no bytes.
-#[tactic(auto, using(crate::proofs::WalletLemmas::pulled_in, crate::proofs::WalletLemmas::put_once))]
 pub(crate) fn hand_over(
     tickets: &Tokens,
     from: &mut Wallet,
@@ -52,18 +46,17 @@ pub(crate) fn hand_over(
     if count == 0 {
         return;
     }
-    let rights = from.pull_many(tickets, object, count);
-    to.put(tickets, rights);
+    from.give(tickets, to, object, count, 0);
 }
 
-/// Puts a ticket that wasn't spent back.
+/// Puts a ticket of this object that wasn't spent back.
 #[tactic(auto, using(crate::proofs::WalletLemmas::put_once))]
-pub(crate) fn put_back(tickets: &Tokens, wallet: &mut Wallet, ticket: Ticket)
+pub(crate) fn put_back(tickets: &Tokens, wallet: &mut Wallet, object: u32, ticket: Ticket)
     requires of { IsOf tickets.now wallet.old }
-    requires object { (object : ℕ) × IsTicket tickets.now object ticket × HasRoom wallet.old object × (amount_of ticket.bytes ≡ 0) }
-    ensures back { (object : ℕ) → IsTicket tickets.now object ticket → Gets tickets.now object 1 0 wallet.old wallet.new }
-    ensures within { (object : ℕ) → IsTicket tickets.now object ticket → (o : ℕ) → HasPlace wallet.new o → HasPlace wallet.old o ⊎ (o ≡ object) }
+    requires ticket { IsTicket tickets.now object ticket × HasRoom wallet.old object × (amount_of ticket.bytes ≡ 0) }
+    ensures back { Gets tickets.now object 1 0 wallet.old wallet.new }
+    ensures within { (o : ℕ) → HasPlace wallet.new o → HasPlace wallet.old o ⊎ (o ≡ object) }
 {
     let Ticket { entry, bytes: _ } = ticket;
-    wallet.put(tickets, entry);
+    wallet.put_one(tickets, object, entry);
 }

@@ -189,7 +189,6 @@ pub fn send_at<N: Naming<Plan, TlmLaw>, S: Sharing<N>, R: Wait>(
         unreachable!()
     };
     let (stage, moved, note) = send(net, rt, note, response, rest);
-    let Some(stage) = stage else { unreachable!() };
     put_back(held, at, stage);
     (at + 1, moved, note)
 }

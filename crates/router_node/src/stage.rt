@@ -1,5 +1,5 @@
 // A transaction that a router holds, and the steps that move it.
-ghost use Rattle.std.specs.Prelude.{◌≡◌, ◌<◌, IfSome, Some, true};
+ghost use Rattle.std.specs.Prelude.{◌≡◌, ◌<◌, Some, true};
 ghost use Rattle.view_lists.specs.Lists.{Within};
 ghost use Rattle.one_history.specs.Lists.{StandBelow};
 ghost use Rattle.shared_object.specs.Steps.{IsNote};
@@ -135,15 +135,15 @@ pub fn send<N: Naming<Plan, TlmLaw>, S: Sharing<N>, R: Wait>(
     note: PlatNote,
     response: RouterResponse,
     rest: Option<Rest>,
-) -> (Option<Stage>, bool, PlatNote)
+) -> (Stage, bool, PlatNote)
     requires note { IsNote N.table note }
     requires up { IsUp N.frame N.tokens note.knows.known response rest }
     ensures note { IsNote N.table result.2 }
     ensures knew { Within note.knows.known result.2.knows.known }
     ensures below { StandBelow result.2.knows.known result.2.knows.seen }
-    ensures stage { IfSome result.0 (IsStage N.frame N.tokens result.2.knows.known) }
+    ensures stage { IsStage N.frame N.tokens result.2.knows.known result.0 }
     ensures adds { result.1 ≡ true → AddsOnHop N.frame.world note.knows result.2.knows }
-    ensures stepped { HasStepped N.frame Steps.Send (Stages.Up response rest) note.knows result.2.knows result.1 result.0 }
+    ensures stepped { HasStepped N.frame Steps.Send (Stages.Up response rest) note.knows result.2.knows result.1 (Some result.0) }
 {
     let txn = response.cargo.baton.txn();
     let above = response.hop;
@@ -156,7 +156,7 @@ pub fn send<N: Naming<Plan, TlmLaw>, S: Sharing<N>, R: Wait>(
                 ended: false,
                 rest,
             };
-            (Some(Stage::Sent(away)), true, note)
+            (Stage::Sent(away), true, note)
         }
         Sent::Ended { at, note } => {
             let away = SentUp {
@@ -166,9 +166,9 @@ pub fn send<N: Naming<Plan, TlmLaw>, S: Sharing<N>, R: Wait>(
                 ended: true,
                 rest,
             };
-            (Some(Stage::Sent(away)), true, note)
+            (Stage::Sent(away), true, note)
         }
-        Sent::Refused { response, note } => (Some(Stage::Up(response, rest)), false, note),
+        Sent::Refused { response, note } => (Stage::Up(response, rest), false, note),
     }
 }
 

@@ -3,8 +3,7 @@ ghost use Rattle.std.specs.Prelude.{◌≡◌, ℕ, ◌+◌, ◌<◌, ◌≤◌,
 ghost use Rattle.std.specs.Option.{ForSome, unwrap_or};
 ghost use Rattle.one_history.specs.Moves.{entry, number_of, own_of, KnowsOwn, IsAtGate, drawn, copied, one_gone, left, fresh};
 ghost use Rattle.one_history.specs.Gates.{total_gates, stays_of};
-ghost use Rattle.token_book.specs.Account.{out_of, amount_of};
-ghost use Rattle.token_book.specs.Ticket.{IsTicket};
+ghost use Rattle.token_book.specs.Account.{out_of};
 ghost use Rattle.shared_object.specs.Written.{sign_of, own_number, wrote, placed, written_at};
 ghost use Rattle.shared_object.specs.Standing.{place, HasGates, IsBuiltFor, Meets, AreVouched, IsSeat, IsBook, IsDrawn};
 ghost use Rattle.shared_object.specs.Steps.{IsNote, IsNoteAt, HasTicket, left_if, unspent, Enters};
@@ -15,22 +14,6 @@ use one_history::{Drawn, History, Law, Looked, Note, ObjectSeat};
 use std::marker::{Brand, Model, PhantomData};
 use tlm_types::Content;
 use token_book::{Book, Ticket, Tokens};
-
-// The ticket goes back into the book.
-#[inline(always)]
-fn retire(tickets: &Tokens, book: &mut Book, ticket: Ticket)
-    requires book { book.old.table ≡ tickets.now }
-    requires ticket { IsTicket tickets.now book.old.owner ticket }
-    ensures of { (book.new.table ≡ book.old.table) × (book.new.owner ≡ book.old.owner) }
-    ensures entries { out_of 0 book.new.out + 1 ≡ out_of 0 book.old.out }
-    ensures bytes { out_of 1 book.new.out + amount_of ticket.bytes ≡ out_of 1 book.old.out }
-{
-    let Ticket { entry, bytes } = ticket;
-    tickets.retire(book, entry);
-    if let Some(bytes) = bytes {
-        tickets.retire(book, bytes);
-    }
-}
 
 // Names the content of an entry.
 trait Said {
@@ -156,7 +139,7 @@ fn enter<O: Object, G, W: Law<Content, G>>(
         return (None, ticket);
     }
     let Some(ticket) = ticket else { unreachable!() };
-    retire(tickets, book, ticket);
+    ticket.retire(tickets, book);
     let position = draw_for::<O, G, W, Brand>(history, seat, object, call);
     (Some(position), None)
 }

@@ -22,7 +22,7 @@ use Rattle.plat_build.specs.declared.kept.Start.{Start}
 use Rattle.plat_build.specs.Kept.{IsBlank, IsStart}
 use Rattle.plat_build.proofs.StartLemmas.{has_style, number_begun}
 use Rattle.run_outcome.proofs.ListLemmas.{at_push, has_element}
-use Rattle.decoupled_run.proofs.BeginLemmas.{script_from}
+use Rattle.initiator_run.proofs.BeginLemmas.{script_from}
 use Rattle.decoupled_run.specs.declared.steps.SteppedInitiator.{SteppedInitiator}
 use Rattle.decoupled_run.specs.Stepped.{HasBegun as HasBegunDecoupled, SteppedStays}
 use Rattle.fourphase_port.specs.Fresh.{IsFresh as IsFreshPort}

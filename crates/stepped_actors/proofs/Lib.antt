@@ -1,3 +1,2 @@
 pub mod Stay
 pub mod Begun
-pub mod Ending

@@ -138,8 +138,11 @@ impl TargetNode {
         ensures sent { HasSent N.frame N.tokens self.old self.new note.knows result.1.knows result.0 }
         ensures adds { result.0 ≡ true → HasNew (IsByNode N.frame.world (Memory self.old.memory)) note.knows.known result.1.knows.known }
     {
-        let Some(response) = self.held.take() else {
+        if self.held.is_none() {
             return (false, note);
+        }
+        let Some(response) = self.held.take() else {
+            unreachable!()
         };
         let (back, note) = respond(net, rt, note, response);
         let Some(back) = back else {

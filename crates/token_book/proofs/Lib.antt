@@ -6,3 +6,4 @@ pub mod FoundPlaces
 pub mod Pulls
 pub mod Rooms
 pub mod Merging
+pub mod Parts

@@ -5,8 +5,8 @@ use Rattle.std.proofs.lemmas.Bool.{cases_eq, cond-true, cond-false, eq-eqb, ne_e
 use Rattle.std.specs.FinMap as map
 use Rattle.atomic_table.specs.Seated.{TableId}
 use Rattle.token_book.specs.Account.{Slip}
-use Rattle.token_book.specs.Pocket.{Pocket, no_pocket, tickets_in, bytes_in, with_pocket_in, with_token, without_ticket, without_tickets}
-use Rattle.token_book.specs.Purse.{Purse, left_in, bytes_left_in, left_of, bytes_of, IsOf, pocket_of, pulled, pulled_many, put_in, with_more}
+use Rattle.token_book.specs.Pocket.{Pocket, no_pocket, tickets_in, bytes_in, with_pocket_in, with_token, without_rights, without_ticket}
+use Rattle.token_book.specs.Purse.{Purse, left_in, bytes_left_in, left_of, bytes_of, IsOf, pocket_of, pulled, pulled_rights, put_in, with_more}
 use Rattle.token_book.proofs.Purses.{left_of-with_pocket, bytes_of-with_pocket, IsOf-with_pocket}
 
 pocket_left : (table : TableId) (x : Option Pocket) → (unwrap_or x (no_pocket table)).left ≡ left_in x
@@ -44,27 +44,17 @@ bytes_of-pulled table w o bytes q =
 pub IsOf-pulled : (table : TableId) (w : Purse) (o bytes : ℕ) → IsOf table w → IsOf table (pulled table w o bytes)
 IsOf-pulled table w o bytes all = IsOf-with_pocket table w o (without_ticket bytes (pocket_of table w o)) all (pocket_table table w o all)
 
--- a number at o, where q is o, is that at q
-at_own : (f : ℕ → ℕ) (o q : ℕ) → cond (q == o) (f o) (f q) ≡ f q
-at_own f o q =
-    ⊎_elim
-    (λ (is : q ≡ o). cond-true (q == o) (f o) (f q) (eq-eqb q o is) ∙ ap f (sym is))
-    (λ (no : q ≢ o). cond-false (q == o) (f o) (f q) (ne_eqb q o no))
-    (cases_eq q o)
+-- and after so many tickets and bytes were pulled at once
+pub left_of-pulled_rights : (table : TableId) (w : Purse) (o tickets bytes q : ℕ) → left_of (pulled_rights table w o tickets bytes) q ≡ cond (q == o) (left_of w o - tickets) (left_of w q)
+left_of-pulled_rights table w o tickets bytes q =
+    left_of-with_pocket w o (without_rights tickets bytes (pocket_of table w o)) q ∙ ap (λ (k : ℕ). cond (q == o) (k - tickets) (left_of w q)) (pocket_left table (map.get w.held o))
 
--- and after several tickets were pulled at once
-pub left_of-pulled_many : (table : TableId) (w : Purse) (o tickets q : ℕ) → left_of (pulled_many table w o tickets) q ≡ cond (q == o) (left_of w o - tickets) (left_of w q)
-left_of-pulled_many table w o tickets q =
-    left_of-with_pocket w o (without_tickets tickets (pocket_of table w o)) q ∙ ap (λ (k : ℕ). cond (q == o) (k - tickets) (left_of w q)) (pocket_left table (map.get w.held o))
+pub bytes_of-pulled_rights : (table : TableId) (w : Purse) (o tickets bytes q : ℕ) → bytes_of (pulled_rights table w o tickets bytes) q ≡ cond (q == o) (bytes_of w o - bytes) (bytes_of w q)
+bytes_of-pulled_rights table w o tickets bytes q =
+    bytes_of-with_pocket w o (without_rights tickets bytes (pocket_of table w o)) q ∙ ap (λ (k : ℕ). cond (q == o) (k - bytes) (bytes_of w q)) (pocket_bytes table (map.get w.held o))
 
-pub bytes_of-pulled_many : (table : TableId) (w : Purse) (o tickets q : ℕ) → bytes_of (pulled_many table w o tickets) q ≡ bytes_of w q
-bytes_of-pulled_many table w o tickets q =
-    bytes_of-with_pocket w o (without_tickets tickets (pocket_of table w o)) q
-    ∙ ap (λ (k : ℕ). cond (q == o) k (bytes_of w q)) (pocket_bytes table (map.get w.held o))
-    ∙ at_own (bytes_of w) o q
-
-pub IsOf-pulled_many : (table : TableId) (w : Purse) (o tickets : ℕ) → IsOf table w → IsOf table (pulled_many table w o tickets)
-IsOf-pulled_many table w o tickets all = IsOf-with_pocket table w o (without_tickets tickets (pocket_of table w o)) all (pocket_table table w o all)
+pub IsOf-pulled_rights : (table : TableId) (w : Purse) (o tickets bytes : ℕ) → IsOf table w → IsOf table (pulled_rights table w o tickets bytes)
+IsOf-pulled_rights table w o tickets bytes all = IsOf-with_pocket table w o (without_rights tickets bytes (pocket_of table w o)) all (pocket_table table w o all)
 
 -- and after a token was put in
 pub left_of-put_in : (w : Purse) (t : Slip) (q : ℕ) → left_of (put_in w t) q ≡ cond (q == t.owner) (left_of w q + tickets_in t) (left_of w q)

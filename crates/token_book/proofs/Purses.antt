@@ -1,5 +1,6 @@
 -- Wallets as maps from objects to pockets, and the list of places that stands for one.
-use Rattle.std.proofs.Common.{◌≡◌, ◌≢◌, ◌⊎◌, ℕ, ◌+◌, ◌<◌, ◌≤◌, ◌==◌, true, cond, Some, None, sym, ap, ◌∙◌, inl, inr, ⊎_elim, arith}
+use Rattle.std.proofs.Common.{◌≡◌, ◌≢◌, ◌⊎◌, ℕ, ◌+◌, ◌<◌, ◌≤◌, ◌==◌, true, cond, Option, Some, None, refl, sym, ap, subst, ◌∙◌, inl, inr, ⊎_elim, arith}
+use Rattle.std.specs.Prelude.{IsSome}
 use Rattle.std.specs.Ordering.{nat_cmp, eq_by_cmp, is_eq}
 use Rattle.std.specs.declared.cmp.Ordering.TheVariants.{Less, Equal, Greater}
 use Rattle.std.specs.Cmp.{nat_cmp_total, nat_cmp_is}
@@ -8,7 +9,7 @@ use Rattle.std.specs.FinMap as map
 use Rattle.std.specs.FinMap.{FinMap, get-insert, get-remove, same_map, nat_cmp-IsAntisymmetric}
 use Rattle.atomic_table.specs.Seated.{TableId}
 use Rattle.token_book.specs.Pocket.{Pocket}
-use Rattle.token_book.specs.Purse.{Purse, left_in, bytes_left_in, left_of, bytes_of, IsOf, with_pocket}
+use Rattle.token_book.specs.Purse.{Purse, left_in, bytes_left_in, left_of, bytes_of, HasPlace, IsOf, with_pocket}
 
 -- the order's ties are the equal numbers
 pub eq_by_cmp-nat : (a b : ℕ) → eq_by_cmp nat_cmp a b ≡ (a == b)
@@ -109,3 +110,11 @@ left_of-without w o q far = ap left_in (get-removed w.held o q ∙ cond-false (q
 
 pub none_of-without : (w : Purse) (o q : ℕ) → q ≡ o → left_of (without w o) q ≡ 0
 none_of-without w o q is = ap left_in (get-removed w.held o q ∙ cond-true (q == o) None (map.get w.held q) (eq-eqb q o is))
+
+-- a wallet has no tickets of an object that has no place in it
+pub nothing_past : (w : Purse) (n k : ℕ) → ((o : ℕ) → HasPlace w o → o < n) → n ≤ k → left_of w k ≡ 0
+nothing_past w n k few past = by (map.get w.held k) refl
+  where
+    by : (pocket : Option Pocket) → map.get w.held k ≡ pocket → left_in pocket ≡ 0
+    by None is = refl
+    by (Some pocket) is = let less = few k (subst IsSome (sym is) refl) in absurd (omega arith)

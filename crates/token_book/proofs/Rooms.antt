@@ -15,8 +15,8 @@ use Rattle.view_lists.specs.Lists.{Has, AreDistinct}
 use Rattle.view_lists.proofs.Distinct.{length-distinct}
 use Rattle.atomic_table.specs.Seated.{TableId}
 use Rattle.token_book.specs.Account.{Slip}
-use Rattle.token_book.specs.Pocket.{Pocket, with_pocket_in, with_token, without_ticket, without_tickets}
-use Rattle.token_book.specs.Purse.{Purse, empty_purse, HasPlace, HasRoom, left_in, left_of, with_pocket, pocket_of, pulled, pulled_many, put_in, with_more}
+use Rattle.token_book.specs.Pocket.{Pocket, with_pocket_in, with_token, without_rights, without_ticket}
+use Rattle.token_book.specs.Purse.{Purse, empty_purse, HasPlace, HasRoom, left_in, left_of, with_pocket, pocket_of, pulled, pulled_rights, put_in, with_more}
 use Rattle.token_book.proofs.Purses.{eq_by_cmp-nat, get-with_pocket}
 
 both_left : (a b : Bool) → T (a && b) → T a
@@ -104,11 +104,11 @@ held-pulled table w v o bytes is left q has = ⊎_elim
     (place-pulled table w o bytes q (subst (λ (u : Purse). HasPlace u q) is has))
 
 -- and so where several were pulled at once
-pub held-pulled_many : (table : TableId) (w v : Purse) (o tickets : ℕ) → v ≡ pulled_many table w o tickets → 0 < left_of w o → (q : ℕ) → HasPlace v q → HasPlace w q
-held-pulled_many table w v o tickets is left q has = ⊎_elim
+pub held-pulled_rights : (table : TableId) (w v : Purse) (o tickets bytes : ℕ) → v ≡ pulled_rights table w o tickets bytes → 0 < left_of w o → (q : ℕ) → HasPlace v q → HasPlace w q
+held-pulled_rights table w v o tickets bytes is left q has = ⊎_elim
     (λ (same : q ≡ o). subst (HasPlace w) (sym same) (left-place w o left))
     (λ (held : HasPlace w q). held)
-    (place-with_pocket w o (without_tickets tickets (pocket_of table w o)) q (subst (λ (u : Purse). HasPlace u q) is has))
+    (place-with_pocket w o (without_rights tickets bytes (pocket_of table w o)) q (subst (λ (u : Purse). HasPlace u q) is has))
 
 pub place-put_in : (w : Purse) (t : Slip) (q : ℕ) → HasPlace (put_in w t) q → (q ≡ t.owner) ⊎ HasPlace w q
 place-put_in w t q has = place-with_pocket w t.owner (with_token t (pocket_of t.table w t.owner)) q has

@@ -61,6 +61,10 @@ abbrev pub amount_of : Option Slip → ℕ
 amount_of None = 0
 amount_of (Some t) = t.amount
 
+-- what is left of a token where an amount of 0 is none
+abbrev pub share_of : Slip → Option Slip
+share_of t = if t.amount == 0 then None else Some t
+
 -- how much of a name it is
 abbrev pub named_amount : ℕ → Option Slip → ℕ
 named_amount name None = 0

@@ -1,8 +1,8 @@
 -- What a wallet holds of one object.
-use Rattle.std.specs.Prelude.{◌≡◌, ℕ, ◌+◌, ◌-◌, ◌==◌, [], Option, Some, None, if◌then◌else◌, refl}
+use Rattle.std.specs.Prelude.{◌≡◌, ◌⊎◌, ℕ, ◌+◌, ◌-◌, ◌==◌, if◌then◌else◌, refl}
 use Rattle.std.specs.Coded.{Coded, code_by, coded×, coded_ℕ}
 use Rattle.atomic_table.specs.Seated.{TableId, table_id_coded}
-use Rattle.token_book.specs.Account.{Slip, amount_of, with_amount}
+use Rattle.token_book.specs.Account.{Slip}
 
 -- in which table they are, how many tickets, and the amount of the bytes
 pub record Pocket : Type 0 where
@@ -22,16 +22,9 @@ tickets_in t = if t.name == 0 then t.amount else 0
 abbrev pub bytes_in : Slip → ℕ
 bytes_in t = if t.name == 0 then 0 else t.amount
 
--- the table of two tokens, of which there is one at least
-abbrev pub table_of : Option Slip → Option Slip → TableId
-table_of None None = record { words = 0; slots = 0; views_name = 0; atom = 0; block = 0; offset = 0; slot_names = [] }
-table_of None (Some b) = b.table
-table_of (Some e) b = e.table
-
--- a token of this table, owner and name, or none
-abbrev pub IsLike : TableId → ℕ → ℕ → Option Slip → Type 0
-IsLike table owner name None = Unit {0}
-IsLike table owner name (Some t) = (t.table ≡ table) × (t.owner ≡ owner) × (t.name ≡ name)
+-- an amount of this table and owner, which has this name where it isn't 0
+abbrev pub IsPart : TableId → ℕ → ℕ → Slip → Type 0
+IsPart table owner name t = (t.table ≡ table) × (t.owner ≡ owner) × ((t.amount ≡ 0) ⊎ (t.name ≡ name))
 
 -- the pocket after a token was put in
 abbrev pub with_token : Slip → Pocket → Pocket
@@ -41,18 +34,17 @@ with_token t p = record { table = p.table; left = p.left + tickets_in t; bytes =
 abbrev pub with_pocket_in : Pocket → Pocket → Pocket
 with_pocket_in p q = record { table = p.table; left = p.left + q.left; bytes = p.bytes + q.bytes }
 
--- two tokens of the same name as one, of which one or both may not be there
-abbrev pub merged_slip : Option Slip → Option Slip → Option Slip
-merged_slip kept None = kept
-merged_slip kept (Some t) = Some (with_amount t (amount_of kept + t.amount))
-
 -- the pocket after a ticket for so many bytes was taken out
 abbrev pub without_ticket : ℕ → Pocket → Pocket
 without_ticket bytes p = record { table = p.table; left = p.left - 1; bytes = p.bytes - bytes }
 
--- the pocket after so many tickets were taken out, which are for no bytes
-abbrev pub without_tickets : ℕ → Pocket → Pocket
-without_tickets tickets p = record { table = p.table; left = p.left - tickets; bytes = p.bytes }
+-- a pocket of so many tickets and so many bytes
+abbrev pub rights_of : TableId → ℕ → ℕ → Pocket
+rights_of table tickets bytes = record { table = table; left = tickets; bytes = bytes }
+
+-- the pocket after so many tickets and so many bytes were taken out
+abbrev pub without_rights : ℕ → ℕ → Pocket → Pocket
+without_rights tickets bytes p = record { table = p.table; left = p.left - tickets; bytes = p.bytes - bytes }
 
 -- a pocket of nothing
 abbrev pub no_pocket : TableId → Pocket

@@ -8,7 +8,7 @@ use Rattle.std.specs.Coded.{Coded, code_by, coded×, coded_ℕ}
 use Rattle.atomic_table.specs.Seated.{TableId}
 use Rattle.view_lists.specs.Lists.{Has}
 use Rattle.token_book.specs.Account.{Slip}
-use Rattle.token_book.specs.Pocket.{Pocket, pocket_code, no_pocket, with_pocket_in, with_token, without_ticket, without_tickets}
+use Rattle.token_book.specs.Pocket.{Pocket, pocket_code, no_pocket, with_pocket_in, with_token, without_rights, without_ticket}
 
 -- how many places a wallet has, and what it holds of each object that has one
 pub record Purse : Type 0 where
@@ -65,9 +65,9 @@ pocket_of table w object = unwrap_or (map.get w.held object) (no_pocket table)
 abbrev pub pulled : TableId → Purse → ℕ → ℕ → Purse
 pulled table w object bytes = with_pocket w object (without_ticket bytes (pocket_of table w object))
 
--- the wallet after so many tickets of an object were taken out at once, which are for no bytes
-abbrev pub pulled_many : TableId → Purse → ℕ → ℕ → Purse
-pulled_many table w object tickets = with_pocket w object (without_tickets tickets (pocket_of table w object))
+-- the wallet after so many tickets of an object and so many bytes of it were taken out at once
+abbrev pub pulled_rights : TableId → Purse → ℕ → ℕ → ℕ → Purse
+pulled_rights table w object tickets bytes = with_pocket w object (without_rights tickets bytes (pocket_of table w object))
 
 -- the wallet after a token was put in
 abbrev pub put_in : Purse → Slip → Purse

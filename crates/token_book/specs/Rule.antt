@@ -45,6 +45,12 @@ owner_in (Book p) = p.owner
 owner_in (Token t) = t.owner
 owner_in Spent = 0
 
+-- the name of a seat's token
+abbrev pub name_in : View → ℕ
+name_in (Book p) = 0
+name_in (Token t) = t.name
+name_in Spent = 0
+
 -- what an amount of an owner's name counts for the owner o and the name n
 abbrev pub counts_for : ℕ → ℕ → ℕ → ℕ → ℕ → ℕ
 counts_for o n owner name amount = cond (owner == o) (cond (name == n) amount 0) 0

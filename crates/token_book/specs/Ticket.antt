@@ -9,10 +9,6 @@ use Rattle.token_book.specs.declared.ticket.Ticket.{Ticket}
 abbrev pub entry_right : TableId → ℕ → Slip
 entry_right table object = record { table = table; owner = object; name = 0; amount = 1 }
 
--- the right to that many entries of an object
-abbrev pub entry_rights : TableId → ℕ → ℕ → Slip
-entry_rights table object entries = record { table = table; owner = object; name = 0; amount = entries }
-
 -- the right to that many bytes of an object
 abbrev pub bytes_right : TableId → ℕ → ℕ → Slip
 bytes_right table object bytes = record { table = table; owner = object; name = 1; amount = bytes }

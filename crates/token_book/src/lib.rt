@@ -3,7 +3,8 @@
 //! - `Tokens` is one shared table. It has a `Book` for each owner, and a `Book` issues `Token`s.
 //! - A `Token` is an amount of one name that counts in its owner's book. It can be cut in two,
 //!   merged with its like, sent to another thread, and retired into the book. It can't be copied.
-//! - A `One` is a token of the amount 1.
+//! - An `Amount` is a token of which the owner and the name are known where it stands. A `Share` is such a token or none, and a
+//!   `One` a token of the amount 1.
 //! - A `Ticket` is the right to one entry of an object and to the bytes that the entry may log.
 //! - A `Wallet` keeps the tickets of many objects, in places made beforehand.
 //!
@@ -21,5 +22,5 @@ mod view;
 mod wallet;
 
 pub use ticket::Ticket;
-pub use tokens::{Book, One, Token, Tokens};
+pub use tokens::{Amount, Book, One, Share, Token, Tokens};
 pub use wallet::Wallet;

@@ -1,91 +1,57 @@
 // What a wallet holds of one object.
-ghost use Rattle.std.specs.Prelude.{◌≡◌, MatchOption, ℕ, ◌+◌, ◌<◌, ◌≤◌, ◌==◌, IfSome, Some};
-ghost use Rattle.token_book.specs.Account.{Slip, amount_of, named_amount, out_of, with_amount};
-ghost use Rattle.token_book.specs.Ticket.{entry_right, entry_rights, bytes_rights};
-ghost use Rattle.token_book.specs.Pocket.{IsLike, merged_slip, no_pocket, with_pocket_in, with_token, without_ticket, without_tickets};
+ghost use Rattle.std.specs.Prelude.{◌≡◌, ℕ, ◌+◌, ◌<◌, ◌≤◌, ◌==◌, Some};
+ghost use Rattle.token_book.specs.Account.{named_amount, out_of};
+ghost use Rattle.token_book.specs.Ticket.{entry_right, bytes_rights};
+ghost use Rattle.token_book.specs.Pocket.{IsPart, no_pocket, rights_of, with_pocket_in, with_token, without_rights, without_ticket};
 
 use crate::ticket::Ticket;
-use crate::tokens::{Book, Token, Tokens};
+use crate::tokens::{Amount, Book, Share, Token, Tokens};
 use std::marker::Model;
 
 /// The tickets and the bytes of one object. Contracts see its number, and them as a pocket.
+// Where there are none, an amount of 0 stands, which may have the other's name.
 #[derive(Drop)]
 pub struct ObjectRights {
     object: u32,
-    entries: Option<Token>,
-    bytes: Option<Token>,
+    entries: Amount,
+    bytes: Amount,
 }
 
 impl Model for ObjectRights {
     ghost use Rattle.std.specs.Prelude.{ℕ};
     ghost use Rattle.std.specs.Coded.{coded×, coded_ℕ};
-    ghost use Rattle.token_book.specs.Account.{amount_of};
-    ghost use Rattle.token_book.specs.Pocket.{Pocket, pocket_code, table_of, IsLike};
+    ghost use Rattle.token_book.specs.Pocket.{Pocket, pocket_code, IsPart};
 
     ghost Value = { ℕ × Pocket };
 
     ghost coded = { coded× coded_ℕ pocket_code };
 
-    ghost view = { λ p. (p.object, record { table = table_of p.entries p.bytes; left = amount_of p.entries; bytes = amount_of p.bytes }) };
+    ghost view = { λ p. (p.object, record { table = p.entries.table; left = p.entries.amount; bytes = p.bytes.amount }) };
 
-    ghost invariant = { λ p. IsLike (table_of p.entries p.bytes) p.object 0 p.entries × IsLike (table_of p.entries p.bytes) p.object 1 p.bytes };
+    ghost invariant = { λ p. IsPart p.entries.table p.object 0 p.entries × IsPart p.entries.table p.object 1 p.bytes };
 }
 
-fn amount(token: &Option<Token>) -> u64
-    ensures { result ≡ amount_of token.now }
+// Adds an amount to one of its like. An amount of 0 is like any other of its owner.
+fn add(tokens: &Tokens, kept: &mut Amount, more: Amount)
+    requires alike { (owner : ℕ) × (name : ℕ) × IsPart tokens.now owner name kept.old × IsPart tokens.now owner name more }
+    ensures sum { kept.new.amount ≡ kept.old.amount + more.amount }
+    ensures like { (owner name : ℕ) → IsPart tokens.now owner name kept.old → IsPart tokens.now owner name more → IsPart tokens.now owner name kept.new }
 {
-    match token {
-        Some(token) => token.amount(),
-        None => 0,
+    if kept.size() == 0 {
+        *kept = more;
+    } else if more.size() > 0 {
+        tokens.merge_amount(kept, more);
     }
 }
 
-// Adds a token to one of its like, if there is one.
-fn add(tokens: &Tokens, kept: &mut Option<Token>, token: Token)
-    requires table { token.table ≡ tokens.now }
-    requires alike { IsLike tokens.now token.owner token.name kept.old }
-    ensures { kept.new ≡ Some (with_amount token (amount_of kept.old + token.amount)) }
-{
-    match kept {
-        Some(kept) => tokens.merge(kept, token),
-        None => *kept = Some(token),
-    }
-}
-
-// Adds a token, if there is one, to one of its like, if there is one.
-fn add_if(tokens: &Tokens, kept: &mut Option<Token>, token: Option<Token>)
-    requires alike { IfSome token (λ t. (t.table ≡ tokens.now) × IsLike tokens.now t.owner t.name kept.old) }
-    ensures { kept.new ≡ merged_slip kept.old token }
-{
-    if let Some(token) = token {
-        add(tokens, kept, token);
-    }
-}
-
-// Takes so many bytes off, and answers them.
-fn take_bytes(tokens: &Tokens, kept: &mut Option<Token>, object: u32, bytes: u64) -> Option<Token>
-    requires alike { IsLike tokens.now object 1 kept.old }
-    requires enough { bytes ≤ amount_of kept.old }
-    ensures left { (amount_of kept.new + bytes ≡ amount_of kept.old) × IsLike tokens.now object 1 kept.new }
-    ensures taken { result ≡ bytes_rights tokens.now object bytes }
-{
-    if bytes == 0 {
-        return None;
-    }
-    let Some(kept) = kept else { unreachable!() };
-    Some(tokens.part(kept, bytes))
-}
-
-// Retires a token into the book of its owner, if there is one.
-fn retire(tokens: &Tokens, book: &mut Book, token: Option<Token>)
+// Retires an amount into the book of its owner.
+fn retire(tokens: &Tokens, book: &mut Book, held: Amount)
     requires book { book.old.table ≡ tokens.now }
-    requires alike { MatchOption token (Unit {0}) (λ (t : Slip). (t.table ≡ tokens.now) × (t.owner ≡ book.old.owner)) }
+    requires held { (held.table ≡ tokens.now) × (held.owner ≡ book.old.owner) }
     ensures book { (book.new.table ≡ book.old.table) × (book.new.owner ≡ book.old.owner) }
-    ensures out { (name : ℕ) → out_of name book.new.out + named_amount name token ≡ out_of name book.old.out }
+    ensures out { (name : ℕ) → out_of name book.new.out + named_amount name (Some held) ≡ out_of name book.old.out }
 {
-    if let Some(token) = token {
-        tokens.retire(book, token);
-    }
+    tokens.retire_amount(book, held);
 }
 
 impl ObjectRights {
@@ -100,14 +66,14 @@ impl ObjectRights {
     pub fn left(&self) -> u64
         ensures { result ≡ self.now.1.left }
     {
-        amount(&self.entries)
+        self.entries.size()
     }
 
     /// The amount of its bytes.
     pub fn bytes(&self) -> u64
         ensures { result ≡ self.now.1.bytes }
     {
-        amount(&self.bytes)
+        self.bytes.size()
     }
 
     /// Whether it has neither tickets nor bytes.
@@ -118,22 +84,25 @@ impl ObjectRights {
     }
 
     /// The place of the token's owner, with this token alone.
-    pub fn of(token: Token) -> ObjectRights
-        requires { token.name < 2 }
+    pub fn of(tokens: &Tokens, token: Token) -> ObjectRights
+        requires { (token.table ≡ tokens.now) × (token.name < 2) }
         ensures { result ≡ (token.owner, with_token token (no_pocket token.table)) }
     {
         let object = token.owner();
-        if token.name() == 0 {
+        let name = token.name();
+        let mut held = token.into_amount();
+        let none = tokens.part_amount(&mut held, 0);
+        if name == 0 {
             ObjectRights {
                 object,
-                entries: Some(token),
-                bytes: None,
+                entries: held,
+                bytes: none,
             }
         } else {
             ObjectRights {
                 object,
-                entries: None,
-                bytes: Some(token),
+                entries: none,
+                bytes: held,
             }
         }
     }
@@ -145,9 +114,9 @@ impl ObjectRights {
         ensures { self.new ≡ (self.old.0, with_token token self.old.1) }
     {
         if token.name() == 0 {
-            add(tokens, &mut self.entries, token);
+            add(tokens, &mut self.entries, token.into_amount());
         } else {
-            add(tokens, &mut self.bytes, token);
+            add(tokens, &mut self.bytes, token.into_amount());
         }
     }
 
@@ -162,8 +131,8 @@ impl ObjectRights {
             entries,
             bytes,
         } = other;
-        add_if(tokens, &mut self.entries, entries);
-        add_if(tokens, &mut self.bytes, bytes);
+        add(tokens, &mut self.entries, entries);
+        add(tokens, &mut self.bytes, bytes);
     }
 
     /// Takes out a ticket for so many bytes.
@@ -175,32 +144,30 @@ impl ObjectRights {
         ensures entry { result.entry ≡ entry_right tokens.now self.old.0 }
         ensures bytes { result.bytes ≡ bytes_rights tokens.now self.old.0 bytes }
     {
-        let Some(entries) = &mut self.entries else {
-            unreachable!()
-        };
-        let entry = tokens.part(entries, 1);
-        let bytes = take_bytes(tokens, &mut self.bytes, self.object, bytes);
+        let entry = tokens.part_one(&mut self.entries, 0);
+        let bytes = Share::of(tokens.part_amount(&mut self.bytes, bytes));
         Ticket { entry, bytes }
     }
 
-    /// Takes out so many tickets, which are for no bytes, as one token.
+    /// Takes out so many tickets and so many bytes, as another place of the object.
     #[inline(always)]
-    pub fn pull_many(&mut self, tokens: &Tokens, tickets: u64) -> Token
+    pub fn pull_rights(&mut self, tokens: &Tokens, tickets: u64, bytes: u64) -> ObjectRights
         requires table { self.old.1.table ≡ tokens.now }
-        requires some { 0 < tickets }
         requires left { tickets ≤ self.old.1.left }
-        ensures place { self.new ≡ (self.old.0, without_tickets tickets self.old.1) }
-        ensures rights { result ≡ entry_rights tokens.now self.old.0 tickets }
+        requires bytes { bytes ≤ self.old.1.bytes }
+        ensures place { self.new ≡ (self.old.0, without_rights tickets bytes self.old.1) }
+        ensures rights { result ≡ (self.old.0, rights_of tokens.now tickets bytes) }
     {
-        let Some(entries) = &mut self.entries else {
-            unreachable!()
-        };
-        tokens.part(entries, tickets)
+        ObjectRights {
+            object: self.object,
+            entries: tokens.part_amount(&mut self.entries, tickets),
+            bytes: tokens.part_amount(&mut self.bytes, bytes),
+        }
     }
 
     /// Retires its tickets and its bytes into the book of its object.
     pub fn retire(self, tokens: &Tokens, book: &mut Book)
-        requires table { (self.1.table ≡ tokens.now) × (0 < self.1.left + self.1.bytes) }
+        requires table { self.1.table ≡ tokens.now }
         requires book { (book.old.table ≡ tokens.now) × (book.old.owner ≡ self.0) }
         ensures book { (book.new.table ≡ book.old.table) × (book.new.owner ≡ book.old.owner) }
         ensures tickets { out_of 0 book.new.out + self.1.left ≡ out_of 0 book.old.out }

@@ -1,12 +1,12 @@
 // The places of a wallet: the tickets of many objects.
-ghost use Rattle.std.specs.Prelude.{◌≡◌, ℕ, ◌+◌, ◌-◌, ◌<◌, ◌≤◌, ◌==◌, ◌↔◌, length, remove, slice_get, vec_len, vec_capacity, if◌then◌else◌, IfOk, IfSome, IfNone, IsTrue, Some, None};
+ghost use Rattle.std.specs.Prelude.{◌≡◌, ◌⊎◌, ℕ, ◌+◌, ◌-◌, ◌<◌, ◌≤◌, ◌==◌, ◌↔◌, length, remove, slice_get, vec_len, vec_capacity, if◌then◌else◌, IfOk, IfSome, IfNone, IsTrue, Some, None};
 ghost use Rattle.std.specs.Ordering.{nat_cmp};
 ghost use Rattle.std.specs.FinMap as map;
 ghost use Rattle.atomic_table.specs.Seated.{TableId};
 ghost use Rattle.token_book.specs.Account.{amount_of, out_of};
-ghost use Rattle.token_book.specs.Ticket.{entry_right, entry_rights, bytes_rights, IsTicket};
-ghost use Rattle.token_book.specs.Pocket.{Pocket, tickets_in, bytes_in, with_token};
-ghost use Rattle.token_book.specs.Purse.{empty_purse, left_of, bytes_of, HasPlace, HasRoom, HasRoomForAll, IsOf, with_more, with_pocket, pocket_of, pulled, pulled_many, put_in, AreApart};
+ghost use Rattle.token_book.specs.Ticket.{entry_right, bytes_rights, IsTicket};
+ghost use Rattle.token_book.specs.Pocket.{Pocket, tickets_in, bytes_in, rights_of, with_token};
+ghost use Rattle.token_book.specs.Purse.{empty_purse, left_of, bytes_of, HasPlace, HasRoom, HasRoomForAll, IsOf, with_more, with_pocket, pocket_of, pulled, pulled_rights, put_in, AreApart};
 
 use crate::place::ObjectRights;
 use crate::ticket::Ticket;
@@ -121,6 +121,7 @@ impl Places {
     }
 
     // Keeps a place unless it is empty.
+    #[inline(always)]
     fn keep(&mut self, place: ObjectRights)
         requires new { map.get self.old.held place.0 ≡ None }
         requires room { map.len self.old.held < self.old.places }
@@ -158,24 +159,28 @@ impl Places {
         ticket
     }
 
-    /// Takes out so many tickets of the object at once, which are for no bytes, as one token.
-    pub fn pull_many(&mut self, tokens: &Tokens, object: u32, tickets: u64) -> Token
+    // Takes out so many tickets of the object and so many bytes of it at once.
+    #[inline(always)]
+    fn pull_rights(
+        &mut self,
+        tokens: &Tokens,
+        object: u32,
+        tickets: u64,
+        bytes: u64,
+    ) -> ObjectRights
         requires of { IsOf tokens.now self.old }
         requires some { 0 < tickets }
         requires left { tickets ≤ left_of self.old object }
-        ensures wallet { self.new ≡ pulled_many tokens.now self.old object tickets }
-        ensures of { IsOf tokens.now self.new }
-        ensures left { (o : ℕ) → left_of self.new o ≡ (if o == object then left_of self.old object - tickets else left_of self.old o) }
-        ensures bytes { (o : ℕ) → bytes_of self.new o ≡ bytes_of self.old o }
-        ensures held { (o : ℕ) → HasPlace self.new o → HasPlace self.old o }
-        ensures rights { result ≡ entry_rights tokens.now object tickets }
+        requires bytes { bytes ≤ bytes_of self.old object }
+        ensures wallet { self.new ≡ pulled_rights tokens.now self.old object tickets bytes }
+        ensures rights { result ≡ (object, rights_of tokens.now tickets bytes) }
     {
         let Some(i) = index_of(&self.places, object) else {
             unreachable!()
         };
-        let token = self.places[i].pull_many(tokens, tickets);
+        let rights = self.places[i].pull_rights(tokens, tickets, bytes);
         drop_empty(&mut self.places, i);
-        token
+        rights
     }
 
     /// Puts in a token of the name 0, which is tickets of its owner, or of the name 1, which is bytes.
@@ -191,7 +196,7 @@ impl Places {
     {
         match index_of(&self.places, token.owner()) {
             Some(i) => self.places[i].add(tokens, token),
-            None => self.keep(ObjectRights::of(token)),
+            None => self.keep(ObjectRights::of(tokens, token)),
         }
     }
 
@@ -207,6 +212,7 @@ impl Places {
     }
 
     // Puts in what another wallet had of one object.
+    #[inline(always)]
     fn put_place(&mut self, tokens: &Tokens, place: ObjectRights)
         requires of { IsOf tokens.now self.old }
         requires place { place.1.table ≡ tokens.now }
@@ -217,6 +223,27 @@ impl Places {
             Some(i) => self.places[i].take_in(tokens, place),
             None => self.keep(place),
         }
+    }
+
+    /// Moves so many tickets of the object, and so many bytes of it, to others, which have room for it.
+    pub fn give(&mut self, tokens: &Tokens, to: &mut Places, object: u32, tickets: u64, bytes: u64)
+        requires of { IsOf tokens.now self.old × IsOf tokens.now to.old }
+        requires some { 0 < tickets }
+        requires left { tickets ≤ left_of self.old object }
+        requires bytes { bytes ≤ bytes_of self.old object }
+        requires room { HasRoom to.old object }
+        ensures wallet { self.new ≡ pulled_rights tokens.now self.old object tickets bytes }
+        ensures of { IsOf tokens.now self.new × IsOf tokens.now to.new }
+        ensures left { (o : ℕ) → left_of self.new o ≡ (if o == object then left_of self.old object - tickets else left_of self.old o) }
+        ensures bytes { (o : ℕ) → bytes_of self.new o ≡ (if o == object then bytes_of self.old object - bytes else bytes_of self.old o) }
+        ensures held { (o : ℕ) → HasPlace self.new o → HasPlace self.old o }
+        ensures other { to.new ≡ with_more tokens.now to.old object (rights_of tokens.now tickets bytes) }
+        ensures left_there { (o : ℕ) → left_of to.new o ≡ (if o == object then left_of to.old o + tickets else left_of to.old o) }
+        ensures bytes_there { (o : ℕ) → bytes_of to.new o ≡ (if o == object then bytes_of to.old o + bytes else bytes_of to.old o) }
+        ensures held_there { (o : ℕ) → HasPlace to.new o → HasPlace to.old o ⊎ (o ≡ object) }
+    {
+        let rights = self.pull_rights(tokens, object, tickets, bytes);
+        to.put_place(tokens, rights);
     }
 
     /// Moves all that others hold into these, which have room for it. The others are empty then.

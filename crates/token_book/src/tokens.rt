@@ -1,6 +1,7 @@
 // The tokens, their books, and the steps on them.
 ghost use Rattle.std.specs.Prelude.{◌≡◌, ℕ, ◌+◌, ◌-◌, ◌<◌, ◌≤◌, ◌^◌, [], length, slice_get, Some, codes, IfOk};
-ghost use Rattle.token_book.specs.Account.{Account, out_of, fresh, issued, retired, slip, with_amount, AreFresh};
+ghost use Rattle.std.specs.Option.{ForSome};
+ghost use Rattle.token_book.specs.Account.{Account, out_of, fresh, issued, named_amount, retired, share_of, slip, with_amount, AreFresh};
 ghost use Rattle.token_book.specs.Rule.{a_book, a_token};
 
 use crate::view::{
@@ -49,27 +50,63 @@ impl Model for Book {
     ghost invariant = { λ b. b.seat.me ≡ (a_book b.owner (out_in b.seat.me.0) (made_in b.seat.me.0), []) };
 }
 
-/// An amount of one name that is out of its owner's book. Contracts see its table, its owner, its
-/// name and its amount.
-pub struct Token {
-    owner: u32,
-    name: u32,
+/// A token of which no more than its amount is kept, for where it is known whose it is and what its name is. Contracts see it
+/// as they see a token.
+pub struct Amount {
     amount: u64,
     seat: Seat<u8, View>,
 }
 
-impl Model for Token {
+impl Model for Amount {
     ghost use Rattle.std.specs.Prelude.{◌≡◌, []};
     ghost use Rattle.token_book.specs.Account.{Slip, slip_code};
-    ghost use Rattle.token_book.specs.Rule.{a_token};
+    ghost use Rattle.token_book.specs.Rule.{a_token, name_in, owner_in};
 
     ghost Value = { Slip };
 
     ghost coded = { slip_code };
 
-    ghost view = { λ t. record { table = t.seat.table_id; owner = t.owner; name = t.name; amount = t.amount } };
+    ghost view = { λ t. record { table = t.seat.table_id; owner = owner_in t.seat.me.0; name = name_in t.seat.me.0; amount = t.amount } };
 
-    ghost invariant = { λ t. t.seat.me ≡ (a_token t.owner t.name t.amount, []) };
+    ghost invariant = { λ t. t.seat.me ≡ (a_token (owner_in t.seat.me.0) (name_in t.seat.me.0) t.amount, []) };
+}
+
+/// An amount, or none where it is 0. Contracts see it as a token, if there is one.
+pub struct Share {
+    held: Amount,
+}
+
+impl Model for Share {
+    ghost use Rattle.std.specs.Prelude.{Option};
+    ghost use Rattle.std.specs.Coded.{coded_option};
+    ghost use Rattle.token_book.specs.Account.{Slip, share_of, slip_code};
+
+    ghost Value = { Option Slip };
+
+    ghost coded = { coded_option slip_code };
+
+    ghost view = { λ s. share_of s.held };
+}
+
+/// An amount of one name that is out of its owner's book. Contracts see its table, its owner, its
+/// name and its amount.
+pub struct Token {
+    owner: u32,
+    name: u32,
+    held: Amount,
+}
+
+impl Model for Token {
+    ghost use Rattle.std.specs.Prelude.{◌≡◌};
+    ghost use Rattle.token_book.specs.Account.{Slip, slip_code};
+
+    ghost Value = { Slip };
+
+    ghost coded = { slip_code };
+
+    ghost view = { λ t. t.held };
+
+    ghost invariant = { λ t. (t.held.owner ≡ t.owner) × (t.held.name ≡ t.name) };
 }
 
 /// A token of the amount 1, of which no more than its name is kept, so that what carries it is small. Contracts see it as
@@ -109,13 +146,27 @@ impl Drop for Book {
     }
 }
 
+impl Drop for Amount {
+    fn drop(self) {
+        let Amount {
+            amount: _,
+            seat: _seat,
+        } = self;
+    }
+}
+
+impl Drop for Share {
+    fn drop(self) {
+        let Share { held: _held } = self;
+    }
+}
+
 impl Drop for Token {
     fn drop(self) {
         let Token {
             owner: _,
             name: _,
-            amount: _,
-            seat: _seat,
+            held: _held,
         } = self;
     }
 }
@@ -137,30 +188,71 @@ impl One {
         self.name
     }
 
-    // The token, with no more than its name.
-    fn of(token: Token) -> One
-        requires { token.amount ≡ 1 }
-        ensures { result ≡ token }
+    // What is of this name, with no more than its name.
+    fn of(name: u32, held: Amount) -> One
+        requires name { name ≡ held.name }
+        requires one { held.amount ≡ 1 }
+        ensures { result ≡ held }
     {
-        let name = token.name();
         One {
             name,
-            seat: token.into_seat(),
+            seat: held.into_seat(),
         }
     }
 
-    // The token, which is of this owner.
-    fn into_token(self, owner: u32) -> Token
+    // It as an amount.
+    fn into_amount(self) -> Amount
+        ensures { result ≡ self }
+    {
+        let One { name: _, seat } = self;
+        Amount { amount: 1, seat }
+    }
+
+    /// The token, which is of this owner.
+    pub fn into_token(self, owner: u32) -> Token
         requires { owner ≡ self.owner }
         ensures { result ≡ self }
     {
-        let One { name, seat } = self;
+        let name = self.name();
         Token {
             owner,
             name,
-            amount: 1,
-            seat,
+            held: self.into_amount(),
         }
+    }
+}
+
+impl Amount {
+    /// How much it is.
+    pub fn size(&self) -> u64
+        ensures { result ≡ self.now.amount }
+    {
+        self.amount
+    }
+
+    // The seat of the table.
+    fn into_seat(self) -> Seat<u8, View>
+        ensures { (result.table_id ≡ self.table) × (result.me ≡ (a_token self.owner self.name self.amount, [])) }
+    {
+        let Amount { amount: _, seat } = self;
+        seat
+    }
+}
+
+impl Share {
+    /// What there is of an amount.
+    pub fn of(held: Amount) -> Share
+        ensures { result ≡ share_of held }
+    {
+        Share { held }
+    }
+
+    // The amount, which is 0 where there is none.
+    fn into_amount(self) -> Amount
+        ensures { share_of result ≡ self }
+    {
+        let Share { held } = self;
+        held
     }
 }
 
@@ -192,20 +284,19 @@ impl Token {
     pub fn amount(&self) -> u64
         ensures { result ≡ self.now.amount }
     {
-        self.amount
+        self.held.size()
     }
 
-    // The seat of the table.
-    fn into_seat(self) -> Seat<u8, View>
-        ensures { (result.table_id ≡ self.table) × (result.me ≡ (a_token self.owner self.name self.amount, [])) }
+    /// It as an amount.
+    pub fn into_amount(self) -> Amount
+        ensures { result ≡ self }
     {
         let Token {
             owner: _,
             name: _,
-            amount: _,
-            seat,
+            held,
         } = self;
-        seat
+        held
     }
 }
 
@@ -279,8 +370,7 @@ impl Tokens {
         Token {
             owner,
             name,
-            amount,
-            seat,
+            held: Amount { amount, seat },
         }
     }
 
@@ -291,7 +381,17 @@ impl Tokens {
         ensures out { token.amount ≤ out_of token.name book.old.out }
         ensures book { book.new ≡ retired book.old token }
     {
-        let seat = token.into_seat();
+        self.retire_amount(book, token.into_amount());
+    }
+
+    /// Takes an amount back, as `retire` does.
+    pub fn retire_amount(&self, book: &mut Book, held: Amount)
+        requires book { book.old.table ≡ self.now }
+        requires held { (held.table ≡ self.now) × (held.owner ≡ book.old.owner) }
+        ensures out { held.amount ≤ out_of held.name book.old.out }
+        ensures book { book.new ≡ retired book.old held }
+    {
+        let seat = held.into_seat();
         self.table.shared.join_seat::<TakesIn>(&mut book.seat, seat);
         self.table.shared.load::<Settles>(&mut book.seat, 0);
     }
@@ -303,7 +403,7 @@ impl Tokens {
         ensures book { book.new ≡ issued book.old name 1 }
         ensures token { result ≡ slip book.old name 1 }
     {
-        One::of(self.issue(book, name, 1))
+        One::of(name, self.issue(book, name, 1).into_amount())
     }
 
     /// Takes a token of the amount 1 back, as `retire` does.
@@ -313,8 +413,20 @@ impl Tokens {
         ensures out { token.amount ≤ out_of token.name book.old.out }
         ensures book { book.new ≡ retired book.old token }
     {
-        let owner = book.owner();
-        self.retire(book, token.into_token(owner));
+        self.retire_amount(book, token.into_amount());
+    }
+
+    /// Takes back what there is of a share, as `retire` does.
+    pub fn retire_share(&self, book: &mut Book, share: Share)
+        requires book { book.old.table ≡ self.now }
+        requires share { ForSome share (λ t. (t.table ≡ self.now) × (t.owner ≡ book.old.owner)) }
+        ensures book { (book.new.table ≡ book.old.table) × (book.new.owner ≡ book.old.owner) }
+        ensures out { (name : ℕ) → out_of name book.new.out + named_amount name share ≡ out_of name book.old.out }
+    {
+        let held = share.into_amount();
+        if held.size() > 0 {
+            self.retire_amount(book, held);
+        }
     }
 
     /// Takes this amount off the token, and answers a token of it.
@@ -324,27 +436,44 @@ impl Tokens {
         ensures left { token.new ≡ with_amount token.old (token.old.amount - amount) }
         ensures part { result ≡ with_amount token.old amount }
     {
-        self.part_as::<Brand>(token, amount)
+        let owner = token.owner;
+        let name = token.name;
+        let held = self.part_amount(&mut token.held, amount);
+        Token { owner, name, held }
+    }
+
+    /// Takes this much off, and answers it.
+    pub fn part_amount(&self, held: &mut Amount, amount: u64) -> Amount
+        requires held { held.old.table ≡ self.now }
+        requires enough { amount ≤ held.old.amount }
+        ensures left { held.new ≡ with_amount held.old (held.old.amount - amount) }
+        ensures part { result ≡ with_amount held.old amount }
+    {
+        self.part_as::<Brand>(held, amount)
     }
 
     // The call picks the amount.
-    fn part_as<A: Amounts>(&self, token: &mut Token, amount: u64) -> Token
-        requires token { token.old.table ≡ self.now }
-        requires enough { amount ≤ token.old.amount }
+    fn part_as<A: Amounts>(&self, held: &mut Amount, amount: u64) -> Amount
+        requires held { held.old.table ≡ self.now }
+        requires enough { amount ≤ held.old.amount }
         requires picked { A.amount ≡ amount }
-        ensures left { token.new ≡ with_amount token.old (token.old.amount - amount) }
-        ensures part { result ≡ with_amount token.old amount }
+        ensures left { held.new ≡ with_amount held.old (held.old.amount - amount) }
+        ensures part { result ≡ with_amount held.old amount }
     {
-        let owner = token.owner;
-        let name = token.name;
-        let seat = self.table.shared.split_seat::<Parts<A>>(&mut token.seat);
-        token.amount -= amount;
-        Token {
-            owner,
-            name,
-            amount,
-            seat,
-        }
+        let seat = self.table.shared.split_seat::<Parts<A>>(&mut held.seat);
+        held.amount -= amount;
+        Amount { amount, seat }
+    }
+
+    /// Takes 1 off what is of this name, and answers it.
+    pub fn part_one(&self, held: &mut Amount, name: u32) -> One
+        requires held { held.old.table ≡ self.now }
+        requires name { name ≡ held.old.name }
+        requires enough { 0 < held.old.amount }
+        ensures left { held.new ≡ with_amount held.old (held.old.amount - 1) }
+        ensures part { result ≡ with_amount held.old 1 }
+    {
+        One::of(name, self.part_amount(held, 1))
     }
 
     /// Adds the amount of another token of the same owner and name. The sum fits, since both are
@@ -355,10 +484,20 @@ impl Tokens {
         ensures fits { token.old.amount + other.amount < 2 ^ 64 }
         ensures sum { token.new ≡ with_amount token.old (token.old.amount + other.amount) }
     {
-        let amount = other.amount();
+        self.merge_amount(&mut token.held, other.into_amount());
+    }
+
+    /// Adds another amount of the same owner and name, as `merge` does.
+    pub fn merge_amount(&self, held: &mut Amount, other: Amount)
+        requires same { (held.old.table ≡ self.now) × (other.table ≡ self.now) }
+        requires alike { (other.owner ≡ held.old.owner) × (other.name ≡ held.old.name) }
+        ensures fits { held.old.amount + other.amount < 2 ^ 64 }
+        ensures sum { held.new ≡ with_amount held.old (held.old.amount + other.amount) }
+    {
+        let amount = other.size();
         let seat = other.into_seat();
-        self.table.shared.join_seat::<Merges>(&mut token.seat, seat);
-        self.table.shared.load::<Weighs>(&mut token.seat, 0);
-        token.amount += amount;
+        self.table.shared.join_seat::<Merges>(&mut held.seat, seat);
+        self.table.shared.load::<Weighs>(&mut held.seat, 0);
+        held.amount += amount;
     }
 }

@@ -1,14 +1,14 @@
 // Wallets: the tickets of many objects.
-ghost use Rattle.std.specs.Prelude.{◌≡◌, ℕ, ◌+◌, ◌-◌, ◌<◌, ◌≤◌, ◌==◌, ◌↔◌, if◌then◌else◌, IfOk, IsTrue};
+ghost use Rattle.std.specs.Prelude.{◌≡◌, ◌⊎◌, ℕ, ◌+◌, ◌-◌, ◌<◌, ◌≤◌, ◌==◌, ◌↔◌, if◌then◌else◌, IfOk, IsTrue};
 ghost use Rattle.atomic_table.specs.Seated.{TableId};
 ghost use Rattle.token_book.specs.Account.{amount_of, out_of};
-ghost use Rattle.token_book.specs.Ticket.{entry_right, entry_rights, bytes_rights, IsTicket};
-ghost use Rattle.token_book.specs.Pocket.{tickets_in, bytes_in};
-ghost use Rattle.token_book.specs.Purse.{empty_purse, left_of, bytes_of, HasPlace, HasRoom, HasRoomForAll, IsOf, pulled, pulled_many, put_in};
+ghost use Rattle.token_book.specs.Ticket.{entry_right, bytes_rights, IsTicket};
+ghost use Rattle.token_book.specs.Pocket.{tickets_in, bytes_in, rights_of};
+ghost use Rattle.token_book.specs.Purse.{empty_purse, left_of, bytes_of, HasPlace, HasRoom, HasRoomForAll, IsOf, pulled, pulled_rights, put_in, with_more};
 
 use crate::places::Places;
 use crate::ticket::Ticket;
-use crate::tokens::{Book, Token, Tokens};
+use crate::tokens::{Book, One, Token, Tokens};
 use std::alloc::Global;
 use std::marker::Model;
 use tlm_types::Memory;
@@ -92,21 +92,6 @@ impl Wallet {
         self.all.pull(tokens, object, bytes)
     }
 
-    /// Takes out so many tickets of the object at once, which are for no bytes, as one token.
-    pub fn pull_many(&mut self, tokens: &Tokens, object: u32, tickets: u64) -> Token
-        requires of { IsOf tokens.now self.old }
-        requires some { 0 < tickets }
-        requires left { tickets ≤ left_of self.old object }
-        ensures wallet { self.new ≡ pulled_many tokens.now self.old object tickets }
-        ensures of { IsOf tokens.now self.new }
-        ensures left { (o : ℕ) → left_of self.new o ≡ (if o == object then left_of self.old object - tickets else left_of self.old o) }
-        ensures bytes { (o : ℕ) → bytes_of self.new o ≡ bytes_of self.old o }
-        ensures held { (o : ℕ) → HasPlace self.new o → HasPlace self.old o }
-        ensures rights { result ≡ entry_rights tokens.now object tickets }
-    {
-        self.all.pull_many(tokens, object, tickets)
-    }
-
     /// Puts in a token of the name 0, which is tickets of its owner, or of the name 1, which is bytes.
     /// The owner has a place, or a place is free. A token of the amount 0 takes no place.
     pub fn put(&mut self, tokens: &Tokens, token: Token)
@@ -119,6 +104,40 @@ impl Wallet {
         ensures bytes { (o : ℕ) → bytes_of self.new o ≡ (if o == token.owner then bytes_of self.old o + bytes_in token else bytes_of self.old o) }
     {
         self.all.put(tokens, token);
+    }
+
+    /// Puts in a token of the amount 1, which is of this owner, as `put` does.
+    pub fn put_one(&mut self, tokens: &Tokens, owner: u32, token: One)
+        requires of { IsOf tokens.now self.old }
+        requires owner { owner ≡ token.owner }
+        requires token { (token.table ≡ tokens.now) × (token.name < 2) }
+        requires room { HasRoom self.old token.owner }
+        ensures wallet { self.new ≡ put_in self.old token }
+        ensures of { IsOf tokens.now self.new }
+        ensures left { (o : ℕ) → left_of self.new o ≡ (if o == token.owner then left_of self.old o + tickets_in token else left_of self.old o) }
+        ensures bytes { (o : ℕ) → bytes_of self.new o ≡ (if o == token.owner then bytes_of self.old o + bytes_in token else bytes_of self.old o) }
+    {
+        self.all.put(tokens, token.into_token(owner));
+    }
+
+    /// Moves so many tickets of the object, and so many bytes of it, to another wallet, which has room for it.
+    pub fn give(&mut self, tokens: &Tokens, to: &mut Wallet, object: u32, tickets: u64, bytes: u64)
+        requires of { IsOf tokens.now self.old × IsOf tokens.now to.old }
+        requires some { 0 < tickets }
+        requires left { tickets ≤ left_of self.old object }
+        requires bytes { bytes ≤ bytes_of self.old object }
+        requires room { HasRoom to.old object }
+        ensures wallet { self.new ≡ pulled_rights tokens.now self.old object tickets bytes }
+        ensures of { IsOf tokens.now self.new × IsOf tokens.now to.new }
+        ensures left { (o : ℕ) → left_of self.new o ≡ (if o == object then left_of self.old object - tickets else left_of self.old o) }
+        ensures bytes { (o : ℕ) → bytes_of self.new o ≡ (if o == object then bytes_of self.old object - bytes else bytes_of self.old o) }
+        ensures held { (o : ℕ) → HasPlace self.new o → HasPlace self.old o }
+        ensures other { to.new ≡ with_more tokens.now to.old object (rights_of tokens.now tickets bytes) }
+        ensures left_there { (o : ℕ) → left_of to.new o ≡ (if o == object then left_of to.old o + tickets else left_of to.old o) }
+        ensures bytes_there { (o : ℕ) → bytes_of to.new o ≡ (if o == object then bytes_of to.old o + bytes else bytes_of to.old o) }
+        ensures held_there { (o : ℕ) → HasPlace to.new o → HasPlace to.old o ⊎ (o ≡ object) }
+    {
+        self.all.give(tokens, &mut to.all, object, tickets, bytes);
     }
 
     /// Moves all that another wallet holds into this one, which has room for it. The other one is empty

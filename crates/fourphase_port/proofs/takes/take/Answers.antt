@@ -34,7 +34,6 @@ take-requires-clause-can g c = can_take g.N.Naming.table g.N.Naming.tokens g.N.N
 
 pub put_ticket-requires-clause-ticket : goal.put_ticket-requires-clause-ticket
 put_ticket-requires-clause-ticket g c = (
-  c.pool_place-pool.result,
   (subst (λ (t : Ticket). IsTicket c.tickets-in-Full.result.now c.pool_place-pool.result t) (sym c.in-Full.ensures.taken.0) (subst (λ (t : TableId). IsTicket t c.pool_place-pool.result c.pull-ticket.result) (c.tickets.ensures ∙ sym c.tickets-in-Full.ensures) c.pull-ticket.ensures.ticket)),
   subst (λ (k : ℕ). HasRoom c.pull-ticket.new.self.wallet k) (sym (c.pool_place-pool.ensures ∙ ap (own_pool g.N.Naming.frame.world) c.initiator-initiator.ensures)) (room_back g.N.Naming.table g.N.Naming.tokens g.N.Naming.frame c.args.state.now c.args.note c.requires.port c.args.transfer c.requires.next c.requires.may c.pull-ticket.new.self.wallet (subst (λ (k : ℕ). Pulls g.N.Naming.tokens k 0 c.args.state.now.wallet c.pull-ticket.new.self.wallet) (c.pool_place-pool.ensures ∙ ap (own_pool g.N.Naming.frame.world) c.initiator-initiator.ensures) (subst (λ (t : TableId). Pulls t c.pool_place-pool.result 0 c.args.state.now.wallet c.pull-ticket.new.self.wallet) c.tickets.ensures c.pull-ticket.ensures.pulls))),
   ap (λ (t : Ticket). amount_of t.bytes) c.in-Full.ensures.taken.0 ∙ c.pull-ticket.ensures.amount,
@@ -64,7 +63,7 @@ load-requires-clause-may g c =
 pub returns-in-Full-clause-port : goal.returns-in-Full-clause-port
 returns-in-Full-clause-port g c =
     full_port g.N.Naming.table g.N.Naming.tokens g.N.Naming.frame c.args.state.now c.args.note c.requires.port c.args.transfer c.requires.next c.requires.may c.in-Full.note c.in-Full.ensures.note c.in-Full.ensures.knew c.in-Full.ensures.below c.pull-ticket.new.self.wallet (subst (λ (k : ℕ). Pulls g.N.Naming.tokens k 0 c.args.state.now.wallet c.pull-ticket.new.self.wallet) (c.pool_place-pool.ensures ∙ ap (own_pool g.N.Naming.frame.world) c.initiator-initiator.ensures) (subst (λ (t : TableId). Pulls t c.pool_place-pool.result 0 c.args.state.now.wallet c.pull-ticket.new.self.wallet) c.tickets.ensures c.pull-ticket.ensures.pulls)) c.pull-ticket.ensures.within
-    c.put_ticket.new.self.wallet (subst (λ (k : ℕ). Gets g.N.Naming.tokens k 1 0 c.pull-ticket.new.self.wallet c.put_ticket.new.self.wallet) (c.pool_place-pool.ensures ∙ ap (own_pool g.N.Naming.frame.world) c.initiator-initiator.ensures) (subst (λ (t : TableId). Gets t c.pool_place-pool.result 1 0 c.pull-ticket.new.self.wallet c.put_ticket.new.self.wallet) c.tickets-in-Full.ensures (c.put_ticket.ensures.back c.pool_place-pool.result (subst (λ (t : Ticket). IsTicket c.tickets-in-Full.result.now c.pool_place-pool.result t) (sym c.in-Full.ensures.taken.0) (subst (λ (t : TableId). IsTicket t c.pool_place-pool.result c.pull-ticket.result) (c.tickets.ensures ∙ sym c.tickets-in-Full.ensures) c.pull-ticket.ensures.ticket))))) (subst (λ (k : ℕ). (o : ℕ) → HasPlace c.put_ticket.new.self.wallet o → HasPlace c.pull-ticket.new.self.wallet o ⊎ (o ≡ k)) (c.pool_place-pool.ensures ∙ ap (own_pool g.N.Naming.frame.world) c.initiator-initiator.ensures) (c.put_ticket.ensures.within c.pool_place-pool.result (subst (λ (t : Ticket). IsTicket c.tickets-in-Full.result.now c.pool_place-pool.result t) (sym c.in-Full.ensures.taken.0) (subst (λ (t : TableId). IsTicket t c.pool_place-pool.result c.pull-ticket.result) (c.tickets.ensures ∙ sym c.tickets-in-Full.ensures) c.pull-ticket.ensures.ticket)))) c.requires.free.0 c.put_ticket.new.self (c.put_ticket.ensures.state ∙ ap (λ (t : StateView). let w = c.put_ticket.new.self.wallet in record t { wallet = w }) c.pull-ticket.ensures.state)
+    c.put_ticket.new.self.wallet (subst (λ (k : ℕ). Gets g.N.Naming.tokens k 1 0 c.pull-ticket.new.self.wallet c.put_ticket.new.self.wallet) (c.pool_place-pool.ensures ∙ ap (own_pool g.N.Naming.frame.world) c.initiator-initiator.ensures) (subst (λ (t : TableId). Gets t c.pool_place-pool.result 1 0 c.pull-ticket.new.self.wallet c.put_ticket.new.self.wallet) c.tickets-in-Full.ensures c.put_ticket.ensures.back)) (subst (λ (k : ℕ). (o : ℕ) → HasPlace c.put_ticket.new.self.wallet o → HasPlace c.pull-ticket.new.self.wallet o ⊎ (o ≡ k)) (c.pool_place-pool.ensures ∙ ap (own_pool g.N.Naming.frame.world) c.initiator-initiator.ensures) c.put_ticket.ensures.within) c.requires.free.0 c.put_ticket.new.self (c.put_ticket.ensures.state ∙ ap (λ (t : StateView). let w = c.put_ticket.new.self.wallet in record t { wallet = w }) c.pull-ticket.ensures.state)
 
 pub returns-in-Took-clause-port : goal.returns-in-Took-clause-port
 returns-in-Took-clause-port g c =

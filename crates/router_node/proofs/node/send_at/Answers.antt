@@ -1,9 +1,8 @@
-use Rattle.std.proofs.Common.{◌≡◌, List, Option, set, sym, ap, subst, ◌∙◌, refl}
-use Rattle.std.specs.Prelude.{IfSome}
+use Rattle.std.proofs.Common.{◌≡◌, List, set, sym, ap, subst, ◌∙◌, refl}
 use Rattle.std.specs.List.{AllByRecursion}
 use Rattle.router_node.specs.Node.{gap}
 use Rattle.router_node.specs.Places.{StandsAt}
-use Rattle.router_node.specs.Stages.{HasStepped, IsStage}
+use Rattle.router_node.specs.Stages.{IsStage}
 use Rattle.router_node.specs.declared.stage.Stage.{Stage}
 use Rattle.router_node.specs.declared.stage.Stage.TheVariants.{Up}
 use Rattle.router_node.specs.declared.stage.Step.TheVariants.{Send}
@@ -28,25 +27,24 @@ returns-clause-held g c =
     let tokens = g.N.Naming.tokens in
     let items = c.args.held.now.items in
     let at = c.args.at in
-    let t = c.in-Some.stage in
+    let t = c.send-stage.result.0 in
     let known = c.args.note.knows.known in
     let more = c.send-stage.result.2.knows.known in
     let put : c.put_back.new.held.items ≡ set (set items at gap) at t = c.put_back.ensures.items ∙ ap (λ (l : List Stage). set l at t) c.take_out.ensures.items in
     subst (λ (l : List Stage). AllByRecursion (IsStage frame tokens more) l) (sym {A = List Stage} put)
-    (with_another (IsStage frame tokens more) items at c.take_out.result c.take_out.ensures.was (all_more frame tokens known more c.send-stage.ensures.knew items c.requires.held) gap t (subst (λ (o : Option Stage). IfSome o (IsStage frame tokens more)) c.in-Some.is c.send-stage.ensures.stage))
+    (with_another (IsStage frame tokens more) items at c.take_out.result c.take_out.ensures.was (all_more frame tokens known more c.send-stage.ensures.knew items c.requires.held) gap t c.send-stage.ensures.stage)
 
 pub returns-clause-moved : goal.returns-clause-moved
 returns-clause-moved g c =
     let frame = g.N.Naming.frame in
     let items = c.args.held.now.items in
     let at = c.args.at in
-    let t = c.in-Some.stage in
+    let t = c.send-stage.result.0 in
     let was = c.args.note.knows in
     let is = c.send-stage.result.2.knows in
     let moved = c.send-stage.result.1 in
     let put : c.put_back.new.held.items ≡ set (set items at gap) at t = c.put_back.ensures.items ∙ ap (λ (l : List Stage). set l at t) c.take_out.ensures.items in
-    let stepped = subst (λ (o : Option Stage). HasStepped frame Send (Up c.in-Up-take_out.response c.in-Up-take_out.rest) was is moved o) c.in-Some.is c.send-stage.ensures.stepped in
-    tried frame Send at items c.put_back.new.held.items (Up c.in-Up-take_out.response c.in-Up-take_out.rest) gap t was is moved (subst (λ (s : Stage). StandsAt items at s) c.in-Up-take_out.is c.take_out.ensures.was) put stepped
+    tried frame Send at items c.put_back.new.held.items (Up c.in-Up-take_out.response c.in-Up-take_out.rest) gap t was is moved (subst (λ (s : Stage). StandsAt items at s) c.in-Up-take_out.is c.take_out.ensures.was) put c.send-stage.ensures.stepped
 
 pub returns-in_default-clause-note : goal.returns-in_default-clause-note
 returns-in_default-clause-note g c = c.requires.note

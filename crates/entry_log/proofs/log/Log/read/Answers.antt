@@ -2,8 +2,6 @@ use Rattle.std.proofs.Common.{Bor, List, ℕ, Some, None, slice_get, subst, ap, 
 use Rattle.std.specs.Prelude.{option_map}
 use Rattle.tlm_types.specs.Entries.{facts_of, read_at}
 use Rattle.tlm_types.specs.declared.entry.Entry.{Entry}
-use Rattle.entry_log.specs.LogBytes.{IsReadAs, Reads}
-use Rattle.entry_log.specs.declared.log.LoggedAccess.{LoggedAccess}
 use Rattle.entry_log.proofs.Accesses.{IsRead, read_as, read_no_place, read_place}
 use Rattle.entry_log.proofs.Pasts.{stored_whole}
 use Rattle.entry_log.proofs.Stored.{read_at-facts}

@@ -20,7 +20,7 @@ invariant_of-self g c =
     let late : v.request_end ≤ c.max-time.result = omega (arith, c.max-time.ensures) in
     let kept = kept_entered v p c.args.txn c.max-time.result (Updated BeginResp) Responding None (leg_out v.book p Responding) k.kept may.past can is refl late may.below refl (λ n. omega (arith, out_issued n v.book (4 * p + 3))) in
     record {
-      kept = rw (c.put.ensures.items, c.push_call.ensures, c.issue.ensures.book) kept;
+      kept = rw (c.put.ensures.items, c.push.ensures, c.issue.ensures.book) kept;
       roomy = omega (arith, c.put.ensures.capacity, k.roomy);
     }
 
@@ -33,5 +33,5 @@ issue-requires-clause-position g c = c.requires.may.below
 pub issue-requires-clause-few : goal.issue-requires-clause-few
 issue-requires-clause-few g c = λ n. few_out (view_of c.self.inside) c.self.invariant.kept n
 
-pub push_call-requires : goal.push_call-requires
-push_call-requires g c = subst (λ (v : HopView g.row.T.Denot). length v.log.events < v.log.room) (sym c.self.view_is) c.requires.may.room
+pub push-requires : goal.push-requires
+push-requires g c = subst (λ (v : HopView g.row.T.Denot). length v.log.events < v.log.room) (sym c.self.view_is) c.requires.may.room

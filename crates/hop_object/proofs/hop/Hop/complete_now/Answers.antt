@@ -16,4 +16,4 @@ invariant_of-self g c =
     let is : Completed ≡ begin_answer v = sym (ap begin_answer c.self.view_is ∙ c.requires.answer) in
     let late : v.request_end ≤ c.max-time.result = omega (arith, c.max-time.ensures) in
     let kept = kept_passed v p c.args.txn c.max-time.result k.kept may.past can is late in
-    record { kept = rw c.push_call.ensures kept; roomy = k.roomy }
+    record { kept = rw c.push.ensures kept; roomy = k.roomy }

@@ -21,8 +21,8 @@ let_go-requires g c =
 pub issue-leg-requires-clause-few : goal.issue-leg-requires-clause-few
 issue-leg-requires-clause-few g c = λ n. let a = few_out (view_of c.self.inside) c.self.invariant.kept n in let b = c.redeem-index.ensures.few n in omega arith
 
-pub push_call-requires : goal.push_call-requires
-push_call-requires g c =
+pub push-requires : goal.push-requires
+push-requires g c =
     let lane = c.index-lane.result.now in
     let i = c.redeem-index.result in
     let xs = c.self.inside.lanes.items in
@@ -45,7 +45,7 @@ invariant_of-self g c =
     let own : IsLegOf v c.args.leg Requested = subst (λ (w : HopView g.row.T.Denot). IsLegOf w c.args.leg Requested) (sym c.self.view_is) c.requires.leg in
     let kept = kept_end_req v c.args.leg (take i xs) lane (drop (suc i) xs) c.args.position c.max-time.result k.kept may_here.past (record { here = d.here; has = has; one = c.redeem-index.ensures.one; was = c.redeem-index.ensures.out }) own (omega (arith, c.max-time.ensures)) in
     record {
-      kept = rw (d.after, c.push_call.ensures, c.issue-leg.ensures.book, c.redeem-index.ensures.book) kept;
+      kept = rw (d.after, c.push.ensures, c.issue-leg.ensures.book, c.redeem-index.ensures.book) kept;
       roomy = omega (arith, c.change-was.ensures.capacity, k.roomy);
     }
 
@@ -62,7 +62,7 @@ returns g c =
       here = d.here;
       leg_is = ap (find (has_leg c.args.leg.name)) (sym c.deref.ensures.value) ∙ c.redeem-index.ensures.found lane (c.index-lane.ensures ∙ ap (λ (ys : List (Lane g.row.T.Denot)). get_or ys i lane) (sym c.deref.ensures.value));
       time_is = c.max-time.ensures;
-      after = rw (d.after, c.push_call.ensures, c.issue-leg.ensures.book, c.redeem-index.ensures.book) refl;
+      after = rw (d.after, c.push.ensures, c.issue-leg.ensures.book, c.redeem-index.ensures.book) refl;
       next_is = rw (c.issue-leg.ensures.leg, c.redeem-index.ensures.book) refl;
     })
 

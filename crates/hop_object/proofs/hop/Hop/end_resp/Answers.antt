@@ -18,8 +18,8 @@ let_go-requires g c =
     let has : has_leg c.args.leg.name lane ≡ true = at_place (λ (l : Lane g.row.T.Denot). has_leg c.args.leg.name l ≡ true) c.deref.result.now c.self.inside.lanes.items lane c.redeem-index.result c.redeem-index.ensures.leg c.deref.ensures.value c.index-lane.ensures in
     (c.take_out-was.ensures.lanes lane c.index-lane.ensures).carried ∙ (leg_parts c.args.leg.name lane has).0
 
-pub push_call-requires : goal.push_call-requires
-push_call-requires g c =
+pub push-requires : goal.push-requires
+push-requires g c =
     let lane = c.index-lane.result.now in
     let i = c.redeem-index.result in
     let xs = c.self.inside.lanes.items in
@@ -42,7 +42,7 @@ invariant_of-self g c =
     let own : IsLegOf v c.args.leg Responding = subst (λ (w : HopView g.row.T.Denot). IsLegOf w c.args.leg Responding) (sym c.self.view_is) c.requires.leg in
     let kept = kept_end_resp v c.args.leg (take i xs) lane (drop (suc i) xs) c.args.position c.max-time.result k.kept may_here.past (record { here = d.here; has = has; one = c.redeem-index.ensures.one; was = c.redeem-index.ensures.out }) own (omega (arith, c.max-time.ensures)) in
     record {
-      kept = rw (d.after, c.push_call.ensures, c.redeem-index.ensures.book, c.max-self-inside.ensures) kept;
+      kept = rw (d.after, c.push.ensures, c.redeem-index.ensures.book, c.max-self-inside.ensures) kept;
       roomy = omega (arith, c.take_out-was.ensures.capacity, k.roomy);
     }
 
@@ -59,7 +59,7 @@ returns g c =
       here = d.here;
       leg_is = ap (find (has_leg c.args.leg.name)) (sym c.deref.ensures.value) ∙ c.redeem-index.ensures.found lane (c.index-lane.ensures ∙ ap (λ (ys : List (Lane g.row.T.Denot)). get_or ys i lane) (sym c.deref.ensures.value));
       time_is = c.max-time.ensures;
-      after = rw (d.after, c.push_call.ensures, c.redeem-index.ensures.book, c.max-self-inside.ensures) refl;
+      after = rw (d.after, c.push.ensures, c.redeem-index.ensures.book, c.max-self-inside.ensures) refl;
     })
 
 pub redeem-index-requires-clause-tokens : goal.redeem-index-requires-clause-tokens

@@ -18,8 +18,8 @@ let_go-requires g c =
     let has : has_leg c.args.leg.name lane ≡ true = at_place (λ (l : Lane g.row.T.Denot). has_leg c.args.leg.name l ≡ true) c.deref.result.now c.self.inside.lanes.items lane c.redeem-index.result c.redeem-index.ensures.leg c.deref.ensures.value c.index-lane.ensures in
     (c.change-was.ensures.lanes lane c.index-lane.ensures).carried ∙ (leg_parts c.args.leg.name lane has).0
 
-pub push_call-requires : goal.push_call-requires
-push_call-requires g c =
+pub push-requires : goal.push-requires
+push-requires g c =
     let lane = c.index-lane.result.now in
     let i = c.redeem-index.result in
     let xs = c.self.inside.lanes.items in
@@ -45,7 +45,7 @@ invariant_of-self g c =
     let redeemed : Redeemed v c.args.leg (take i xs) lane (drop (suc i) xs) = record { here = d.here; has = has; one = c.redeem-index.ensures.one; was = c.redeem-index.ensures.out } in
     let kept = kept_respond v c.args.leg (take i xs) lane (drop (suc i) xs) c.args.position t c.args.item k.kept may_here.past redeemed (omega (arith, c.max-time.ensures, c.max-early.ensures)) (omega (arith, c.max-time.ensures)) free own in
     record {
-      kept = rw (d.after, c.push_call.ensures, c.redeem-index.ensures.book, c.request_end_responded-self-inside.ensures, c.response_end_responded-self-inside.ensures, c.state_by-next.ensures, c.mark_of.ensures, c.response_answer-answer.ensures) kept;
+      kept = rw (d.after, c.push.ensures, c.of_call-event.ensures, c.redeem-index.ensures.book, c.request_end_responded-self-inside.ensures, c.response_end_responded-self-inside.ensures, c.state_by-next.ensures, c.mark_of.ensures, c.response_answer-answer.ensures) kept;
       roomy = omega (arith, c.change-was.ensures.capacity, k.roomy);
     }
 
@@ -63,7 +63,7 @@ returns g c =
       leg_is = ap (find (has_leg c.args.leg.name)) (sym c.deref.ensures.value) ∙ c.redeem-index.ensures.found lane (c.index-lane.ensures ∙ ap (λ (ys : List (Lane g.row.T.Denot)). get_or ys i lane) (sym c.deref.ensures.value));
       time = c.max-time.result;
       time_is = rw (c.max-time.ensures, c.max-early.ensures) refl;
-      after = rw (d.after, c.push_call.ensures, c.redeem-index.ensures.book, c.request_end_responded-self-inside.ensures, c.response_end_responded-self-inside.ensures, c.state_by-next.ensures, c.mark_of.ensures, c.response_answer-answer.ensures) refl;
+      after = rw (d.after, c.push.ensures, c.of_call-event.ensures, c.redeem-index.ensures.book, c.request_end_responded-self-inside.ensures, c.response_end_responded-self-inside.ensures, c.state_by-next.ensures, c.mark_of.ensures, c.response_answer-answer.ensures) refl;
       answer_is = rw c.response_answer-answer.ensures refl;
     })
 

@@ -24,8 +24,8 @@ unreachable-requires c =
     let out = was_out c.self.inside.book c.own.inside.token c.args.baton.own c.own.view_is c.retire_one.ensures.out in
     not_lost (view_of c.self.inside) c.self.invariant c.args.baton.own c.name-name.result c.deref.result.now c.place_of.result c.deref.ensures.value c.name-name.ensures c.place_of.ensures c.in_default.is one.0 out
 
-pub push-requires-clause-room : goal.push-requires-clause-room
-push-requires-clause-room c =
+pub push-requires : goal.push-requires
+push-requires c =
     let v = view_of c.self.inside in
     let t = c.args.baton.own in
     let one = one_own c.own.inside.token t c.own.view_is c.own.invariant in

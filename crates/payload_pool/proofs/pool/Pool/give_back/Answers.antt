@@ -26,8 +26,8 @@ give_back-freed-requires-clause-number c =
     let number = c.min-number.ensures ∙ ap (λ (n : ℕ). reference_number n) c.name-name.ensures in
     rw (number, read_slot v c.self.invariant k c.index_mut.result.now h.place.within c.index_mut.ensures.value) (some_at v c.self.invariant t k h)
 
-pub push-requires-clause-room : goal.push-requires-clause-room
-push-requires-clause-room c =
+pub push-requires : goal.push-requires
+push-requires c =
     let v = view_of c.self.inside in
     let t = c.args.token in
     let h = holds_at v c.self.invariant t c.name-name.result c.in-Some.place c.deref.result.now c.place_of.result c.deref.ensures.value c.name-name.ensures c.place_of.ensures c.in-Some.is c.requires.token.1 c.retire_one.ensures.out in

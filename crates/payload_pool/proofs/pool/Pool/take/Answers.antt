@@ -32,8 +32,8 @@ begin-payload-requires-clause-kept c =
     let f = found_in is_free v.slots c.deref.result.now c.free_place.result k c.deref.ensures.value c.free_place.ensures (c.in_ok-place.was) in
     subst (λ (s : SlotView). IsSome s.kept) (sym (read_slot v c.self.invariant k c.index_mut.result.now f.within c.index_mut.ensures.value)) (free_kept v c.self.invariant k f)
 
-pub push-requires-clause-room : goal.push-requires-clause-room
-push-requires-clause-room c =
+pub push-requires : goal.push-requires
+push-requires c =
     let v = view_of c.self.inside in
     let f = found_in is_free v.slots c.deref.result.now c.free_place.result c.in_ok-place.place c.deref.ensures.value c.free_place.ensures (c.in_ok-place.was) in
     subst (λ (w : PoolView). has_free w ≡ true → length w.log.events < w.log.room) (sym c.self.view_is) c.requires.room f.any

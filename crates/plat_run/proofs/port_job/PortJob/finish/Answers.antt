@@ -1,7 +1,7 @@
 use Rattle.std.proofs.Common.{ap, subst, ◌∙◌}
 use Rattle.net_end.specs.Leaves.{IsFinished}
 use Rattle.plat_run.specs.Ports.{PortRun}
-use Rattle.plat_run.proofs.PortLemmas.{port_finished}
+use Rattle.fourphase_port.proofs.Finished.{port_finished}
 use Rattle.plat_run.proofs.port_job.PortJob.finish.Goals as goal
 
 pub finish-note-requires : goal.finish-note-requires

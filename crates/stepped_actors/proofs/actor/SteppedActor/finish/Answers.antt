@@ -3,7 +3,7 @@ use Rattle.net_end.specs.Leaves.{IsFinished}
 use Rattle.stepped_actors.specs.declared.actor.SteppedActor.{SteppedActor}
 use Rattle.stepped_actors.specs.Actors.{HasEnded, KeepsAs, number_of}
 use Rattle.decoupled_run.proofs.DoneLemmas.{decoupled_finished}
-use Rattle.stepped_actors.proofs.Ending.{port_finished}
+use Rattle.fourphase_port.proofs.Finished.{port_finished}
 use Rattle.stepped_actors.proofs.actor.SteppedActor.finish.Goals as goal
 
 pub returns-in-Decoupled : goal.returns-in-Decoupled

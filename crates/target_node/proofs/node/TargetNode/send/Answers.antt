@@ -35,15 +35,6 @@ returns-clause-sent g c =
     sends_not frame g.N.Naming.tokens c.args.self.now c.in-Some.response c.in-Some-back.back c.args.note.knows is (sym c.take.ensures.value ∙ c.in-Some.is)
     (subst (λ (o : Option MemoryResponse). HasResponded frame g.N.Naming.tokens c.in-Some.response c.args.note.knows is o) c.in-Some-back.is c.respond-back.ensures.responded)
 
-pub returns-in_default-clause-note : goal.returns-in_default-clause-note
-returns-in_default-clause-note g c = c.requires.note
-
-pub returns-in_default-clause-knew : goal.returns-in_default-clause-knew
-returns-in_default-clause-knew g c = λ x has. has
-
-pub returns-in_default-clause-below : goal.returns-in_default-clause-below
-returns-in_default-clause-below g c = c.requires.below
-
 pub respond-back-requires-clause-note : goal.respond-back-requires-clause-note
 respond-back-requires-clause-note g c = c.requires.note
 
@@ -64,9 +55,6 @@ returns-clause-knew g c = c.respond-back.ensures.knew
 
 pub returns-clause-below : goal.returns-clause-below
 returns-clause-below g c = c.respond-back.ensures.below
-
-pub returns-in_default-clause-adds : goal.returns-in_default-clause-adds
-returns-in_default-clause-adds g c = λ sent. absurd (not_both sent)
 
 pub returns-in_default-back-clause-adds : goal.returns-in_default-back-clause-adds
 returns-in_default-back-clause-adds g c =

@@ -5,18 +5,18 @@ use Rattle.token_book.specs.declared.view.View.{View}
 use Rattle.token_book.specs.declared.view.View.TheVariants.{Spent}
 use Rattle.token_book.specs.Rule.{IsCounted, a_book, a_token, out_in, made_in, taking_in, Settled}
 use Rattle.token_book.proofs.Keeps.{takes_in, settles}
-use Rattle.token_book.proofs.tokens.Tokens.retire.Goals as goal
+use Rattle.token_book.proofs.tokens.Tokens.retire_amount.Goals as goal
 
 pub join_seat-requires : goal.join_seat-requires
 join_seat-requires c =
     let b = c.book.inside in
-    let t = c.args.token in
+    let t = c.args.held in
     let s = c.into_seat-seat.result in
-    let owner : t.owner ≡ b.owner = c.requires.token.1 ∙ sym (ap (λ x. x.owner) c.book.view_is) in
+    let owner : t.owner ≡ b.owner = c.requires.held.1 ∙ sym (ap (λ x. x.owner) c.book.view_is) in
     let theirs : s.me.0 ≡ a_token b.owner t.name t.amount = ap (λ x. x.0) c.into_seat-seat.ensures.1 ∙ ap (λ (o : ℕ). a_token o t.name t.amount) owner in
     let mine : b.seat.me.0 ≡ a_book b.owner (out_in b.seat.me.0) (made_in b.seat.me.0) = ap (λ x. x.0) c.book.invariant in (
       ap (λ x. x.table) c.book.view_is ∙ c.requires.book ∙ sym c.self.view_is,
-      c.into_seat-seat.ensures.0 ∙ c.requires.token.0 ∙ sym c.self.view_is,
+      c.into_seat-seat.ensures.0 ∙ c.requires.held.0 ∙ sym c.self.view_is,
       ap (λ x. x.1) c.into_seat-seat.ensures.1,
       omega (arith, c.self.invariant),
       subst (λ (v : View). Joins IsCounted b.seat.id v s.id s.me.0 (taking_in v s.me.0) Spent) (sym mine)
@@ -27,11 +27,11 @@ join_seat-requires c =
 pub load-requires : goal.load-requires
 load-requires c =
     let b = c.book.inside in
-    let t = c.args.token in
+    let t = c.args.held in
     let s = c.into_seat-seat.result in
     let seat = c.join_seat.new.seat in
     let slots = c.self.inside.table.shared.table_id.slots in
-    let owner : t.owner ≡ b.owner = c.requires.token.1 ∙ sym (ap (λ x. x.owner) c.book.view_is) in
+    let owner : t.owner ≡ b.owner = c.requires.held.1 ∙ sym (ap (λ x. x.owner) c.book.view_is) in
     let theirs : s.me.0 ≡ a_token b.owner t.name t.amount = ap (λ x. x.0) c.into_seat-seat.ensures.1 ∙ ap (λ (o : ℕ). a_token o t.name t.amount) owner in
     let taken = taking_in (a_book b.owner (out_in b.seat.me.0) (made_in b.seat.me.0)) (a_token b.owner t.name t.amount) in
     let me : seat.me ≡ (taken, []) =

@@ -1,11 +1,12 @@
--- What initiators leave that have finished.
-use Rattle.std.proofs.Common.{◌≡◌, ℕ, List, length, sym, subst, inl}
+-- What a four-phase initiator leaves that has finished.
+use Rattle.std.proofs.Common.{◌≡◌, List, length, sym, subst, inl}
 use Rattle.atomic_table.specs.Seated.{TableId}
 use Rattle.view_lists.specs.Lists.{Within}
 use Rattle.one_history.specs.declared.entry.Entry.{Entry as HistoryEntry}
 use Rattle.one_history.specs.declared.view.Frame.{Frame}
 use Rattle.one_history.specs.Held.{Held}
 use Rattle.token_book.specs.Purse.{Purse, left_of}
+use Rattle.token_book.proofs.Purses.{nothing_past}
 use Rattle.tlm_types.specs.declared.ends.EndOf.{EndOf}
 use Rattle.tlm_types.specs.declared.entry.Content.{Content}
 use Rattle.tlm_model.specs.Plan.{Plan}
@@ -18,8 +19,8 @@ use Rattle.port_moves.specs.State.{IsPort, StateView, with_note}
 use Rattle.net_end.specs.Closed.{events_in}
 use Rattle.net_end.specs.Done.{IsDoneWithGrants}
 use Rattle.net_end.specs.Leaves.{IsFinished}
-use Rattle.decoupled_run.proofs.BeginLemmas.{nothing_past}
 
+-- A port that has finished leaves what is wanted of one that has.
 module _ (table tokens : TableId) (frame : Frame Plan) (s : StateView) (note : Held Content Plan) (end : EndOf) (port : IsPort table tokens frame (with_note s note)) (finished : HasFinished s) (end_is : IsEndOfPort s.port end) where
   abbrev p : Plan
   p = frame.world

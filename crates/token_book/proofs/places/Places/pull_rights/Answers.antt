@@ -1,12 +1,9 @@
 use Rattle.std.proofs.Common.{◌≡◌, ℕ, None, sym, ap, ◌∙◌, subst, arith}
 use Rattle.std.proofs.lemmas.Option.{slice_get_within}
-use Rattle.token_book.specs.Ticket.{entry_rights}
-use Rattle.token_book.specs.Pocket.{without_tickets}
-use Rattle.token_book.specs.Purse.{Purse, purse, left_in, left_of, bytes_of, IsOf, AreApart, AreFull}
+use Rattle.token_book.specs.Pocket.{rights_of, without_rights}
+use Rattle.token_book.specs.Purse.{purse, left_in, bytes_left_in, AreApart, AreFull}
 use Rattle.token_book.proofs.FoundPlaces.{IsFound, found, held_found, get-set, settled, AreApart-settled, AreFull-settled, with_pocket-settled}
-use Rattle.token_book.proofs.Pulls.{left_of-pulled_many, bytes_of-pulled_many, IsOf-pulled_many}
-use Rattle.token_book.proofs.Rooms.{held-pulled_many}
-use Rattle.token_book.proofs.places.Places.pull_many.Goals as goal
+use Rattle.token_book.proofs.places.Places.pull_rights.Goals as goal
 
 -- the place that was found
 here : (c : goal.After-index_mut) → IsFound c.args.self.now c.args.object c.in-Some.i c.self.inside.places.items c.index_mut.result.now
@@ -16,10 +13,10 @@ after : (c : goal.After-drop_empty) → IsFound c.args.self.now c.args.object c.
 after c = found c.args.self.now c.self.inside.most c.args.object c.in-Some.i c.self.inside.places.items c.deref.result.now c.index_mut.result.now c.self.view_is c.deref.ensures.value c.in-Some.ensures.found c.index_mut.ensures.value
 
 -- the places after it was changed
-settles : (c : goal.After-drop_empty) → c.drop_empty.new.places.items ≡ settled c.self.inside.places.items c.in-Some.i (c.index_mut.result.now.0, without_tickets c.args.tickets c.index_mut.result.now.1)
+settles : (c : goal.After-drop_empty) → c.drop_empty.new.places.items ≡ settled c.self.inside.places.items c.in-Some.i (c.index_mut.result.now.0, without_rights c.args.tickets c.args.bytes c.index_mut.result.now.1)
 settles c =
-    c.drop_empty.ensures.items c.pull_many-token.new.self (get-set c.self.inside.places.items c.in-Some.i c.index_mut.result.now c.pull_many-token.new.self (after c).at)
-    ∙ ap (settled c.self.inside.places.items c.in-Some.i) c.pull_many-token.ensures.place
+    c.drop_empty.ensures.items c.pull_rights-rights.new.self (get-set c.self.inside.places.items c.in-Some.i c.index_mut.result.now c.pull_rights-rights.new.self (after c).at)
+    ∙ ap (settled c.self.inside.places.items c.in-Some.i) c.pull_rights-rights.ensures.place
 
 pub unreachable-requires : goal.unreachable-requires
 unreachable-requires c =
@@ -31,11 +28,14 @@ index_mut-requires c =
     let there = c.in-Some.ensures.found in
     omega (arith, slice_get_within c.deref.result.now c.in-Some.i (c.args.object, there.0) there.1, c.deref.ensures.len)
 
-pub pull_many-token-requires-clause-table : goal.pull_many-token-requires-clause-table
-pull_many-token-requires-clause-table c = c.requires.of c.args.object c.index_mut.result.now.1 (here c).held
+pub pull_rights-rights-requires-clause-table : goal.pull_rights-rights-requires-clause-table
+pull_rights-rights-requires-clause-table c = c.requires.of c.args.object c.index_mut.result.now.1 (here c).held
 
-pub pull_many-token-requires-clause-left : goal.pull_many-token-requires-clause-left
-pull_many-token-requires-clause-left c = omega (arith, c.requires.left, ap left_in (here c).held)
+pub pull_rights-rights-requires-clause-left : goal.pull_rights-rights-requires-clause-left
+pull_rights-rights-requires-clause-left c = omega (arith, c.requires.left, ap left_in (here c).held)
+
+pub pull_rights-rights-requires-clause-bytes : goal.pull_rights-rights-requires-clause-bytes
+pull_rights-rights-requires-clause-bytes c = omega (arith, c.requires.bytes, ap bytes_left_in (here c).held)
 
 pub drop_empty-requires : goal.drop_empty-requires
 drop_empty-requires c =
@@ -46,7 +46,7 @@ pub invariant_of-self : goal.invariant_of-self
 invariant_of-self c =
     let es = c.self.inside.places.items in
     let e = c.index_mut.result.now in
-    let p = without_tickets c.args.tickets e.1 in
+    let p = without_rights c.args.tickets c.args.bytes e.1 in
     let at = (after c).at in
     record {
       apart = subst AreApart (sym (settles c)) (AreApart-settled es c.in-Some.i e p at c.self.invariant.apart);
@@ -58,19 +58,7 @@ invariant_of-self c =
 pub returns-clause-wallet : goal.returns-clause-wallet
 returns-clause-wallet c =
     ap (purse c.self.inside.most) (settles c)
-    ∙ with_pocket-settled c.args.tokens.now c.args.self.now c.self.inside.most c.args.object c.in-Some.i c.self.inside.places.items c.index_mut.result.now (without_tickets c.args.tickets) c.self.view_is c.self.invariant.apart (after c)
-
-pub returns-clause-of : goal.returns-clause-of
-returns-clause-of c = subst (IsOf c.args.tokens.now) (sym (returns-clause-wallet c)) (IsOf-pulled_many c.args.tokens.now c.args.self.now c.args.object c.args.tickets c.requires.of)
-
-pub returns-clause-left : goal.returns-clause-left
-returns-clause-left c o = ap (λ (w : Purse). left_of w o) (returns-clause-wallet c) ∙ left_of-pulled_many c.args.tokens.now c.args.self.now c.args.object c.args.tickets o
-
-pub returns-clause-bytes : goal.returns-clause-bytes
-returns-clause-bytes c o = ap (λ (w : Purse). bytes_of w o) (returns-clause-wallet c) ∙ bytes_of-pulled_many c.args.tokens.now c.args.self.now c.args.object c.args.tickets o
-
-pub returns-clause-held : goal.returns-clause-held
-returns-clause-held c = held-pulled_many c.args.tokens.now c.args.self.now _ c.args.object c.args.tickets (returns-clause-wallet c) (omega (arith, c.requires.some, c.requires.left))
+    ∙ with_pocket-settled c.args.tokens.now c.args.self.now c.self.inside.most c.args.object c.in-Some.i c.self.inside.places.items c.index_mut.result.now (without_rights c.args.tickets c.args.bytes) c.self.view_is c.self.invariant.apart (after c)
 
 pub returns-clause-rights : goal.returns-clause-rights
-returns-clause-rights c = c.pull_many-token.ensures.rights ∙ ap (λ (o : ℕ). entry_rights c.args.tokens.now o c.args.tickets) (after c).object
+returns-clause-rights c = c.pull_rights-rights.ensures.rights ∙ ap (λ (o : ℕ). (o, rights_of c.args.tokens.now c.args.tickets c.args.bytes)) (after c).object
