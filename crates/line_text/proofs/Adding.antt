@@ -1,5 +1,5 @@
 -- What is written at a place of some bytes, one thing after another.
-use Rattle.std.proofs.Common.{◌≡◌, ℕ, ◌+◌, ◌-◌, ◌≤◌, List, [], ◌++◌, length, take, drop, ap, sym, ◌∙◌, arith, append_assoc, length-append, length-drop, length-take-le, take-add, take-append-drop}
+use Rattle.std.proofs.Common.{◌≡◌, ℕ, ◌+◌, ◌≤◌, List, [], ◌++◌, length, take, drop, ap, sym, ◌∙◌, arith, append_assoc, length-append, length-take-le, take-add}
 use Rattle.std.proofs.Math.Seq.{take-append-add, take-append_seam}
 use Rattle.std.proofs.lemmas.List.{append-nil, take-append-le, take-take, take_all}
 use Rattle.line_text.specs.Pieces.{Adds}
@@ -46,18 +46,6 @@ adds-part old new bytes text start count within few e is =
       ends = part.ends;
       holds = sym (take-take (start + count) (start + length bytes) new (omega arith)) ∙ part.holds;
     }
-
--- the first bytes of a word, and its last over them
-pub adds-ends : (old mid new word : List ℕ) (start count rest i j : ℕ) → start ≤ length old → count ≤ length word → rest ≤ count → Adds old mid start i (take count word) →
-    Adds mid new (start + rest) j (take (length word - rest) (drop rest word)) → Adds old new start j word
-adds-ends old mid new word start count rest i j within few over p q =
-    let size : length (take count word) ≡ count = length-take-le count word few in
-    let front : take (start + length (take count word)) mid ≡ take start old ++ take count word = ap (λ (n : ℕ). take n mid) (sym p.ends) ∙ p.holds in
-    let part = adds-part old mid (take count word) (take rest word) start rest within (omega (arith, size)) front (take-take rest count word over) in
-    let back = take (length word - rest) (drop rest word) in
-    let all : back ≡ drop rest word = take_all (length word - rest) (drop rest word) (omega (arith, length-drop rest word)) in
-    adds-as old new start j (take rest word ++ back) word (adds-more old mid new start (start + rest) j (take rest word) back part q)
-    (ap (λ (l : List ℕ). take rest word ++ l) all ∙ take-append-drop rest word)
 
 -- all of them
 pub adds-word : (old new word rest : List ℕ) (start : ℕ) → start ≤ length old → new ≡ take start old ++ word ++ rest → Adds old new start (start + length word) word

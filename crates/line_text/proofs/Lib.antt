@@ -4,3 +4,4 @@ pub mod WordLemmas
 pub mod NumberLemmas
 pub mod HexLemmas
 mod CallLemmas
+pub mod NumberingLemmas

@@ -5,39 +5,34 @@ ghost use Rattle.tlm_model.specs.Text.{data_word};
 ghost use Rattle.line_text.specs.AccessText.{access_room, access_text, IsShort};
 ghost use Rattle.line_text.specs.Pieces.{Adds};
 
-use crate::pieces::{
-    write_data, write_name, write_seq, write_status, write_times, write_unmasked, write_word,
-};
+use crate::front::{Front, write_front};
+use crate::numbering::ShortWord;
+use crate::pieces::{write_data, write_status, write_unmasked, write_word};
 use outside::Piece;
-use tlm_types::{Facts, Head};
+use tlm_types::Facts;
 
 /// The words of the line of an access without byte enables.
 #[derive(Clone, Copy)]
 pub struct AccessLine<'a> {
-    pub head: Head,
-    pub initiator: &'a [u8],
-    pub memory: &'a [u8],
+    pub front: Front<'a>,
+    pub memory: &'a ShortWord,
     pub facts: Facts,
     pub shown: &'a [u8],
 }
 
-/// How many bytes a name of a short line has at most.
-pub const NAME_MAX: usize = 1024;
-
 // How many bytes its access shows at most.
 const SHOWN_MAX: usize = 4096;
 
-// How many bytes its numbers and the words between them take at most.
-const WORDS_MAX: usize = 192;
+// How many bytes all else takes at most.
+const WORDS_MAX: usize = 299;
 
 impl AccessLine<'_> {
-    /// It is as short as the lines of a run are.
+    /// It shows as few bytes as the lines of a run do.
+    #[inline(always)]
     pub fn is_short(&self) -> bool
-        ensures { IsTrue result → IsShort self.now }
+        ensures { IsTrue result → length self.now.shown.now ≤ 4096 }
     {
-        self.initiator.len() <= NAME_MAX
-            && self.memory.len() <= NAME_MAX
-            && self.shown.len() <= SHOWN_MAX
+        self.shown.len() <= SHOWN_MAX
     }
 }
 
@@ -66,10 +61,8 @@ fn write_access(bytes: &mut [u8], start: usize, line: &AccessLine<'_>) -> usize
     ensures adds { Adds bytes.old bytes.new start result (access_text line.now) }
     ensures within { result ≤ start + access_room line.now }
 {
-    let name = write_times(bytes, start, line.head.position, line.head.time);
-    let seq = write_name(bytes, name, line.initiator);
-    let memory = write_seq(bytes, seq, line.head.txn.seq);
-    let asked = write_name(bytes, memory, line.memory);
+    let memory = write_front(bytes, start, line.front);
+    let asked = line.memory.write(bytes, memory);
     let shown = write_unmasked(bytes, asked, line.facts);
     let status = write_shown(bytes, shown, line.shown);
     write_status(bytes, status, line.facts.status)
@@ -84,7 +77,7 @@ impl Piece for AccessLine<'_> {
 
     #[inline(always)]
     fn most(&self) -> usize {
-        WORDS_MAX + self.initiator.len() + self.memory.len() + 2 * self.shown.len()
+        WORDS_MAX + 2 * self.shown.len()
     }
 
     #[inline(always)]

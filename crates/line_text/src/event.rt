@@ -1,80 +1,32 @@
 // The line of a call at a hop, or of an entry of a pool. It is written in one go, as that of a short access is.
-ghost use Rattle.std.specs.Prelude.{◌≡◌, ◌+◌, ◌≤◌, ◌++◌, length, IsTrue, codes};
+ghost use Rattle.std.specs.Prelude.{◌≡◌, ◌+◌, ◌≤◌, ◌++◌, length, codes};
 ghost use Rattle.std.specs.Fmt.{decimal};
 ghost use Rattle.report_model.specs.Report.{what_words};
 ghost use Rattle.tlm_model.specs.Text.{line_of};
 ghost use Rattle.log_items.specs.Items.{brief_what};
-ghost use Rattle.line_text.specs.EventText.{event_text, freed_text, place_text, IsBrief, IsBriefPlace};
+ghost use Rattle.line_text.specs.EventText.{event_text, freed_text};
+ghost use Rattle.line_text.specs.FrontText.{IsFrontReady};
 ghost use Rattle.line_text.specs.Pieces.{Adds};
 
-use crate::access::NAME_MAX;
 use crate::call::write_call;
-use crate::pieces::{write_name, write_number, write_seq, write_times, write_word};
+use crate::front::{Front, write_front};
+use crate::numbering::ShortWord;
+use crate::pieces::{write_number, write_word};
 use log_items::BriefEvent;
 use outside::Piece;
-use tlm_types::{Head, TlmSync};
-
-/// The name of a hop, or of a pool, by that of its initiator.
-#[derive(Clone, Copy)]
-pub enum EventPlace<'a> {
-    Hop { name: &'a [u8] },
-    Pool { initiator: &'a [u8] },
-}
+use tlm_types::TlmSync;
 
 /// The words of the line of a call at a hop, or of an entry of a pool.
 #[derive(Clone, Copy)]
 pub struct EventLine<'a> {
-    pub head: Head,
-    pub initiator: &'a [u8],
-    pub place: EventPlace<'a>,
+    pub front: Front<'a>,
+    // The name of the hop or of the pool.
+    pub object: &'a ShortWord,
     pub event: BriefEvent,
 }
 
-// How many bytes the name of a hop of a run has at most: those of its two ends, and a mark between them.
-const HOP_NAME_MAX: usize = 2 * NAME_MAX + 1;
-
-// How many bytes such a line takes at most, where its names are short.
-const EVENT_MAX: usize = 3173;
-
-impl EventPlace<'_> {
-    // Its names are as short as those of a run are.
-    #[inline(always)]
-    fn is_brief(&self) -> bool
-        ensures { IsTrue result → IsBriefPlace self.now }
-    {
-        match self {
-            EventPlace::Hop { name } => name.len() <= HOP_NAME_MAX,
-            EventPlace::Pool { initiator } => initiator.len() <= NAME_MAX,
-        }
-    }
-}
-
-impl EventLine<'_> {
-    /// Its names are as short as those of a run are.
-    #[inline(always)]
-    pub fn is_brief(&self) -> bool
-        ensures { IsTrue result → IsBrief self.now }
-    {
-        self.initiator.len() <= NAME_MAX && self.place.is_brief()
-    }
-}
-
-// The name of a hop or a pool.
-#[inline(always)]
-fn write_place(bytes: &mut [u8], start: usize, place: EventPlace<'_>) -> usize
-    requires brief { IsBriefPlace place }
-    requires room { start + 2049 ≤ length bytes.old }
-    ensures adds { Adds bytes.old bytes.new start result (place_text place.entry) }
-    ensures within { result ≤ start + 2049 }
-{
-    match place {
-        EventPlace::Hop { name } => write_name(bytes, start, name),
-        EventPlace::Pool { initiator } => {
-            let mark = write_name(bytes, start, initiator);
-            write_word(bytes, mark, b".pool")
-        }
-    }
-}
+// How many bytes such a line takes at most.
+const EVENT_MAX: usize = 207;
 
 // A word with its spaces, and the number of a slot.
 #[inline(always)]
@@ -132,24 +84,22 @@ fn write_freed(bytes: &mut [u8], start: usize, freed: bool) -> usize
 // Writes the line.
 #[inline(always)]
 fn write_event(bytes: &mut [u8], start: usize, line: &EventLine<'_>) -> usize
-    requires brief { IsBrief line.now }
-    requires room { start + 3173 ≤ length bytes.old }
+    requires ready { IsFrontReady line.now.front }
+    requires room { start + 207 ≤ length bytes.old }
     ensures adds { Adds bytes.old bytes.new start result (event_text line.now) }
-    ensures within { result ≤ start + 3173 }
+    ensures within { result ≤ start + 207 }
 {
-    let name = write_times(bytes, start, line.head.position, line.head.time);
-    let seq = write_name(bytes, name, line.initiator);
-    let place = write_seq(bytes, seq, line.head.txn.seq);
-    let what = write_place(bytes, place, line.place);
+    let object = write_front(bytes, start, line.front);
+    let what = line.object.write(bytes, object);
     write_what(bytes, what, line.event)
 }
 
 impl Piece for EventLine<'_> {
     ghost text = { event_text };
 
-    ghost most = { λ _. 3173 };
+    ghost most = { λ _. 207 };
 
-    ghost writable = { IsBrief };
+    ghost writable = { λ line. IsFrontReady line.front };
 
     #[inline(always)]
     fn most(&self) -> usize {

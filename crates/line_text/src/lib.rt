@@ -2,6 +2,8 @@
 //!
 //! - An `AccessLine` is the line of an access without byte enables, an `EventLine` that of a call at a hop or of an
 //!   entry of a pool, and a `RowLine` that of some bytes of a memory. Each is a `Piece` for a sink.
+//! - A `Front` is what the line of each entry begins with. It refers to `Numbering`s, which keep a word with the digits
+//!   of hundreds behind it, and a line refers to a `ShortWord` for the name of its object: what is kept is copied.
 //! - `write_piece` writes a `LinePiece`, words that follow one another, `write_data` bytes as digits, and
 //!   `write_bytes` bytes as they are.
 //!
@@ -13,10 +15,14 @@
 mod access;
 mod call;
 mod event;
+mod front;
+mod numbering;
 mod pieces;
 mod row;
 
 pub use access::AccessLine;
-pub use event::{EventLine, EventPlace};
+pub use event::EventLine;
+pub use front::Front;
+pub use numbering::{Numbering, ShortWord};
 pub use pieces::{LinePiece, PIECE_MAX, write_bytes, write_data, write_piece};
 pub use row::RowLine;

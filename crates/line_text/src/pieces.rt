@@ -57,42 +57,13 @@ pub fn write_word<const N: usize>(bytes: &mut [u8], start: usize, word: &[u8; N]
     start + N
 }
 
-// Writes the first and the last N bytes of a word, which are all of it.
-#[inline(always)]
-fn write_ends<const N: usize>(bytes: &mut [u8], start: usize, word: &[u8]) -> usize
-    requires few { (N ≤ length word.now) × (length word.now ≤ 2 * N) }
-    requires room { start + length word.now ≤ length bytes.old }
-    ensures { Adds bytes.old bytes.new start result word.now }
-{
-    let (Some(front), Some(back)) = (word.first_chunk::<N>(), word.last_chunk::<N>()) else {
-        unreachable!()
-    };
-    write_word(bytes, start, front);
-    write_word(bytes, start + (word.len() - N), back)
-}
-
-/// Writes a name. A short one takes no call, since as many bytes as are known are copied at once.
-#[inline(always)]
-pub fn write_name(bytes: &mut [u8], start: usize, name: &[u8]) -> usize
-    requires { start + length name.now ≤ length bytes.old }
-    ensures { Adds bytes.old bytes.new start result name.now }
-{
-    match name.len() {
-        1 => write_ends::<1>(bytes, start, name),
-        2..=3 => write_ends::<2>(bytes, start, name),
-        4..=7 => write_ends::<4>(bytes, start, name),
-        8..=16 => write_ends::<8>(bytes, start, name),
-        _ => write_bytes(bytes, start, name),
-    }
-}
-
 // The two digits of each number below 100.
 static DECIMAL_PAIRS: [u8; 200] =
     *b"00010203040506070809101112131415161718192021222324252627282930313233343536373839404142434445464748495051525354555657585960616263646566676869707172737475767778798081828384858687888990919293949596979899";
 
 // The digits of a number below 100.
 #[inline(always)]
-fn decimal_pair(number: u64) -> [u8; 2]
+pub fn decimal_pair(number: u64) -> [u8; 2]
     requires { number < 100 }
     ensures { result ≡ (48 + number / 10) ∷ (48 + number % 10) ∷ [] }
 {
@@ -102,7 +73,7 @@ fn decimal_pair(number: u64) -> [u8; 2]
 
 // A number of one or two digits.
 #[inline(always)]
-fn write_short_decimal(bytes: &mut [u8], start: usize, number: u64) -> usize
+pub fn write_short_decimal(bytes: &mut [u8], start: usize, number: u64) -> usize
     requires { (number < 100) × (start + length (decimal number) ≤ length bytes.old) }
     ensures { Adds bytes.old bytes.new start result (decimal number) }
 {
@@ -184,7 +155,7 @@ fn write_spaced(bytes: &mut [u8], start: usize, number: u64) -> usize
 
 // A number that mostly has several digits, and a space. Up to eight digits take no call.
 #[inline(always)]
-fn write_count(bytes: &mut [u8], start: usize, number: u64) -> usize
+pub fn write_count(bytes: &mut [u8], start: usize, number: u64) -> usize
     requires { start + 21 ≤ length bytes.old }
     ensures adds { Adds bytes.old bytes.new start result (decimal number ++ codes " ") }
     ensures within { result ≤ start + 21 }

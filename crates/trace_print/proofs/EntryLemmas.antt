@@ -3,12 +3,10 @@ use Rattle.std.proofs.Common.{◌≡◌, ℕ, zero, suc, ◌+◌, ◌<◌, List,
 use Rattle.std.specs.Prelude.{◌≢◌, codes, is_some, option_and_then, slice_get, if◌then◌else◌}
 use Rattle.std.specs.Fmt.{decimal}
 use Rattle.std.specs.List.{join_with_byte}
-use Rattle.std.proofs.lemmas.Bool.{true≢false}
 use Rattle.std.proofs.lemmas.List.{map-append}
 use Rattle.std.proofs.lemmas.List.Elements.{filter-append}
 use Rattle.tlm_types.specs.declared.words.Command.{Command}
 use Rattle.tlm_types.specs.declared.words.Command.TheVariants.{Read, Write, Ignore, FetchAdd}
-use Rattle.tlm_types.specs.declared.words.Kind.{Kind}
 use Rattle.tlm_types.specs.declared.words.ObjectNo.TheVariants.{Memory as memory_object}
 use Rattle.tlm_types.specs.declared.words.TlmSync.{TlmSync}
 use Rattle.tlm_types.specs.declared.words.TlmSync.TheVariants.{Accepted, Updated, Completed}
@@ -16,7 +14,7 @@ use Rattle.tlm_types.specs.declared.entry.Entry.{Entry}
 use Rattle.tlm_types.specs.declared.entry.Facts.{Facts}
 use Rattle.tlm_types.specs.declared.entry.What.{What}
 use Rattle.tlm_types.specs.declared.entry.What.TheVariants.{Access as Accessed, Granted, Invalidated, Closed, Call, Take, Acquire, Release}
-use Rattle.tlm_types.specs.Entries.{enables_of, facts_of, got_of, plain_of, sent_of}
+use Rattle.tlm_types.specs.Entries.{enables_of, facts_of, got_of, head_of, plain_of, sent_of}
 use Rattle.tlm_model.specs.declared.platform.Platform.{Platform}
 use Rattle.tlm_model.specs.declared.trace.Trace.{Trace}
 use Rattle.tlm_model.specs.declared.trace.Trace.TheVariants.{All, Accesses, None as no_entries}
@@ -24,7 +22,8 @@ use Rattle.report_model.specs.Report.{bytes_word, command_word, entry_words, fre
 use Rattle.tlm_types.specs.Entries.{is_access}
 use Rattle.tlm_model.specs.Text.{address_word, data_word, line_of}
 use Rattle.line_text.specs.EventText.{freed_text}
-use Rattle.line_text.specs.Pieces.{asked_text, seq_text, status_text, times_text, unmasked_text, width_text}
+use Rattle.line_text.specs.Pieces.{asked_text, status_text, unmasked_text, width_text}
+use Rattle.trace_print.specs.Hops.{front_of}
 use Rattle.trace_print.specs.Told.{access_words, operand_at, shown_at, shown_of, text_of}
 use Rattle.trace_print.proofs.TextLemmas.{access-line, head-front}
 pub use Rattle.trace_print.proofs.Texts.{text-append, text-one}
@@ -115,9 +114,9 @@ access-is (Take s) facts enables operand shown ef ee eo es = cc
 access-is (Acquire s) facts enables operand shown ef ee eo es = cc
 access-is (Release s f) facts enables operand shown ef ee eo es = cc
 
--- the line of an entry, from the parts of its head and what it was
+-- the line of an entry, from its front, its object and what it was
 pub parts-text-is : (p : Platform) (e : Entry) (object : List ℕ) (w : What) → object ≡ object_word p e.object → w ≡ e.what →
-    times_text e.position e.time ++ (initiator_name p e.txn.initiator ++ (seq_text e.txn.seq ++ (object ++ (codes " " ++ line_of (what_words w))))) ≡ line_of (entry_words p e)
+    front_of p (head_of e) ++ (object ++ (codes " " ++ line_of (what_words w))) ≡ line_of (entry_words p e)
 parts-text-is p e object w at what =
     head-front (decimal e.position) (decimal e.time) (initiator_name p e.txn.initiator) (codes ".") (decimal e.txn.seq) object (codes " ") (codes " " ++ line_of (what_words w))
     ∙ (entry-text-is (decimal e.position) (decimal e.time) (txn_word p e.txn) object w
@@ -126,7 +125,7 @@ parts-text-is p e object w at what =
 
 -- the line of an access at a memory, from its parts, where no byte is masked
 pub access-text-is : (p : Platform) (e : Entry) (memory : ℕ) (f : Facts) (enables shown : List ℕ) → e.object ≡ memory_object memory → facts_of e.what ≡ Some f → enables_of e.what ≡ Some enables → operand_at e.what ≡ Some [] → shown_at e.what ≡ Some shown → codes "-" ≡ data_word enables →
-    times_text e.position e.time ++ (initiator_name p e.txn.initiator ++ (seq_text e.txn.seq ++ (memory_name p memory ++ (unmasked_text f ++ (data_word shown ++ status_text f.status))))) ≡ line_of (entry_words p e)
+    front_of p (head_of e) ++ (memory_name p memory ++ (unmasked_text f ++ (data_word shown ++ status_text f.status))) ≡ line_of (entry_words p e)
 access-text-is p e memory f enables shown at facts masks alone bytes none =
     let behind = unmasked_text f ++ (data_word shown ++ status_text f.status) in
     let words = access-is e.what f enables [] shown facts masks alone bytes in
@@ -134,7 +133,7 @@ access-text-is p e memory f enables shown at facts masks alone bytes none =
     ap (λ (dash : List ℕ). (asked_text f ++ (dash ++ width_text f.width)) ++ (data_word shown ++ status_text f.status)) none
     ∙ (access-line (way_word f.way) (codes " ") (command_word f.command) (address_word f.offset) (decimal f.length) (codes "be=") (data_word enables) (codes "sw=") (decimal f.width) (data_word shown) (status_word f.status) (codes "\n")
     ∙ ap (λ (ws : List (List ℕ)). codes " " ++ line_of ws) words) in
-    ap (λ (l : List ℕ). times_text e.position e.time ++ (initiator_name p e.txn.initiator ++ (seq_text e.txn.seq ++ (memory_name p memory ++ l)))) told
+    ap (λ (l : List ℕ). front_of p (head_of e) ++ (memory_name p memory ++ l)) told
     ∙ parts-text-is p e (memory_name p memory) e.what (ap (object_word p) (sym at)) refl
 
 pub has-facts : (w : What) → is_some (facts_of w) ≡ is_access w

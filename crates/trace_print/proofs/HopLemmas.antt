@@ -1,5 +1,5 @@
 -- The names of hops by their ends.
-use Rattle.std.proofs.Common.{◌≡◌, ℕ, ◌+◌, ◌<◌, zero, suc, length, List, [], ◌∷◌, ◌++◌, map, Option, Some, inl, inr, refl, ap, sym, ◌∙◌, arith}
+use Rattle.std.proofs.Common.{◌≡◌, ℕ, ◌+◌, ◌<◌, zero, suc, length, List, [], ◌∷◌, ◌++◌, map, set, Option, Some, inl, inr, refl, ap, sym, ◌∙◌, arith}
 use Rattle.std.specs.Prelude.{option_map, slice_get, unwrap_or}
 use Rattle.std.specs.List.{enumerate_from, flat_map}
 use Rattle.std.proofs.lemmas.List.{map-append}
@@ -13,8 +13,8 @@ use Rattle.tlm_model.specs.declared.platform.WindowRow.{WindowRow}
 use Rattle.report_model.specs.Report.{hop_word, hop_words, name_of_initiator, name_of_router, object_word, target_name}
 use Rattle.route_plan.specs.declared.ends.HopEnds.{HopEnds}
 use Rattle.route_plan.specs.Routes.{binding_ends, ends_of, router_ends, window_ends}
-use Rattle.run_outcome.proofs.ListLemmas.{at_push}
-use Rattle.trace_print.specs.Hops.{ends_at, hop_word_by, hop_word_of, object_word_by, up_name, AreHopNames}
+use Rattle.run_outcome.proofs.ListLemmas.{at_push, at_set}
+use Rattle.trace_print.specs.Hops.{ends_at, hop_word_by, hop_word_of, object_word_by, up_name, AreEach}
 
 -- the rows from the n-th on are these
 abbrev Continues : {X : Type 0} → List X → ℕ → List X → Type 0
@@ -65,12 +65,20 @@ pub hop-named : (p : Platform) (h : ℕ) (ends : HopEnds) → slice_get (ends_of
 hop-named p h ends there =
     ap (λ (l : List (List ℕ)). slice_get l h) (sym (words-of-ends p)) ∙ (slice_get-map (hop_word_of p) (ends_of p) h ∙ ap (option_map (hop_word_of p)) there)
 
--- the names of hops with one more
-pub names-push : (p : Platform) (names : List (List ℕ)) (name : List ℕ) → AreHopNames p names → slice_get (hop_words p) (length names) ≡ Some name → AreHopNames p (names ++ name ∷ [])
-names-push p names name are next h n there =
-    elim (at_push names name h n there) [
-      | inl early ↦ are h n early
-      | inr last ↦ ap (λ (k : ℕ). slice_get (hop_words p) k) last.0 ∙ (next ∙ ap Some last.1)
+-- rows with one more
+pub each-push : {X : Type 0} (P : ℕ → X → Type 0) (rows : List X) (row : X) → AreEach P rows → P (length rows) row → AreEach P (rows ++ row ∷ [])
+each-push P rows row are next n r there =
+    elim (at_push rows row n r there) [
+      | inl early ↦ are n r early
+      | inr last ↦ rw (last.0, ← last.1) next
+    ]
+
+-- rows of which one is another
+pub each-set : {X : Type 0} (P : ℕ → X → Type 0) (rows : List X) (k : ℕ) (row : X) → AreEach P rows → P k row → AreEach P (set rows k row)
+each-set P rows k row are this n r there =
+    elim (at_set rows k n row r there) [
+      | inl same ↦ rw (same.0, ← same.1) this
+      | inr other ↦ are n r other.1
     ]
 
 word-at : (p : Platform) (ends : List HopEnds) (h : ℕ) → hop_word_by p (slice_get ends h) ≡ unwrap_or (slice_get (map (hop_word_of p) ends) h) []

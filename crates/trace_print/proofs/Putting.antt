@@ -3,7 +3,7 @@ use Rattle.std.proofs.Common.{◌≡◌, ℕ, ◌+◌, ◌≤◌, List, [], ◌+
 use Rattle.std.proofs.Math.Seq.{take-append-add}
 use Rattle.std.proofs.lemmas.List.{take-append-le, append-nil}
 use Rattle.outside.specs.Causes.{Rose}
-use Rattle.outside.specs.Pieces.{TakesPrefix}
+use Rattle.outside.specs.Pieces.{TakesAll, TakesPrefix}
 use Rattle.trace_print.specs.LineView.{LineView}
 use Rattle.trace_print.specs.Putting.{Page, Moves, Puts, page}
 use Rattle.trace_print.proofs.Writing.{takes-more, takes-nothing}
@@ -80,3 +80,10 @@ printed-part a b x fa fb ea p =
     let same : a.waiting ++ x ≡ x = ap (λ (l : List ℕ). l ++ x) ea in
     let P : List ℕ → Type 0 = λ l. TakesPrefix a.taken b.taken l in
     (subst P same r.0, r.1)
+
+-- what came of a report that was written whole, where nothing waited before and nothing waits
+pub printed-all : (a b : Page) (x : List ℕ) → b.failed ≡ false → a.waiting ≡ [] → b.waiting ≡ [] → Puts a b x → TakesAll a.taken b.taken x
+printed-all a b x fb ea eb p =
+    let moved = p.whole fb in
+    let gone : moved.0 ≡ x = sym (append-nil moved.0) ∙ (ap (λ (l : List ℕ). moved.0 ++ l) (sym eb) ∙ (moved.1 ∙ ap (λ (l : List ℕ). l ++ x) ea)) in
+    subst (TakesAll a.taken b.taken) gone moved.2

@@ -21,8 +21,8 @@ access-line w sp c o l be d sw n x s nl = simp append_assoc
 pub head-words : (p t n o sp : List ℕ) → ((p ++ sp) ++ (t ++ sp)) ++ ((n ++ sp) ++ o) ≡ p ++ (sp ++ (t ++ (sp ++ (n ++ (sp ++ o)))))
 head-words p t n o sp = simp append_assoc
 
--- the same, written from the name of the transaction on, with what comes behind the object
-pub head-front : (p t i d n o sp rest : List ℕ) → ((p ++ sp) ++ (t ++ sp)) ++ (i ++ ((d ++ (n ++ sp)) ++ (o ++ rest))) ≡ (p ++ (sp ++ (t ++ (sp ++ ((i ++ (d ++ n)) ++ (sp ++ o)))))) ++ rest
+-- the same, written from the front of the line on, with what comes behind the object
+pub head-front : (p t i d n o sp rest : List ℕ) → ((p ++ sp) ++ ((t ++ sp) ++ ((i ++ d) ++ (n ++ sp)))) ++ (o ++ rest) ≡ (p ++ (sp ++ (t ++ (sp ++ ((i ++ (d ++ n)) ++ (sp ++ o)))))) ++ rest
 head-front p t i d n o sp rest = simp append_assoc
 
 -- the words of a refused request, where a space stands behind one of them

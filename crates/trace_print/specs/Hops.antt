@@ -4,6 +4,9 @@ use Rattle.tlm_model.specs.declared.platform.Platform.{Platform}
 use Rattle.tlm_types.specs.declared.words.ObjectNo.{ObjectNo}
 use Rattle.tlm_types.specs.declared.words.ObjectNo.TheVariants.{Memory as memory_object, Hop, Pool}
 use Rattle.report_model.specs.Report.{hop_word, hop_words, initiator_name, memory_name, name_of_router, target_name}
+use Rattle.std.specs.Fmt.{decimal}
+use Rattle.tlm_types.specs.declared.entry.Head.{Head}
+use Rattle.trace_print.specs.declared.names.InitiatorWords.{InitiatorWords}
 use Rattle.route_plan.specs.declared.ends.HopEnds.{HopEnds}
 use Rattle.route_plan.specs.declared.ends.Up.{Up}
 use Rattle.route_plan.specs.declared.ends.Up.TheVariants.{Initiator, Router}
@@ -33,6 +36,22 @@ object_word_by p (memory_object m) ends = memory_name p m
 object_word_by p (Hop h) ends = hop_word_by p ends
 object_word_by p (Pool i) ends = initiator_name p i ++ codes ".pool"
 
--- these are the names of hops, each at its number
-abbrev pub AreHopNames : Platform → List (List ℕ) → Type 0
-AreHopNames p names = (h : ℕ) (name : List ℕ) → slice_get names h ≡ Some name → slice_get (hop_words p) h ≡ Some name
+-- this holds of each row and its number
+abbrev pub AreEach : {X : Type 0} → (ℕ → X → Type 0) → List X → Type 0
+AreEach P rows = (n : ℕ) (row : _) → slice_get rows n ≡ Some row → P n row
+
+-- these are the words of the initiator of this number
+pub record AreInitiatorWords (p : Platform) (number : ℕ) (words : InitiatorWords) : Type 0 where
+  pub txns : words.txns.word ≡ initiator_name p number ++ codes "."
+  pub pool : words.pool ≡ initiator_name p number ++ codes ".pool"
+
+abbrev pub IsHopWord : Platform → ℕ → List ℕ → Type 0
+IsHopWord p number word = slice_get (hop_words p) number ≡ Some word
+
+abbrev pub IsMemoryWord : Platform → ℕ → List ℕ → Type 0
+IsMemoryWord p number word = word ≡ memory_name p number
+
+-- what the line of an entry with this head begins with
+abbrev pub front_of : Platform → Head → List ℕ
+front_of p head =
+    (decimal head.position ++ codes " ") ++ ((decimal head.time ++ codes " ") ++ ((initiator_name p head.txn.initiator ++ codes ".") ++ (decimal head.txn.seq ++ codes " ")))

@@ -10,14 +10,15 @@ ghost use Rattle.tlm_model.specs.Text.{line_of};
 ghost use Rattle.tlm_model.specs.declared.trace.Trace.TheVariants as Traces;
 ghost use Rattle.run_outcome.specs.Places.{MergedView};
 ghost use Rattle.line_text.specs.AccessText.{access_text, IsShort};
-ghost use Rattle.line_text.specs.EventText.{event_text, IsBrief};
+ghost use Rattle.line_text.specs.EventText.{event_text};
+ghost use Rattle.line_text.specs.FrontText.{IsFrontReady};
 ghost use Rattle.log_items.specs.Items.{brief_what};
 ghost use Rattle.trace_print.specs.Hops.{ends_at, object_word_by};
 ghost use Rattle.trace_print.specs.Putting.{Puts, page};
 ghost use Rattle.trace_print.specs.Told.{access_words, shown_of, text_of};
 
 use crate::line::{Line, flush, put, put_piece, put_whole};
-use crate::names::{Names, ends_at, initiator_name, memory_name, put_object, put_txn};
+use crate::names::{Names, ends_at, put_object, put_txn};
 use crate::words::{kind_text, phase_text, put_data, put_number, put_range, put_sync, put_text};
 use entry_log::{Log, LoggedAccess};
 use line_text::{AccessLine, EventLine, LinePiece};
@@ -238,14 +239,14 @@ pub fn put_entry<K: Sink>(
 }
 
 /// The line of the entry at this place, where it is a short access at a memory without byte enables and
-/// without an operand.
+/// without an operand, and where its words and digits are at hand.
 #[inline(always)]
-pub fn access_line<'a>(platform: &'a Platform, log: &'a Log, index: u64) -> Option<AccessLine<'a>>
+pub fn access_line<'a>(names: &'a Names<'_>, log: &'a Log, index: u64) -> Option<AccessLine<'a>>
     requires whole { log.now.whole ≡ true }
     requires index { index < length log.now.entries }
     ensures short { IfSome result IsShort }
     ensures text { (e : Entry) → slice_get log.now.entries index ≡ Some e →
-        IfSome result (λ access. access_text access ≡ line_of (entry_words platform.now e)) }
+        IfSome result (λ access. access_text access ≡ line_of (entry_words names.now.platform e)) }
 {
     let access = log.access(index)?;
     if !access.enables.is_empty() {
@@ -258,37 +259,33 @@ pub fn access_line<'a>(platform: &'a Platform, log: &'a Log, index: u64) -> Opti
         return None;
     };
     let line = AccessLine {
-        head: access.head,
-        initiator: initiator_name(platform, access.head.txn.initiator).as_bytes(),
-        memory: memory_name(platform, memory).as_bytes(),
+        front: names.front(access.head)?,
+        memory: names.object(ObjectNo::Memory(memory))?,
         facts: access.facts,
         shown: shown(&access),
     };
     if line.is_short() { Some(line) } else { None }
 }
 
-// The line of an entry with this head, where its names are as short as those of a run.
+// The line of an entry with this head, where its words and digits are at hand.
 #[inline(always)]
 fn event_line<'a>(names: &'a Names<'_>, head: Head, event: BriefEvent) -> Option<EventLine<'a>>
-    ensures brief { IfSome result IsBrief }
+    ensures ready { IfSome result (λ line. IsFrontReady line.front) }
     ensures text { IfSome result (λ line. event_text line ≡ line_of (entry_words names.now.platform (entry_at head (brief_what event)))) }
 {
-    let place = names.place_at(head.object)?;
-    let line = EventLine {
-        head,
-        initiator: initiator_name(names.platform(), head.txn.initiator).as_bytes(),
-        place,
+    Some(EventLine {
+        front: names.front(head)?,
+        object: names.object(head.object)?,
         event,
-    };
-    if line.is_brief() { Some(line) } else { None }
+    })
 }
 
 /// The line of the entry at this place, where the log has it in the brief form, as nearly all calls at hops and entries
-/// of pools.
+/// of pools, and where its words and digits are at hand.
 #[inline(always)]
 pub fn brief_line<'a>(names: &'a Names<'_>, log: &Log, index: u64) -> Option<EventLine<'a>>
     requires { log.now.whole ≡ true }
-    ensures brief { IfSome result IsBrief }
+    ensures ready { IfSome result (λ line. IsFrontReady line.front) }
     ensures text { (e : Entry) → slice_get log.now.entries index ≡ Some e →
         IfSome result (λ line. event_text line ≡ line_of (entry_words names.now.platform e)) }
 {
@@ -300,7 +297,7 @@ pub fn brief_line<'a>(names: &'a Names<'_>, log: &Log, index: u64) -> Option<Eve
 pub fn other_line<'a>(names: &'a Names<'_>, log: &Log, index: u64) -> Option<EventLine<'a>>
     requires whole { log.now.whole ≡ true }
     requires index { index < length log.now.entries }
-    ensures brief { IfSome result IsBrief }
+    ensures ready { IfSome result (λ line. IsFrontReady line.front) }
     ensures text { (e : Entry) → slice_get log.now.entries index ≡ Some e →
         IfSome result (λ line. event_text line ≡ line_of (entry_words names.now.platform e)) }
 {
@@ -322,7 +319,7 @@ pub fn is_shown(log: &Log, index: u64, trace: Trace) -> bool
     }
 }
 
-// Puts the line of the entry at this place, where it is no short access and not in the brief form.
+// Puts the line of the entry at this place, where it is no short access and not in the brief form, or has long names.
 fn put_other<K: Sink>(out: &mut K, line: &mut Line, names: &Names<'_>, log: &Log, index: u64)
     requires whole { log.now.whole ≡ true }
     requires index { index < length log.now.entries }
@@ -338,21 +335,57 @@ fn put_other<K: Sink>(out: &mut K, line: &mut Line, names: &Names<'_>, log: &Log
     }
 }
 
-// Puts the line of the entry at this place.
+// Puts the line of the entry at this place, where its words and digits are at hand, and answers whether they are.
 #[inline(always)]
-fn put_line<K: Sink>(out: &mut K, line: &mut Line, names: &Names<'_>, log: &Log, index: u64)
+fn put_kept<K: Sink>(out: &mut K, line: &mut Line, names: &Names<'_>, log: &Log, index: u64) -> bool
     requires whole { log.now.whole ≡ true }
     requires index { index < length log.now.entries }
-    ensures { (e : Entry) → slice_get log.now.entries index ≡ Some e →
+    ensures puts { result ≡ true → (e : Entry) → slice_get log.now.entries index ≡ Some e →
         Puts (page (K.taken out.old) (K.faults out.old) line.old)
         (page (K.taken out.new) (K.faults out.new) line.new) (line_of (entry_words names.now.platform e)) }
+    ensures not { result ≡ false → page (K.taken out.new) (K.faults out.new) line.new
+        ≡ page (K.taken out.old) (K.faults out.old) line.old }
 {
-    if let Some(access) = access_line(names.platform(), log, index) {
-        put_whole(out, line, &access);
-    } else if let Some(event) = brief_line(names, log, index) {
+    if let Some(event) = brief_line(names, log, index) {
         put_whole(out, line, &event);
-    } else {
+        return true;
+    }
+    if let Some(access) = access_line(names, log, index) {
+        put_whole(out, line, &access);
+        return true;
+    }
+    false
+}
+
+// Puts the line of the entry at this place, once the digits of its numbers are at hand.
+#[cold]
+#[inline(never)]
+fn put_turned<K: Sink>(out: &mut K, line: &mut Line, names: &mut Names<'_>, log: &Log, index: u64)
+    requires whole { log.now.whole ≡ true }
+    requires index { index < length log.now.entries }
+    ensures same { names.new ≡ names.old }
+    ensures puts { (e : Entry) → slice_get log.now.entries index ≡ Some e →
+        Puts (page (K.taken out.old) (K.faults out.old) line.old)
+        (page (K.taken out.new) (K.faults out.new) line.new) (line_of (entry_words names.old.platform e)) }
+{
+    names.turn_to(log.head(index));
+    if !put_kept(out, line, names, log, index) {
         put_other(out, line, names, log, index);
+    }
+}
+
+// Puts the line of the entry at this place. Of nearly all lines the digits are at hand.
+#[inline(always)]
+fn put_line<K: Sink>(out: &mut K, line: &mut Line, names: &mut Names<'_>, log: &Log, index: u64)
+    requires whole { log.now.whole ≡ true }
+    requires index { index < length log.now.entries }
+    ensures same { names.new ≡ names.old }
+    ensures puts { (e : Entry) → slice_get log.now.entries index ≡ Some e →
+        Puts (page (K.taken out.old) (K.faults out.old) line.old)
+        (page (K.taken out.new) (K.faults out.new) line.new) (line_of (entry_words names.old.platform e)) }
+{
+    if !put_kept(out, line, names, log, index) {
+        put_turned(out, line, names, log, index);
     }
 }
 
@@ -361,17 +394,18 @@ fn put_line<K: Sink>(out: &mut K, line: &mut Line, names: &Names<'_>, log: &Log,
 fn put_traced<K: Sink>(
     out: &mut K,
     line: &mut Line,
-    names: &Names<'_>,
+    names: &mut Names<'_>,
     log: &Log,
     index: u64,
     trace: Trace,
 )
     requires whole { log.now.whole ≡ true }
     requires index { index < length log.now.entries }
-    ensures { (e : Entry) → slice_get log.now.entries index ≡ Some e →
+    ensures same { names.new ≡ names.old }
+    ensures puts { (e : Entry) → slice_get log.now.entries index ≡ Some e →
         Puts (page (K.taken out.old) (K.faults out.old) line.old)
         (page (K.taken out.new) (K.faults out.new) line.new)
-        (text_of (map (entry_words names.now.platform) (traced trace (e ∷ [])))) }
+        (text_of (map (entry_words names.old.platform) (traced trace (e ∷ [])))) }
 {
     if is_shown(log, index, trace) {
         put_line(out, line, names, log, index);
@@ -382,13 +416,13 @@ fn put_traced<K: Sink>(
 fn put_entries<K: Sink>(
     out: &mut K,
     line: &mut Line,
-    names: &Names<'_>,
+    names: &mut Names<'_>,
     reader: &mut LogReader<'_>,
     trace: Trace,
 )
     ensures { Puts (page (K.taken out.old) (K.faults out.old) line.old)
         (page (K.taken out.new) (K.faults out.new) line.new)
-        (text_of (map (entry_words names.now.platform) (traced trace reader.old.entries))) }
+        (text_of (map (entry_words names.old.platform) (traced trace reader.old.entries))) }
 {
     for position in 0..reader.len() {
         let (log, index) = reader.at(position);
@@ -400,7 +434,7 @@ fn put_entries<K: Sink>(
 pub fn put_shown<K: Sink>(
     out: &mut K,
     line: &mut Line,
-    names: &Names<'_>,
+    names: &mut Names<'_>,
     reader: Option<LogReader<'_>>,
     trace: Trace,
 )
@@ -408,7 +442,7 @@ pub fn put_shown<K: Sink>(
     ensures { (log : MergedView) → IfSome reader.entry (λ r. r ≡ log) →
         Puts (page (K.taken out.old) (K.faults out.old) line.old)
         (page (K.taken out.new) (K.faults out.new) line.new)
-        (text_of (map (entry_words names.now.platform) (traced trace log.entries))) }
+        (text_of (map (entry_words names.old.platform) (traced trace log.entries))) }
 {
     if let Some(mut reader) = reader {
         put_entries(out, line, names, &mut reader, trace);

@@ -105,17 +105,17 @@ fn reader_for(
 fn put_report<K: Sink>(
     out: &mut K,
     line: &mut Line,
-    names: &Names<'_>,
+    names: &mut Names<'_>,
     outcome: &Outcome,
     reader: Option<LogReader<'_>>,
     trace: Trace,
 )
-    requires reportable { IsReportable names.now outcome.now }
+    requires reportable { IsReportable names.old outcome.now }
     requires reader { IfSome reader (λ r. r ≡ outcome.now.history) }
     requires none { IfNone reader (trace ≡ Traces.None) }
     ensures { Puts (page (K.taken out.old) (K.faults out.old) line.old)
         (page (K.taken out.new) (K.faults out.new) line.new)
-        (report_of trace names.now outcome.now.history.entries) }
+        (report_of trace names.old outcome.now.history.entries) }
 {
     let platform = names.platform();
     put_title(out, line);
@@ -158,9 +158,9 @@ pub fn print<K: Sink>(
     ensures later { K.faults out.old ≤ K.faults out.new }
 {
     let mut line = Line::with_room(alloc)?;
-    let names = Names::of_plan(alloc, plan)?;
+    let mut names = Names::of_plan(alloc, plan)?;
     let reader = reader_for(alloc, &outcome.history, trace)?;
-    put_report(out, &mut line, &names, outcome, reader, trace);
+    put_report(out, &mut line, &mut names, outcome, reader, trace);
     flush(out, &mut line);
     if line.has_failed() {
         return Err(PrintFault::Failed);

@@ -126,8 +126,20 @@ pub fn put_whole<K: Sink, P: Piece>(out: &mut K, line: &mut Line, piece: &P)
     ensures { Puts (page (K.taken out.old) (K.faults out.old) line.old)
         (page (K.taken out.new) (K.faults out.new) line.new) (P.text piece.now) }
 {
-    flush(out, line);
+    settle(out, line);
     write_whole(out, line, piece);
+}
+
+// Writes what waits, where something does.
+#[inline(always)]
+fn settle<K: Sink>(out: &mut K, line: &mut Line)
+    ensures puts { Puts (page (K.taken out.old) (K.faults out.old) line.old)
+        (page (K.taken out.new) (K.faults out.new) line.new) [] }
+    ensures empty { line.new.waiting ≡ [] }
+{
+    if line.len > 0 {
+        flush(out, line);
+    }
 }
 
 // Has a sink take a line that writes itself, where nothing waits.
@@ -139,8 +151,8 @@ fn write_whole<K: Sink, P: Piece>(out: &mut K, line: &mut Line, piece: &P)
     ensures { Puts (page (K.taken out.old) (K.faults out.old) line.old)
         (page (K.taken out.new) (K.faults out.new) line.new) (P.text piece.now) }
 {
-    if !line.failed {
-        line.failed = out.write_piece(&mut line.bytes, piece).is_err();
+    if !line.failed && out.write_piece(&mut line.bytes, piece).is_err() {
+        line.failed = true;
     }
 }
 

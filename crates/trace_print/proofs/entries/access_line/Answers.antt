@@ -19,5 +19,5 @@ returns-then-is_short-clause-text c e here =
     let told = operand-access-at (slice_get c.args.log.now.entries c.args.index) a.facts a.sent.now (sym known.facts) known.sent in
     let alone = rw (here, no-operand a.facts.command a.sent.now (sym c.has_operand.ensures ∙ c.if-has_operand.false)) at told in
     let object = ap (λ (h : Head). h.object) (sym same) ∙ c.in-Memory.is in
-    let text = access-text-is c.args.platform.now e c.in-Memory.memory a.facts a.enables.now c.shown.result.now object (sym facts) enables (sym alone) (sym bytes) (data-none a.enables.now (sym c.is_empty.ensures ∙ c.if-not-is_empty.false)) in
-    rw (c.as_bytes.ensures.value, c.as_bytes-2.ensures.value, c.initiator_name.ensures, c.memory_name.ensures, same) text
+    let text = access-text-is c.args.names.now.platform e c.in-Memory.memory a.facts a.enables.now c.shown.result.now object (sym facts) enables (sym alone) (sym bytes) (data-none a.enables.now (sym c.is_empty.ensures ∙ c.if-not-is_empty.false)) in
+    rw (c.in_ok-front.ensures.text, c.in_ok-front.ensures.head, same, c.in_ok-object.ensures) text

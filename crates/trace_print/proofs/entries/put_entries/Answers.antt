@@ -10,7 +10,7 @@ use Rattle.trace_print.proofs.Putting.{puts-as, puts-more, puts-nothing}
 use Rattle.trace_print.proofs.entries.put_entries.Goals as goal
 
 pub loop-position-init : goal.loop-position-init
-loop-position-init g c = (refl, puts-as _ _ _ _ (puts-nothing _) (traced-nothing c.args.names.now.platform c.args.trace))
+loop-position-init g c = (refl, refl, puts-as _ _ _ _ (puts-nothing _) (traced-nothing c.args.names.now.platform c.args.trace))
 
 pub loop-position-preserved : goal.loop-position-preserved
 loop-position-preserved g c =
@@ -20,8 +20,9 @@ loop-position-preserved g c =
     let same : c.loop-position.reader.entries ≡ h = ap (λ (v : MergedView). v.entries) before.0 in
     let next = next-entry h i (omega arith) in
     let at = c.at-index.ensures.same ∙ (ap (λ (es : List Entry). slice_get es i) same ∙ next.1) in
-    (c.at-index.ensures.entries ∙ before.0, puts-as _ _ _ _ (puts-more _ _ _ _ _ before.1 (c.put_traced.ensures next.0 at)) (entries-next c.args.names.now.platform c.args.trace h i next.0 next.2))
+    let put = rw before.1 at (c.put_traced.ensures.puts next.0 at) in
+    (c.at-index.ensures.entries ∙ before.0, c.put_traced.ensures.same ∙ before.1, puts-as _ _ _ _ (puts-more _ _ _ _ _ before.2 put) (entries-next c.args.names.now.platform c.args.trace h i next.0 next.2))
 
 pub returns : goal.returns
 returns g c =
-    puts-as _ _ _ _ c.loop-position.invariant.1 (ap (λ (l : List Entry). text_of (map (entry_words c.args.names.now.platform) (traced c.args.trace l))) (take_all c.loop-position.position c.args.reader.now.entries (omega arith)))
+    puts-as _ _ _ _ c.loop-position.invariant.2 (ap (λ (l : List Entry). text_of (map (entry_words c.args.names.now.platform) (traced c.args.trace l))) (take_all c.loop-position.position c.args.reader.now.entries (omega arith)))
