@@ -75,7 +75,6 @@ impl<T> Hop<T> {
     }
 
     // How the component downstream answers BEGIN_REQ. The lanes are looked at only where its mode asks for it.
-    #[inline(always)]
     fn begin_answer(&self) -> TlmSync
         ensures { result ≡ begin_answer self.now }
     {

@@ -66,7 +66,6 @@ impl<T> Hop<T> {
     }
 
     // Hands out the response of an ended transaction.
-    #[inline(always)]
     fn free_lane(&mut self, index: usize) -> (TxnId, Ps, T)
         requires place { index < length self.old.lanes }
         requires carries { HoldsAt (λ l. IsSome l.item) self.old.lanes index }

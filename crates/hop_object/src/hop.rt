@@ -142,7 +142,6 @@ impl<T> Hop<T> {
     }
 
     /// Whether a BEGIN_REQ is taken now.
-    #[inline(always)]
     pub fn can_begin(&self) -> bool
         ensures { result ≡ can_begin self.now }
     {
@@ -158,7 +157,6 @@ impl<T> Hop<T> {
     }
 
     /// Whether a lane has this leg.
-    #[inline(always)]
     pub fn knows(&self, leg: &Leg) -> bool
         ensures { result ≡ list_any (has_leg leg.now.name) self.now.lanes }
     {

@@ -12,7 +12,6 @@ use base_phases::LaneState;
 use token_book::{Book, Tokens};
 
 // Gives a leg back to the book, and finds its lane: what is out is what the lanes say.
-#[inline(always)]
 pub(crate) fn redeem<T>(tokens: &Tokens, book: &mut Book, lanes: &[Lane<T>], leg: Leg) -> usize
     requires tokens { book.old.table ≡ tokens.now }
     requires leg { (leg.table ≡ tokens.now) × (leg.owner ≡ book.old.owner) }

@@ -38,7 +38,6 @@ impl AccessLine<'_> {
 
 // The bytes that a line shows, or a dash where there are none. A loop of known length, as of 4
 // bytes, is unrolled.
-#[inline(always)]
 fn write_shown(bytes: &mut [u8], start: usize, shown: &[u8]) -> usize
     requires { start + 1 + 2 * length shown.now ≤ length bytes.old }
     ensures adds { Adds bytes.old bytes.new start result (data_word shown.now) }

@@ -2,7 +2,7 @@
 use Rattle.std.proofs.Common.{◌≡◌, ℕ, ◌<◌, ◌≤◌, false, List, [], ◌∷◌, ◌++◌, length, Option, Some, None, refl, sym, ap, subst, ◌∙◌}
 use Rattle.std.specs.List.{AllByRecursion}
 use Rattle.std.specs.Prelude.{IfSome, is_some}
-use Rattle.std.specs.VecDeque.{deque_capacity}
+use Rattle.std.specs.Prelude.{vec_capacity}
 use Rattle.atomic_table.specs.Seated.{TableId}
 use Rattle.view_lists.specs.Lists.{Within}
 use Rattle.one_history.specs.Held.{Held as HeldNote}
@@ -74,7 +74,7 @@ module _ (frame : Frame Plan) (tokens : TableId) (known more : List (Entry Conte
   all_left rest (Some s) all i = all_push (IsStage frame tokens more) rest s (all_more rest all) i
 
   -- A router that holds others is one still.
-  pub keeps : (old new : RouterNode) → new ≡ record old { held = new.held; stray = new.stray } → IsRouter frame tokens old known → AllByRecursion (IsStage frame tokens more) new.held.items → length new.held.items ≤ old.room → old.room ≤ deque_capacity new.held
+  pub keeps : (old new : RouterNode) → new ≡ record old { held = new.held; stray = new.stray } → IsRouter frame tokens old known → AllByRecursion (IsStage frame tokens more) new.held.items → length new.held.items ≤ old.room → old.room ≤ vec_capacity new.held
       → IfSome new.stray (IsStray frame tokens more) → IsRouter frame tokens new more
   keeps old new same is held few room stray = subst (λ (r : RouterNode). IsRouter frame tokens r more) (sym same) (record {
     router = is.router;

@@ -2,7 +2,7 @@
 use Rattle.std.proofs.Common.{◌≡◌, ℕ, zero, suc, ◌+◌, ◌*◌, ◌<◌, ◌≤◌, List, [], ◌∷◌, ◌++◌, length, take, get_or, sum_by, Option, Some, None, refl, sym, ap, subst, ◌∙◌, arith}
 use Rattle.std.specs.List.{AllByRecursion, range_with_len}
 use Rattle.std.specs.Prelude.{IfSome, slice_get}
-use Rattle.std.specs.VecDeque.{deque_capacity}
+use Rattle.std.specs.Prelude.{vec_capacity}
 use Rattle.std.proofs.lemmas.List.Sums.{sum_by_more_le}
 use Rattle.std.proofs.lemmas.Option.{get_or_from_slice_get, slice_get_within}
 use Rattle.atomic_table.specs.Seated.{TableId}
@@ -57,7 +57,7 @@ windows_are p r = go (slice_get p.platform.routers r) refl
 
 -- a router with all of its hops, that holds nothing, is a new one
 pub new_is : (frame : Frame Plan) (tokens : TableId) (p : Plan) (r : RouterNode) → p ≡ frame.world → r.router < length frame.world.platform.routers → r.first ≡ window_hop p.platform r.router 0 → r.accepts ≡ is_accepting p.platform (Router r.router) → r.latency ≡ latency_of p.platform (Router r.router)
-    → r.above.items ≡ hops_to p.platform (Router r.router) → r.below.items ≡ windows_of p.platform r.router → r.held.items ≡ [] → r.room ≡ lanes_of p.platform (Router r.router) * length r.above.items → r.room ≤ deque_capacity r.held → r.stray ≡ None
+    → r.above.items ≡ hops_to p.platform (Router r.router) → r.below.items ≡ windows_of p.platform r.router → r.held.items ≡ [] → r.room ≡ lanes_of p.platform (Router r.router) * length r.above.items → r.room ≤ vec_capacity r.held → r.stray ≡ None
     → IsNew frame tokens r.router r
 new_is frame tokens p r world there first accepts latency above below empty lanes room stray =
     let q = frame.world in

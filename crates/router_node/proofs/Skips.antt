@@ -12,11 +12,6 @@ use Rattle.router_node.specs.declared.stage.Step.{Step}
 use Rattle.router_node.proofs.Moving.{in_haste, left_out}
 use Rattle.router_node.proofs.Sweeps.{IsPartSwept, or_none, part_end, part_here, part_next, part_start, split_at}
 
--- flags
-pub hasty_then : (hasty due : Bool) → (hasty ≡ false → due ≡ true) → due ≡ false → hasty ≡ true
-hasty_then true due all off = refl
-hasty_then false due all off = let q = all refl in cc
-
 -- lists
 within_drop : {A : Type 0} (xs : List A) (i : ℕ) → 0 < length (drop i xs) → i < length xs
 within_drop [] zero some = absurd (omega (arith, some))

@@ -1,7 +1,7 @@
 -- A router with the transactions that it holds, and what it does in a pump.
 use Rattle.std.specs.Prelude.{ℕ, ◌≡◌, ◌+◌, ◌<◌, ◌≤◌, ◌||◌, Bool, true, false, List, [], ◌∷◌, ◌++◌, length, map, Option, Some, None, IfSome, if◌then◌else◌, nat_lt}
 use Rattle.std.specs.List.{AllByRecursion}
-use Rattle.std.specs.VecDeque.{deque_capacity}
+use Rattle.std.specs.Prelude.{vec_capacity}
 use Rattle.atomic_table.specs.Seated.{TableId}
 use Rattle.view_lists.specs.Lists.{Within}
 use Rattle.one_history.specs.Held.{Held as HeldNote}
@@ -52,7 +52,7 @@ module _ (frame : Frame Plan) (tokens : TableId) where
     pub below : AllByRecursion (λ (h : ℕ). IsHopBelow frame.world h) r.below.items
     pub held : AllByRecursion (IsStage frame tokens known) r.held.items
     pub few : length r.held.items ≤ r.room
-    pub room : r.room ≤ deque_capacity r.held
+    pub room : r.room ≤ vec_capacity r.held
     pub stray : IfSome r.stray (IsStray known)
 
 -- what is left of a transaction after a step: itself, or nothing where it is forgotten

@@ -8,7 +8,6 @@ use crate::stage::{Stage, Step, is_about};
 use plat_net::{Net, Sharing, TlmLaw};
 use route_plan::Plan;
 use shared_object::Naming;
-use std::collections::VecDeque;
 
 /// What a router looks for at a hop: a request from above, or a response from below.
 #[derive(Clone, Copy)]
@@ -77,19 +76,23 @@ fn may_go<N: Naming<Plan, TlmLaw>, S: Sharing<N>>(net: &Net<N, S>, stage: &Stage
     }
 }
 
-// The first place from here on whose transaction a step may move.
+// The first place from here on, and in front of the end, whose transaction a step may move.
 #[inline(always)]
 fn next_due<N: Naming<Plan, TlmLaw>, S: Sharing<N>>(
     net: &Net<N, S>,
+    end: usize,
     what: Step,
-    held: &VecDeque<Stage>,
+    held: &[Stage],
     from: usize,
 ) -> usize
-    requires { from ≤ length held.now.items }
+    requires { from ≤ length held.now }
     ensures on { from ≤ result }
-    ensures within { result ≤ length held.now.items }
+    ensures within { result ≤ length held.now }
 {
     for at in from..held.len() {
+        if at >= end {
+            return held.len();
+        }
         let stage = &held[at];
         if is_about(what, stage) && may_go(net, stage) {
             return at;
@@ -98,54 +101,63 @@ fn next_due<N: Naming<Plan, TlmLaw>, S: Sharing<N>>(
     held.len()
 }
 
-/// The place at which to make a step next: this one, or in haste the first from here on whose transaction it may move. It
-/// is behind all of them where there is none. Each step has a loop of its own, which asks for nothing else.
+/// The place at which to make a step next: this one, or in haste the first from here on, and in front of the end, whose
+/// transaction it may move. It is behind all of them where there is none. Each step has a loop of its own, which asks for
+/// nothing else.
 #[inline(always)]
 pub(crate) fn next_place<N: Naming<Plan, TlmLaw>, S: Sharing<N>>(
     net: &Net<N, S>,
     hasty: bool,
+    end: usize,
     what: Step,
-    held: &VecDeque<Stage>,
+    held: &[Stage],
     from: usize,
 ) -> usize
-    requires { from ≤ length held.now.items }
+    requires { from ≤ length held.now }
     ensures on { from ≤ result }
-    ensures within { result ≤ length held.now.items }
+    ensures within { result ≤ length held.now }
     ensures each { hasty ≡ false → result ≡ from }
 {
     if !hasty {
         return from;
     }
     match what {
-        Step::End => next_due(net, Step::End, held, from),
-        Step::Send => next_due(net, Step::Send, held, from),
-        Step::Pass => next_due(net, Step::Pass, held, from),
+        Step::End => next_due(net, end, Step::End, held, from),
+        Step::Send => next_due(net, end, Step::Send, held, from),
+        Step::Pass => next_due(net, end, Step::Pass, held, from),
     }
 }
 
-/// Which steps a going through is to make: all, or in haste those that may move a transaction.
+/// How far each step of a going through in haste is to look: the place behind the last transaction that it may move, or 0.
+/// Where some have ended before, those behind them stand nearer.
 #[derive(Clone, Copy)]
 pub(crate) struct Due {
-    pub(crate) ends: bool,
-    pub(crate) sends: bool,
-    pub(crate) passes: bool,
+    pub(crate) ends: usize,
+    pub(crate) sends: usize,
+    pub(crate) passes: usize,
 }
 
 // What is due in haste. Whether a request may go down is asked when its turn comes, since what is ended before may make way.
-fn due_in_haste<N: Naming<Plan, TlmLaw>, S: Sharing<N>>(
-    net: &Net<N, S>,
-    held: &VecDeque<Stage>,
-) -> Due {
+fn due_in_haste<N: Naming<Plan, TlmLaw>, S: Sharing<N>>(net: &Net<N, S>, held: &[Stage]) -> Due {
     let mut due = Due {
-        ends: false,
-        sends: false,
-        passes: false,
+        ends: 0,
+        sends: 0,
+        passes: 0,
     };
-    for stage in held.iter() {
+    for at in 0..held.len() {
+        let stage = &held[at];
         match stage {
-            Stage::Sent(_) => due.ends = due.ends || may_go(net, stage),
-            Stage::Up(_, _) => due.sends = due.sends || may_go(net, stage),
-            Stage::Down(_) => due.passes = true,
+            Stage::Sent(_) => {
+                if may_go(net, stage) {
+                    due.ends = at + 1;
+                }
+            }
+            Stage::Up(_, _) => {
+                if may_go(net, stage) {
+                    due.sends = at + 1;
+                }
+            }
+            Stage::Down(_) => due.passes = at + 1,
             Stage::Below(_) => {}
         }
     }
@@ -153,23 +165,19 @@ fn due_in_haste<N: Naming<Plan, TlmLaw>, S: Sharing<N>>(
 }
 
 impl Due {
-    /// By one look over the transactions that are held.
+    /// By one look over the transactions that are held. Nobody asks for it but in haste.
     pub(crate) fn of<N: Naming<Plan, TlmLaw>, S: Sharing<N>>(
         net: &Net<N, S>,
         hasty: bool,
-        held: &VecDeque<Stage>,
-    ) -> Due
-        ensures ends { hasty ≡ false → result.ends ≡ true }
-        ensures sends { hasty ≡ false → result.sends ≡ true }
-        ensures passes { hasty ≡ false → result.passes ≡ true }
-    {
+        held: &[Stage],
+    ) -> Due {
         if hasty {
             return due_in_haste(net, held);
         }
         Due {
-            ends: true,
-            sends: true,
-            passes: true,
+            ends: 0,
+            sends: 0,
+            passes: 0,
         }
     }
 }

@@ -10,7 +10,6 @@ use plat_net::{Net, Sharing, TlmLaw};
 use route_plan::Plan;
 use shared_object::Naming;
 use std::alloc::{AllocError, Global};
-use std::collections::VecDeque;
 use tlm_model::Target;
 use tlm_types::Memory;
 
@@ -69,7 +68,7 @@ impl RouterNode {
         let count = count_of(plan, router);
         let below = hops_from(alloc, first, count)?;
         let room = traits.lanes * above.len() as u32;
-        let held = VecDeque::with_capacity(alloc, room as usize)?;
+        let held = Vec::with_capacity(alloc, room as usize)?;
         Ok(RouterNode {
             router,
             first,

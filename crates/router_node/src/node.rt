@@ -1,7 +1,6 @@
 // A router.
-ghost use Rattle.std.specs.Prelude.{◌≡◌, ◌<◌, List, [], ◌∷◌, ◌++◌, ◌||◌, length, None, IfSome, true, false, slice_set};
+ghost use Rattle.std.specs.Prelude.{◌≡◌, ◌<◌, List, [], ◌∷◌, ◌++◌, ◌||◌, length, None, IfSome, true, false, slice_set, vec_capacity};
 ghost use Rattle.std.specs.List.{AllByRecursion, remove};
-ghost use Rattle.std.specs.VecDeque.{deque_capacity};
 ghost use Rattle.view_lists.specs.Lists.{Within};
 ghost use Rattle.one_history.specs.Lists.{StandBelow};
 ghost use Rattle.shared_object.specs.Steps.{IsNote};
@@ -24,7 +23,6 @@ use plat_net::{Net, PlatNote, Sharing, TlmLaw};
 use route_plan::Plan;
 use router_moves::{Turned, turn};
 use shared_object::Naming;
-use std::collections::VecDeque;
 use std::mem::replace;
 use std::sync::Wait;
 use tlm_types::{Ps, TxnId};
@@ -41,7 +39,7 @@ pub struct RouterNode {
     pub(crate) above: Vec<u32>,
     pub(crate) below: Vec<u32>,
     /// The transactions that it holds, in order of arrival.
-    pub held: VecDeque<Stage>,
+    pub held: Vec<Stage>,
     pub(crate) room: u32,
     /// A response of no transaction that it holds.
     pub(crate) stray: Option<Found>,
@@ -97,34 +95,34 @@ fn gap() -> Stage
 
 // Takes out the transaction at a place, and leaves a gap there.
 #[inline(always)]
-fn take_out(held: &mut VecDeque<Stage>, at: usize) -> Stage
+fn take_out(held: &mut Vec<Stage>, at: usize) -> Stage
     requires { at < length held.old.items }
     ensures was { StandsAt held.old.items at result }
     ensures items { held.new.items ≡ slice_set held.old.items at gap }
-    ensures capacity { deque_capacity held.new ≡ deque_capacity held.old }
+    ensures capacity { vec_capacity held.new ≡ vec_capacity held.old }
 {
     replace(&mut held[at], gap())
 }
 
 // Puts a transaction where there was a gap.
 #[inline(always)]
-fn put_back(held: &mut VecDeque<Stage>, at: usize, stage: Stage)
+fn put_back(held: &mut Vec<Stage>, at: usize, stage: Stage)
     requires { at < length held.old.items }
     ensures items { held.new.items ≡ slice_set held.old.items at stage }
-    ensures capacity { deque_capacity held.new ≡ deque_capacity held.old }
+    ensures capacity { vec_capacity held.new ≡ vec_capacity held.old }
 {
     held[at] = stage;
 }
 
 /// Takes out the response that was sent and stands at a place. What stands behind it closes up.
-pub fn take_sent(held: &mut VecDeque<Stage>, at: usize) -> SentUp
+pub fn take_sent(held: &mut Vec<Stage>, at: usize) -> SentUp
     requires { IsSentAt held.old.items at }
     ensures was { StandsAt held.old.items at (Stages.Sent result) }
     ensures items { held.new.items ≡ remove held.old.items at }
-    ensures capacity { deque_capacity held.new ≡ deque_capacity held.old }
+    ensures capacity { vec_capacity held.new ≡ vec_capacity held.old }
 {
     match held.remove(at) {
-        Some(Stage::Sent(away)) => away,
+        Stage::Sent(away) => away,
         _ => unreachable!(),
     }
 }
@@ -135,7 +133,7 @@ fn end_at<N: Naming<Plan, TlmLaw>, S: Sharing<N>, R: Wait>(
     net: &Net<N, S>,
     rt: &R,
     note: PlatNote,
-    held: &mut VecDeque<Stage>,
+    held: &mut Vec<Stage>,
     at: usize,
 ) -> (usize, bool, PlatNote)
     requires there { at < length held.old.items }
@@ -146,7 +144,7 @@ fn end_at<N: Naming<Plan, TlmLaw>, S: Sharing<N>, R: Wait>(
     ensures knew { Within note.knows.known result.2.knows.known }
     ensures below { StandBelow result.2.knows.known result.2.knows.seen }
     ensures held { AllByRecursion (IsStage N.frame N.tokens result.2.knows.known) held.new.items }
-    ensures capacity { deque_capacity held.new ≡ deque_capacity held.old }
+    ensures capacity { vec_capacity held.new ≡ vec_capacity held.old }
     ensures moved { MovesAt N.frame false Steps.End at held.old.items held.new.items note.knows result.2.knows result.0 result.1 }
 {
     let Stage::Sent(away) = &held[at] else {
@@ -167,7 +165,7 @@ pub fn send_at<N: Naming<Plan, TlmLaw>, S: Sharing<N>, R: Wait>(
     net: &Net<N, S>,
     rt: &R,
     note: PlatNote,
-    held: &mut VecDeque<Stage>,
+    held: &mut Vec<Stage>,
     at: usize,
 ) -> (usize, bool, PlatNote)
     requires there { at < length held.old.items }
@@ -178,7 +176,7 @@ pub fn send_at<N: Naming<Plan, TlmLaw>, S: Sharing<N>, R: Wait>(
     ensures knew { Within note.knows.known result.2.knows.known }
     ensures below { StandBelow result.2.knows.known result.2.knows.seen }
     ensures held { AllByRecursion (IsStage N.frame N.tokens result.2.knows.known) held.new.items }
-    ensures capacity { deque_capacity held.new ≡ deque_capacity held.old }
+    ensures capacity { vec_capacity held.new ≡ vec_capacity held.old }
     ensures adds { result.1 ≡ true → AddsOnHop N.frame.world note.knows result.2.knows }
     ensures moved { MovesAt N.frame false Steps.Send at held.old.items held.new.items note.knows result.2.knows result.0 result.1 }
 {
@@ -199,7 +197,7 @@ fn pass_at<N: Naming<Plan, TlmLaw>, S: Sharing<N>, R: Wait>(
     net: &Net<N, S>,
     rt: &R,
     note: PlatNote,
-    held: &mut VecDeque<Stage>,
+    held: &mut Vec<Stage>,
     at: usize,
 ) -> (usize, bool, PlatNote)
     requires there { at < length held.old.items }
@@ -210,7 +208,7 @@ fn pass_at<N: Naming<Plan, TlmLaw>, S: Sharing<N>, R: Wait>(
     ensures knew { Within note.knows.known result.2.knows.known }
     ensures below { StandBelow result.2.knows.known result.2.knows.seen }
     ensures held { AllByRecursion (IsStage N.frame N.tokens result.2.knows.known) held.new.items }
-    ensures capacity { deque_capacity held.new ≡ deque_capacity held.old }
+    ensures capacity { vec_capacity held.new ≡ vec_capacity held.old }
     ensures moved { MovesAt N.frame false Steps.Pass at held.old.items held.new.items note.knows result.2.knows result.0 result.1 }
 {
     let Stage::Down(_) = &held[at] else {
@@ -226,12 +224,13 @@ fn pass_at<N: Naming<Plan, TlmLaw>, S: Sharing<N>, R: Wait>(
 
 // Comes by the transaction at a place: makes the step with it, if it is one for it. The place of the next one, and whether
 // this one was moved.
+#[inline(always)]
 fn come_by<N: Naming<Plan, TlmLaw>, S: Sharing<N>, R: Wait>(
     net: &Net<N, S>,
     rt: &R,
     what: Step,
     note: PlatNote,
-    held: &mut VecDeque<Stage>,
+    held: &mut Vec<Stage>,
     at: usize,
 ) -> (usize, bool, PlatNote)
     requires there { at < length held.old.items }
@@ -242,7 +241,7 @@ fn come_by<N: Naming<Plan, TlmLaw>, S: Sharing<N>, R: Wait>(
     ensures knew { Within note.knows.known result.2.knows.known }
     ensures below { StandBelow result.2.knows.known result.2.knows.seen }
     ensures held { AllByRecursion (IsStage N.frame N.tokens result.2.knows.known) held.new.items }
-    ensures capacity { deque_capacity held.new ≡ deque_capacity held.old }
+    ensures capacity { vec_capacity held.new ≡ vec_capacity held.old }
     ensures moved { MovesAt N.frame false what at held.old.items held.new.items note.knows result.2.knows result.0 result.1 }
 {
     match what {
@@ -253,14 +252,17 @@ fn come_by<N: Naming<Plan, TlmLaw>, S: Sharing<N>, R: Wait>(
 }
 
 // Makes a step with each transaction that is held, in order. Those that it isn't one for are looked at alone. In haste
-// those are left out with which it would be in vain, by what the net tells. Whether one was moved.
+// those are left out that stand behind this end, and those with which it would be in vain, by what the net tells. Whether
+// one was moved.
+#[inline(always)]
 fn sweep<N: Naming<Plan, TlmLaw>, S: Sharing<N>, R: Wait>(
     net: &Net<N, S>,
     rt: &R,
     hasty: bool,
+    end: usize,
     what: Step,
     note: PlatNote,
-    held: &mut VecDeque<Stage>,
+    held: &mut Vec<Stage>,
 ) -> (bool, PlatNote)
     requires note { IsNote N.table note }
     requires below { StandBelow note.knows.known note.knows.seen }
@@ -269,14 +271,14 @@ fn sweep<N: Naming<Plan, TlmLaw>, S: Sharing<N>, R: Wait>(
     ensures knew { Within note.knows.known result.1.knows.known }
     ensures below { StandBelow result.1.knows.known result.1.knows.seen }
     ensures held { AllByRecursion (IsStage N.frame N.tokens result.1.knows.known) held.new.items }
-    ensures capacity { deque_capacity held.new ≡ deque_capacity held.old }
+    ensures capacity { vec_capacity held.new ≡ vec_capacity held.old }
     ensures swept { Sweeps N.frame hasty what held.old.items held.new.items note.knows result.1.knows result.0 }
 {
     let mut note = note;
     let mut moved = false;
     let mut at = 0;
     for _k in 0..held.len() {
-        at = next_place(net, hasty, what, held, at);
+        at = next_place(net, hasty, end, what, held, at);
         if at >= held.len() {
             return (moved, note);
         }
@@ -289,8 +291,8 @@ fn sweep<N: Naming<Plan, TlmLaw>, S: Sharing<N>, R: Wait>(
 }
 
 // The place of the first transaction that a response from below is of; none where it is of none.
-fn place_of(held: &VecDeque<Stage>, found: &Found) -> Option<usize>
-    ensures { IsPlaceOf found.now held.now.items result }
+fn place_of(held: &[Stage], found: &Found) -> Option<usize>
+    ensures { IsPlaceOf found.now held.now result }
 {
     for at in 0..held.len() {
         if is_joined(&held[at], found) {
@@ -304,13 +306,13 @@ fn place_of(held: &VecDeque<Stage>, found: &Found) -> Option<usize>
 fn join_one<N: Naming<Plan, TlmLaw>, S: Sharing<N>>(
     net: &Net<N, S>,
     note: &PlatNote,
-    held: &mut VecDeque<Stage>,
+    held: &mut Vec<Stage>,
     found: Found,
 ) -> Option<Found>
     requires held { AllByRecursion (IsStage N.frame N.tokens note.now.knows.known) held.old.items }
     requires found { IsFound N.frame N.tokens note.now.knows.known found }
     ensures held { AllByRecursion (IsStage N.frame N.tokens note.now.knows.known) held.new.items }
-    ensures capacity { deque_capacity held.new ≡ deque_capacity held.old }
+    ensures capacity { vec_capacity held.new ≡ vec_capacity held.old }
     ensures found { IfSome result (IsFound N.frame N.tokens note.now.knows.known) }
     ensures joined { HasJoinedOne found held.old.items held.new.items result }
 {
@@ -334,17 +336,18 @@ fn stage_of(turned: Turned) -> Stage
 }
 
 impl RouterNode {
-    // Makes a step with each transaction that is held, in order of arrival; in haste where it is due. Whether one was moved.
+    // Makes a step with each transaction that is held, in order of arrival; in haste where it is due in front of this end.
+    // Whether one was moved.
+    #[inline(always)]
     fn sweep<N: Naming<Plan, TlmLaw>, S: Sharing<N>, R: Wait>(
         &mut self,
         net: &Net<N, S>,
         rt: &R,
         hasty: bool,
-        due: bool,
+        end: usize,
         what: Step,
         note: PlatNote,
     ) -> (bool, PlatNote)
-        requires due { hasty ≡ false → due ≡ true }
         requires router { IsRouter N.frame N.tokens self.old note.knows.known }
         requires note { IsNote N.table note }
         requires below { StandBelow note.knows.known note.knows.seen }
@@ -354,10 +357,10 @@ impl RouterNode {
         ensures below { StandBelow result.1.knows.known result.1.knows.seen }
         ensures swept { HasSwept N.frame N.tokens hasty what self.old self.new note.knows result.1.knows result.0 }
     {
-        if !due {
+        if hasty && end == 0 {
             return (false, note);
         }
-        sweep(net, rt, hasty, what, note, &mut self.held)
+        sweep(net, rt, hasty, end, what, note, &mut self.held)
     }
 
     /// Fetches a response from below, where no stray one is kept. In haste it looks at one hop alone. Whether it did.
@@ -427,7 +430,7 @@ impl RouterNode {
             request,
         );
         let stage = stage_of(turned);
-        self.held.push_back_reserved(stage);
+        self.held.push_reserved(stage);
         (true, note)
     }
 

@@ -1,7 +1,6 @@
 // The tries of a router that is stepped: each makes one entry at most.
-ghost use Rattle.std.specs.Prelude.{ℕ, ◌≡◌, ◌≢◌, ◌+◌, ◌<◌, ◌≤◌, [], ◌∷◌, ◌++◌, List, length, None, IfSome, true, false};
+ghost use Rattle.std.specs.Prelude.{ℕ, ◌≡◌, ◌≢◌, ◌+◌, ◌<◌, ◌≤◌, [], ◌∷◌, ◌++◌, List, length, None, IfSome, true, false, vec_capacity};
 ghost use Rattle.std.specs.List.{AllByRecursion, insert, remove};
-ghost use Rattle.std.specs.VecDeque.{deque_capacity};
 ghost use Rattle.view_lists.specs.Lists.{Within};
 ghost use Rattle.one_history.specs.Lists.{StandBelow};
 ghost use Rattle.shared_object.specs.Steps.{IsNote};
@@ -24,7 +23,6 @@ use route_plan::Plan;
 use router_moves::{BegunBelow, Down, End, Passed, PassedOn, end_below, pass_on, release};
 use router_node::{RouterNode, SentUp, Stage, Step, look_for_end, send_at, take_sent};
 use shared_object::Naming;
-use std::collections::VecDeque;
 use std::sync::Wait;
 use tlm_types::Ps;
 
@@ -48,10 +46,10 @@ fn has_moved(tried: &Tried) -> bool
 }
 
 /// Puts a transaction to its place among the others.
-pub(crate) fn put_in(held: &mut VecDeque<Stage>, at: usize, stage: Stage)
-    requires { HasPlace at (length held.old.items) (deque_capacity held.old) }
+pub(crate) fn put_in(held: &mut Vec<Stage>, at: usize, stage: Stage)
+    requires { HasPlace at (length held.old.items) (vec_capacity held.old) }
     ensures items { held.new.items ≡ insert held.old.items at stage }
-    ensures capacity { deque_capacity held.old ≤ deque_capacity held.new }
+    ensures capacity { vec_capacity held.old ≤ vec_capacity held.new }
 {
     let Ok(()) = held.insert(at, stage) else {
         unreachable!()
@@ -59,14 +57,14 @@ pub(crate) fn put_in(held: &mut VecDeque<Stage>, at: usize, stage: Stage)
 }
 
 // Takes out the request that is to go down and stands at a place. What stands behind it closes up.
-fn take_down(held: &mut VecDeque<Stage>, at: usize) -> Down
+fn take_down(held: &mut Vec<Stage>, at: usize) -> Down
     requires { IsDownAt held.old.items at }
     ensures was { StandsAt held.old.items at (Stages.Down result) }
     ensures items { held.new.items ≡ remove held.old.items at }
-    ensures capacity { deque_capacity held.new ≡ deque_capacity held.old }
+    ensures capacity { vec_capacity held.new ≡ vec_capacity held.old }
 {
     match held.remove(at) {
-        Some(Stage::Down(down)) => down,
+        Stage::Down(down) => down,
         _ => unreachable!(),
     }
 }
@@ -76,17 +74,17 @@ fn take_down(held: &mut VecDeque<Stage>, at: usize) -> Down
 pub(crate) fn hold_below<N: Naming<Plan, TlmLaw>, S: Sharing<N>>(
     net: &Net<N, S>,
     note: &PlatNote,
-    held: &mut VecDeque<Stage>,
+    held: &mut Vec<Stage>,
     at: usize,
     passed: PassedOn,
     begun: Option<BegunBelow>,
 ) -> Option<Due>
-    requires place { HasPlace at (length held.old.items) (deque_capacity held.old) }
+    requires place { HasPlace at (length held.old.items) (vec_capacity held.old) }
     requires held { AllByRecursion (IsStage N.frame N.tokens note.now.knows.known) held.old.items }
     requires settled { IsSettled N.frame N.tokens note.now.knows.known passed }
     requires begun { IfSome begun (IsBegun N.frame N.tokens note.now.knows.known passed) }
     ensures held { AllByRecursion (IsStage N.frame N.tokens note.now.knows.known) held.new.items }
-    ensures capacity { deque_capacity held.old ≤ deque_capacity held.new }
+    ensures capacity { vec_capacity held.old ≤ vec_capacity held.new }
     ensures few { length held.new.items ≤ length held.old.items + 1 }
     ensures due { IfSome result (IsDue N.frame N.tokens note.now.knows.known (length held.new.items) (length held.old.items + 1)) }
 {
@@ -109,17 +107,17 @@ pub(crate) fn hold_below<N: Naming<Plan, TlmLaw>, S: Sharing<N>>(
 fn due_below<N: Naming<Plan, TlmLaw>, S: Sharing<N>>(
     net: &Net<N, S>,
     note: &PlatNote,
-    held: &mut VecDeque<Stage>,
+    held: &mut Vec<Stage>,
     at: usize,
     passed: PassedOn,
     time: Ps,
     begun: Option<BegunBelow>,
 ) -> Option<Due>
-    requires place { HasPlace at (length held.old.items) (deque_capacity held.old) }
+    requires place { HasPlace at (length held.old.items) (vec_capacity held.old) }
     requires held { AllByRecursion (IsStage N.frame N.tokens note.now.knows.known) held.old.items }
     requires gone { HasGoneDown N.frame N.tokens note.now.knows.known passed time begun }
     ensures held { AllByRecursion (IsStage N.frame N.tokens note.now.knows.known) held.new.items }
-    ensures capacity { deque_capacity held.old ≤ deque_capacity held.new }
+    ensures capacity { vec_capacity held.old ≤ vec_capacity held.new }
     ensures few { length held.new.items ≤ length held.old.items + 1 }
     ensures due { IfSome result (IsDue N.frame N.tokens note.now.knows.known (length held.new.items) (length held.old.items + 1)) }
 {
@@ -174,7 +172,7 @@ fn end_one<N: Naming<Plan, TlmLaw>, S: Sharing<N>, R: Wait>(
     net: &Net<N, S>,
     rt: &R,
     note: PlatNote,
-    held: &mut VecDeque<Stage>,
+    held: &mut Vec<Stage>,
     at: usize,
 ) -> (Tried, PlatNote)
     requires there { at < length held.old.items }
@@ -185,7 +183,7 @@ fn end_one<N: Naming<Plan, TlmLaw>, S: Sharing<N>, R: Wait>(
     ensures knew { Within note.knows.known result.1.knows.known }
     ensures below { StandBelow result.1.knows.known result.1.knows.seen }
     ensures held { AllByRecursion (IsStage N.frame N.tokens result.1.knows.known) held.new.items }
-    ensures capacity { deque_capacity held.old ≤ deque_capacity held.new }
+    ensures capacity { vec_capacity held.old ≤ vec_capacity held.new }
     ensures few { length held.new.items ≤ length held.old.items }
     ensures adds { TryAdds N.frame.world note.knows.known result.1.knows.known result.0 }
     ensures tried { HasTried N.frame N.tokens result.1.knows.known (length held.new.items) (length held.old.items) (MovesAt N.frame false Steps.End at held.old.items held.new.items note.knows result.1.knows (at + 1) false) result.0 }
@@ -206,7 +204,7 @@ fn send_one<N: Naming<Plan, TlmLaw>, S: Sharing<N>, R: Wait>(
     net: &Net<N, S>,
     rt: &R,
     note: PlatNote,
-    held: &mut VecDeque<Stage>,
+    held: &mut Vec<Stage>,
     at: usize,
 ) -> (Tried, PlatNote)
     requires there { at < length held.old.items }
@@ -217,7 +215,7 @@ fn send_one<N: Naming<Plan, TlmLaw>, S: Sharing<N>, R: Wait>(
     ensures knew { Within note.knows.known result.1.knows.known }
     ensures below { StandBelow result.1.knows.known result.1.knows.seen }
     ensures held { AllByRecursion (IsStage N.frame N.tokens result.1.knows.known) held.new.items }
-    ensures capacity { deque_capacity held.old ≤ deque_capacity held.new }
+    ensures capacity { vec_capacity held.old ≤ vec_capacity held.new }
     ensures few { length held.new.items ≤ length held.old.items }
     ensures adds { TryAdds N.frame.world note.knows.known result.1.knows.known result.0 }
     ensures tried { HasTried N.frame N.tokens result.1.knows.known (length held.new.items) (length held.old.items) (MovesAt N.frame false Steps.Send at held.old.items held.new.items note.knows result.1.knows (at + 1) false) result.0 }
@@ -234,7 +232,7 @@ fn pass_one<N: Naming<Plan, TlmLaw>, S: Sharing<N>, R: Wait>(
     net: &Net<N, S>,
     rt: &R,
     note: PlatNote,
-    held: &mut VecDeque<Stage>,
+    held: &mut Vec<Stage>,
     at: usize,
 ) -> (Tried, PlatNote)
     requires there { at < length held.old.items }
@@ -245,7 +243,7 @@ fn pass_one<N: Naming<Plan, TlmLaw>, S: Sharing<N>, R: Wait>(
     ensures knew { Within note.knows.known result.1.knows.known }
     ensures below { StandBelow result.1.knows.known result.1.knows.seen }
     ensures held { AllByRecursion (IsStage N.frame N.tokens result.1.knows.known) held.new.items }
-    ensures capacity { deque_capacity held.old ≤ deque_capacity held.new }
+    ensures capacity { vec_capacity held.old ≤ vec_capacity held.new }
     ensures few { length held.new.items ≤ length held.old.items }
     ensures adds { TryAdds N.frame.world note.knows.known result.1.knows.known result.0 }
     ensures tried { HasTried N.frame N.tokens result.1.knows.known (length held.new.items) (length held.old.items) (MovesAt N.frame false Steps.Pass at held.old.items held.new.items note.knows result.1.knows (at + 1) false) result.0 }
@@ -285,7 +283,7 @@ fn try_one<N: Naming<Plan, TlmLaw>, S: Sharing<N>, R: Wait>(
     rt: &R,
     what: Step,
     note: PlatNote,
-    held: &mut VecDeque<Stage>,
+    held: &mut Vec<Stage>,
     at: usize,
 ) -> (Tried, PlatNote)
     requires there { at < length held.old.items }
@@ -296,7 +294,7 @@ fn try_one<N: Naming<Plan, TlmLaw>, S: Sharing<N>, R: Wait>(
     ensures knew { Within note.knows.known result.1.knows.known }
     ensures below { StandBelow result.1.knows.known result.1.knows.seen }
     ensures held { AllByRecursion (IsStage N.frame N.tokens result.1.knows.known) held.new.items }
-    ensures capacity { deque_capacity held.old ≤ deque_capacity held.new }
+    ensures capacity { vec_capacity held.old ≤ vec_capacity held.new }
     ensures few { length held.new.items ≤ length held.old.items }
     ensures adds { TryAdds N.frame.world note.knows.known result.1.knows.known result.0 }
     ensures tried { HasTried N.frame N.tokens result.1.knows.known (length held.new.items) (length held.old.items) (MovesAt N.frame false what at held.old.items held.new.items note.knows result.1.knows (at + 1) false) result.0 }
@@ -314,7 +312,7 @@ fn try_each<N: Naming<Plan, TlmLaw>, S: Sharing<N>, R: Wait>(
     rt: &R,
     what: Step,
     note: PlatNote,
-    held: &mut VecDeque<Stage>,
+    held: &mut Vec<Stage>,
 ) -> (Tried, PlatNote)
     requires note { IsNote N.table note }
     requires below { StandBelow note.knows.known note.knows.seen }
@@ -323,7 +321,7 @@ fn try_each<N: Naming<Plan, TlmLaw>, S: Sharing<N>, R: Wait>(
     ensures knew { Within note.knows.known result.1.knows.known }
     ensures below { StandBelow result.1.knows.known result.1.knows.seen }
     ensures held { AllByRecursion (IsStage N.frame N.tokens result.1.knows.known) held.new.items }
-    ensures capacity { deque_capacity held.old ≤ deque_capacity held.new }
+    ensures capacity { vec_capacity held.old ≤ vec_capacity held.new }
     ensures few { length held.new.items ≤ length held.old.items }
     ensures adds { TryAdds N.frame.world note.knows.known result.1.knows.known result.0 }
     ensures tried { HasTried N.frame N.tokens result.1.knows.known (length held.new.items) (length held.old.items) (Sweeps N.frame false what held.old.items held.new.items note.knows result.1.knows false) result.0 }
@@ -340,9 +338,9 @@ fn try_each<N: Naming<Plan, TlmLaw>, S: Sharing<N>, R: Wait>(
 }
 
 // Whether the transaction that is held last is a request that is to go down.
-fn goes_down(held: &VecDeque<Stage>) -> bool
-    requires { 0 < length held.now.items }
-    ensures { (before : List StageOf) (last : StageOf) → held.now.items ≡ before ++ last ∷ [] → result ≡ is_down last }
+fn goes_down(held: &[Stage]) -> bool
+    requires { 0 < length held.now }
+    ensures { (before : List StageOf) (last : StageOf) → held.now ≡ before ++ last ∷ [] → result ≡ is_down last }
 {
     matches!(&held[held.len() - 1], Stage::Down(_))
 }

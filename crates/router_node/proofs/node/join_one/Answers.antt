@@ -1,4 +1,4 @@
-use Rattle.std.proofs.Common.{◌≡◌, ℕ, List, Option, set, sym, ap, subst, ◌∙◌, refl}
+use Rattle.std.proofs.Common.{◌≡◌, ℕ, List, Option, None, set, sym, ap, subst, ◌∙◌, refl}
 use Rattle.std.specs.List.{AllByRecursion}
 use Rattle.router_node.specs.Joins.{IsFirstOf, IsPlaceOf}
 use Rattle.router_node.specs.Node.{gap}
@@ -11,7 +11,7 @@ use Rattle.router_node.proofs.node.join_one.Goals as goal
 pub take_out-stage-requires : goal.take_out-stage-requires
 take_out-stage-requires g c =
     let items = c.args.held.now.items in
-    let first : IsFirstOf c.args.found items c.in-Some.at = subst (λ (o : Option ℕ). IsPlaceOf c.args.found items o) c.in-Some.is c.place_of.ensures in
+    let first : IsFirstOf c.args.found items c.in-Some.at = subst (λ (l : List Stage). IsFirstOf c.args.found l c.in-Some.at) c.deref.ensures.value (subst (λ (o : Option ℕ). IsPlaceOf c.args.found c.deref.result.now o) c.in-Some.is c.place_of.ensures) in
     is_within items c.in-Some.at first.stage first.stands
 
 pub join-stage-requires-clause-stage : goal.join-stage-requires-clause-stage
@@ -31,7 +31,7 @@ returns-clause-joined g c =
     let items = c.args.held.now.items in
     let at = c.in-Some.at in
     let t = c.join-stage.result.0 in
-    let first : IsFirstOf c.args.found items at = subst (λ (o : Option ℕ). IsPlaceOf c.args.found items o) c.in-Some.is c.place_of.ensures in
+    let first : IsFirstOf c.args.found items at = subst (λ (l : List Stage). IsFirstOf c.args.found l c.in-Some.at) c.deref.ensures.value (subst (λ (o : Option ℕ). IsPlaceOf c.args.found c.deref.result.now o) c.in-Some.is c.place_of.ensures) in
     let put : c.put_back.new.held.items ≡ set (set items at gap) at t = c.put_back.ensures.items ∙ ap (λ (l : List Stage). set l at t) c.take_out-stage.ensures.items in
     joined_there c.args.found items c.put_back.new.held.items at c.take_out-stage.result gap t c.join-stage.result.1 first c.take_out-stage.ensures.was put c.join-stage.ensures.joined
 
@@ -55,5 +55,5 @@ join-stage-requires-clause-found g c = c.requires.found
 
 pub returns-in_default-clause-joined : goal.returns-in_default-clause-joined
 returns-in_default-clause-joined g c =
-    let others = subst (λ (o : Option ℕ). IsPlaceOf c.args.found c.args.held.now.items o) c.in_default.is c.place_of.ensures in
+    let others = subst (λ (l : List Stage). IsPlaceOf c.args.found l None) c.deref.ensures.value (subst (λ (o : Option ℕ). IsPlaceOf c.args.found c.deref.result.now o) c.in_default.is c.place_of.ensures) in
     (refl, refl, others)

@@ -1,10 +1,13 @@
-use Rattle.std.proofs.Common.{◌<◌, length, refl, ◌∙◌, arith}
+use Rattle.std.proofs.Common.{◌<◌, ◌≤◌, List, length, refl, sym, subst, ◌∙◌, arith}
+use Rattle.router_node.specs.declared.stage.Stage.{Stage}
 use Rattle.node_hops.proofs.Looks.{within_on}
 use Rattle.router_node.proofs.Skips.{none_left, on_end, on_more, on_start, on_to, on_within}
 use Rattle.router_node.proofs.node.sweep.Goals as goal
 
 pub next_place-at-requires : goal.next_place-at-requires
-next_place-at-requires g c = on_within g.N.Naming.frame c.args.hasty c.args.what c.args.held.now.items c.loop-k._k c.loop-k.at c.loop-k.held.items c.args.note.knows c.loop-k.note.knows c.loop-k.moved c.loop-k.invariant.swept
+next_place-at-requires g c =
+    subst (λ (l : List Stage). c.loop-k.at ≤ length l) (sym {A = List Stage} c.deref.ensures.value)
+    (on_within g.N.Naming.frame c.args.hasty c.args.what c.args.held.now.items c.loop-k._k c.loop-k.at c.loop-k.held.items c.args.note.knows c.loop-k.note.knows c.loop-k.moved c.loop-k.invariant.swept)
 
 pub come_by-next-requires-clause-there : goal.come_by-next-requires-clause-there
 come_by-next-requires-clause-there g c = let h = c.loop-k.held.ok in omega (arith, c.if-at-len.false, c.len.ensures, h)
@@ -12,9 +15,10 @@ come_by-next-requires-clause-there g c = let h = c.loop-k.held.ok in omega (arit
 pub returns-then-at-len-clause-swept : goal.returns-then-at-len-clause-swept
 returns-then-at-len-clause-swept g c =
     let e = c.next_place-at.ensures in
+    let within : c.next_place-at.result ≤ length c.loop-k.held.items = subst (λ (l : List Stage). c.next_place-at.result ≤ length l) c.deref.ensures.value e.within in
     let h = c.loop-k.held.ok in
     none_left g.N.Naming.frame c.args.hasty c.args.what c.args.held.now.items c.loop-k._k c.next_place-at.result c.loop-k.held.items c.args.note.knows c.loop-k.note.knows c.loop-k.moved (λ l. omega (arith, l, c.if-at-len.true, c.len.ensures, h))
-    (on_to g.N.Naming.frame c.args.hasty c.args.what c.args.held.now.items c.loop-k._k c.loop-k.at c.next_place-at.result c.loop-k.held.items c.args.note.knows c.loop-k.note.knows c.loop-k.moved e.on e.within e.each c.loop-k.invariant.swept)
+    (on_to g.N.Naming.frame c.args.hasty c.args.what c.args.held.now.items c.loop-k._k c.loop-k.at c.next_place-at.result c.loop-k.held.items c.args.note.knows c.loop-k.note.knows c.loop-k.moved e.on within e.each c.loop-k.invariant.swept)
 
 pub loop-k-init : goal.loop-k-init
 loop-k-init g c = record {
@@ -31,6 +35,7 @@ loop-k-preserved g c =
     let frame = g.N.Naming.frame in
     let i = c.loop-k.invariant in
     let e = c.next_place-at.ensures in
+    let within : c.next_place-at.result ≤ length c.loop-k.held.items = subst (λ (l : List Stage). c.next_place-at.result ≤ length l) c.deref.ensures.value e.within in
     let d = c.come_by-next.ensures in
     let old = c.args.held.now.items in
     let at = c.next_place-at.result in
@@ -44,7 +49,7 @@ loop-k-preserved g c =
       held = d.held;
       capacity = d.capacity ∙ i.capacity;
       swept = on_more frame c.args.hasty c.args.what old c.loop-k._k at r.0 c.loop-k.held.items c.come_by-next.new.held.items c.args.note.knows c.loop-k.note.knows r.2.knows c.loop-k.moved r.1 c.either-moved.result c.either-moved.ensures there
-          (on_to frame c.args.hasty c.args.what old c.loop-k._k c.loop-k.at at c.loop-k.held.items c.args.note.knows c.loop-k.note.knows c.loop-k.moved e.on e.within e.each i.swept) d.knew d.moved;
+          (on_to frame c.args.hasty c.args.what old c.loop-k._k c.loop-k.at at c.loop-k.held.items c.args.note.knows c.loop-k.note.knows c.loop-k.moved e.on within e.each i.swept) d.knew d.moved;
     }
 
 pub come_by-next-requires-clause-note : goal.come_by-next-requires-clause-note

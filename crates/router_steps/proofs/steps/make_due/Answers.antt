@@ -1,6 +1,6 @@
 use Rattle.std.proofs.Common.{◌≡◌, ◌+◌, ◌≤◌, List, length, refl, sym, ap, subst, ◌∙◌, arith}
 use Rattle.std.specs.List.{AllByRecursion}
-use Rattle.std.specs.VecDeque.{deque_capacity}
+use Rattle.std.specs.Prelude.{vec_capacity}
 use Rattle.std.proofs.lemmas.List.Edits.{length-insert}
 use Rattle.router_node.specs.Stages.{IsStage}
 use Rattle.router_steps.specs.Stepped.{IsDue}
@@ -88,7 +88,7 @@ returns-in-EndAbove-clause-router g c =
     let e = c.hold_below-due.ensures in
     let p = d.0 in
     let few : length c.hold_below-due.new.held.items ≤ r.room = omega (arith, e.few, p.free) in
-    let room : r.room ≤ deque_capacity c.hold_below-due.new.held = omega (arith, is.room, e.capacity) in
+    let room : r.room ≤ vec_capacity c.hold_below-due.new.held = omega (arith, is.room, e.capacity) in
     keeps frame tokens known more w r (record r { held = c.hold_below-due.new.held }) refl is e.held few room (stray_more frame tokens known more w r.stray is.stray)
 
 pub returns-in-EndAbove-clause-due : goal.returns-in-EndAbove-clause-due
@@ -147,7 +147,7 @@ returns-in-Serve-clause-router g c =
     let held = subst (λ (l : List Stage). AllByRecursion (IsStage frame tokens more) l) (sym {A = List Stage} e.items) (all_insert (IsStage frame tokens more) items c.in-Serve.at stage (all_more frame tokens known more w items is.held) c.serve-stage.ensures.stage) in
     let count : length c.put_in.new.held.items ≡ length items + 1 = ap (λ (l : List Stage). length l) e.items ∙ length-insert items c.in-Serve.at stage p.there in
     let few : length c.put_in.new.held.items ≤ r.room = omega (arith, count, p.free) in
-    let room : r.room ≤ deque_capacity c.put_in.new.held = omega (arith, is.room, e.capacity) in
+    let room : r.room ≤ vec_capacity c.put_in.new.held = omega (arith, is.room, e.capacity) in
     keeps frame tokens known more w r (record r { held = c.put_in.new.held }) refl is held few room (stray_more frame tokens known more w r.stray is.stray)
 
 pub returns-in-Serve-clause-due : goal.returns-in-Serve-clause-due

@@ -1,6 +1,6 @@
 use Rattle.std.proofs.Common.{◌≡◌, ℕ, ◌+◌, ◌<◌, ◌≤◌, List, length, sym, ap, subst, ◌∙◌, arith}
 use Rattle.std.specs.List.{AllByRecursion, insert, remove}
-use Rattle.std.specs.VecDeque.{deque_capacity}
+use Rattle.std.specs.Prelude.{vec_capacity}
 use Rattle.std.proofs.lemmas.List.Edits.{length-insert}
 use Rattle.route_plan.specs.Valid.{hop_count}
 use Rattle.router_moves.specs.declared.items.PassedOn.{PassedOn}
@@ -56,7 +56,7 @@ pass_on-requires-clause-down g c = (that_one (IsStage g.N.Naming.frame g.N.Namin
 
 pub put_in-requires : goal.put_in-requires
 put_in-requires g c =
-    let p = placed c.args.held.now.items c.args.at (Down c.take_down-down.result) c.take_down-down.new.held.items (deque_capacity c.take_down-down.new.held) (deque_capacity c.args.held.now) c.take_down-down.ensures.was c.take_down-down.ensures.items (let o = c.args.held.now.ok in let m = c.args.held.now.small in omega (arith, o, m)) c.take_down-down.ensures.capacity in
+    let p = placed c.args.held.now.items c.args.at (Down c.take_down-down.result) c.take_down-down.new.held.items (vec_capacity c.take_down-down.new.held) (vec_capacity c.args.held.now) c.take_down-down.ensures.was c.take_down-down.ensures.items (let o = c.args.held.now.ok in let m = c.args.held.now.small in omega (arith, o, m)) c.take_down-down.ensures.capacity in
     record { there = p.0; free = p.1 }
 
 pub returns-in-Busy-clause-note : goal.returns-in-Busy-clause-note
@@ -87,7 +87,7 @@ returns-in-Busy-clause-held g c =
 
 pub returns-in-Busy-clause-few : goal.returns-in-Busy-clause-few
 returns-in-Busy-clause-few g c =
-    let p = placed c.args.held.now.items c.args.at (Down c.take_down-down.result) c.take_down-down.new.held.items (deque_capacity c.take_down-down.new.held) (deque_capacity c.args.held.now) c.take_down-down.ensures.was c.take_down-down.ensures.items (let o = c.args.held.now.ok in let m = c.args.held.now.small in omega (arith, o, m)) c.take_down-down.ensures.capacity in
+    let p = placed c.args.held.now.items c.args.at (Down c.take_down-down.result) c.take_down-down.new.held.items (vec_capacity c.take_down-down.new.held) (vec_capacity c.args.held.now) c.take_down-down.ensures.was c.take_down-down.ensures.items (let o = c.args.held.now.ok in let m = c.args.held.now.small in omega (arith, o, m)) c.take_down-down.ensures.capacity in
     let n = p.2 in
     let is : length c.put_in.new.held.items ≡ length c.take_down-down.new.held.items + 1 = ap (λ (l : List Stage). length l) c.put_in.ensures.items ∙ length-insert c.take_down-down.new.held.items c.args.at (Down c.in-Busy.down) p.0 in
     omega (arith, n, is)
@@ -107,7 +107,7 @@ returns-in-Busy-clause-tried g c =
 
 pub due_below-due-requires-clause-place : goal.due_below-due-requires-clause-place
 due_below-due-requires-clause-place g c =
-    let p = placed c.args.held.now.items c.args.at (Down c.take_down-down.result) c.take_down-down.new.held.items (deque_capacity c.take_down-down.new.held) (deque_capacity c.args.held.now) c.take_down-down.ensures.was c.take_down-down.ensures.items (let o = c.args.held.now.ok in let m = c.args.held.now.small in omega (arith, o, m)) c.take_down-down.ensures.capacity in
+    let p = placed c.args.held.now.items c.args.at (Down c.take_down-down.result) c.take_down-down.new.held.items (vec_capacity c.take_down-down.new.held) (vec_capacity c.args.held.now) c.take_down-down.ensures.was c.take_down-down.ensures.items (let o = c.args.held.now.ok in let m = c.args.held.now.small in omega (arith, o, m)) c.take_down-down.ensures.capacity in
     record { there = p.0; free = p.1 }
 
 pub due_below-due-requires-clause-held : goal.due_below-due-requires-clause-held
@@ -151,19 +151,19 @@ returns-in-Gone-clause-held g c = c.due_below-due.ensures.held
 
 pub returns-in-Gone-clause-few : goal.returns-in-Gone-clause-few
 returns-in-Gone-clause-few g c =
-    let p = placed c.args.held.now.items c.args.at (Down c.take_down-down.result) c.take_down-down.new.held.items (deque_capacity c.take_down-down.new.held) (deque_capacity c.args.held.now) c.take_down-down.ensures.was c.take_down-down.ensures.items (let o = c.args.held.now.ok in let m = c.args.held.now.small in omega (arith, o, m)) c.take_down-down.ensures.capacity in
+    let p = placed c.args.held.now.items c.args.at (Down c.take_down-down.result) c.take_down-down.new.held.items (vec_capacity c.take_down-down.new.held) (vec_capacity c.args.held.now) c.take_down-down.ensures.was c.take_down-down.ensures.items (let o = c.args.held.now.ok in let m = c.args.held.now.small in omega (arith, o, m)) c.take_down-down.ensures.capacity in
     let n = p.2 in
     omega (arith, n, c.due_below-due.ensures.few)
 
 pub returns-in-Gone-clause-tried : goal.returns-in-Gone-clause-tried
 returns-in-Gone-clause-tried g c =
-    let p = placed c.args.held.now.items c.args.at (Down c.take_down-down.result) c.take_down-down.new.held.items (deque_capacity c.take_down-down.new.held) (deque_capacity c.args.held.now) c.take_down-down.ensures.was c.take_down-down.ensures.items (let o = c.args.held.now.ok in let m = c.args.held.now.small in omega (arith, o, m)) c.take_down-down.ensures.capacity in
+    let p = placed c.args.held.now.items c.args.at (Down c.take_down-down.result) c.take_down-down.new.held.items (vec_capacity c.take_down-down.new.held) (vec_capacity c.args.held.now) c.take_down-down.ensures.was c.take_down-down.ensures.items (let o = c.args.held.now.ok in let m = c.args.held.now.small in omega (arith, o, m)) c.take_down-down.ensures.capacity in
     let n = p.2 in
     dues_room g.N.Naming.frame g.N.Naming.tokens c.in-Gone.note.knows.known (length c.due_below-due.new.held.items) (length c.take_down-down.new.held.items + 1) (length c.args.held.now.items) c.due_below-due.result (omega (arith, n)) c.due_below-due.ensures.due
 
 pub due_below-due-requires-in-Now-clause-place : goal.due_below-due-requires-in-Now-clause-place
 due_below-due-requires-in-Now-clause-place g c =
-    let p = placed c.args.held.now.items c.args.at (Down c.take_down-down.result) c.take_down-down.new.held.items (deque_capacity c.take_down-down.new.held) (deque_capacity c.args.held.now) c.take_down-down.ensures.was c.take_down-down.ensures.items (let o = c.args.held.now.ok in let m = c.args.held.now.small in omega (arith, o, m)) c.take_down-down.ensures.capacity in
+    let p = placed c.args.held.now.items c.args.at (Down c.take_down-down.result) c.take_down-down.new.held.items (vec_capacity c.take_down-down.new.held) (vec_capacity c.args.held.now) c.take_down-down.ensures.was c.take_down-down.ensures.items (let o = c.args.held.now.ok in let m = c.args.held.now.small in omega (arith, o, m)) c.take_down-down.ensures.capacity in
     record { there = p.0; free = p.1 }
 
 pub due_below-due-requires-in-Now-clause-held : goal.due_below-due-requires-in-Now-clause-held
@@ -207,13 +207,13 @@ returns-in-Now-clause-held g c = c.due_below-due-in-Now.ensures.held
 
 pub returns-in-Now-clause-few : goal.returns-in-Now-clause-few
 returns-in-Now-clause-few g c =
-    let p = placed c.args.held.now.items c.args.at (Down c.take_down-down.result) c.take_down-down.new.held.items (deque_capacity c.take_down-down.new.held) (deque_capacity c.args.held.now) c.take_down-down.ensures.was c.take_down-down.ensures.items (let o = c.args.held.now.ok in let m = c.args.held.now.small in omega (arith, o, m)) c.take_down-down.ensures.capacity in
+    let p = placed c.args.held.now.items c.args.at (Down c.take_down-down.result) c.take_down-down.new.held.items (vec_capacity c.take_down-down.new.held) (vec_capacity c.args.held.now) c.take_down-down.ensures.was c.take_down-down.ensures.items (let o = c.args.held.now.ok in let m = c.args.held.now.small in omega (arith, o, m)) c.take_down-down.ensures.capacity in
     let n = p.2 in
     omega (arith, n, c.due_below-due-in-Now.ensures.few)
 
 pub returns-in-Now-clause-tried : goal.returns-in-Now-clause-tried
 returns-in-Now-clause-tried g c =
-    let p = placed c.args.held.now.items c.args.at (Down c.take_down-down.result) c.take_down-down.new.held.items (deque_capacity c.take_down-down.new.held) (deque_capacity c.args.held.now) c.take_down-down.ensures.was c.take_down-down.ensures.items (let o = c.args.held.now.ok in let m = c.args.held.now.small in omega (arith, o, m)) c.take_down-down.ensures.capacity in
+    let p = placed c.args.held.now.items c.args.at (Down c.take_down-down.result) c.take_down-down.new.held.items (vec_capacity c.take_down-down.new.held) (vec_capacity c.args.held.now) c.take_down-down.ensures.was c.take_down-down.ensures.items (let o = c.args.held.now.ok in let m = c.args.held.now.small in omega (arith, o, m)) c.take_down-down.ensures.capacity in
     let n = p.2 in
     dues_room g.N.Naming.frame g.N.Naming.tokens c.in-Now.note.knows.known (length c.due_below-due-in-Now.new.held.items) (length c.take_down-down.new.held.items + 1) (length c.args.held.now.items) c.due_below-due-in-Now.result (omega (arith, n)) c.due_below-due-in-Now.ensures.due
 

@@ -1,6 +1,6 @@
 use Rattle.std.proofs.Common.{◌≤◌, false, length}
 use Rattle.std.specs.List.{AllByRecursion}
-use Rattle.std.specs.VecDeque.{deque_capacity}
+use Rattle.std.specs.Prelude.{vec_capacity}
 use Rattle.view_lists.specs.Lists.{Within}
 use Rattle.one_history.specs.Lists.{StandBelow}
 use Rattle.shared_object.specs.Steps.{IsNote}
@@ -14,7 +14,7 @@ invariant-loop-at g l = record {
   knew : Within l.fn.note.knows.known l.note.knows.known;
   below : StandBelow l.note.knows.known l.note.knows.seen;
   held : AllByRecursion (IsStage g.N.Naming.frame g.N.Naming.tokens l.note.knows.known) l.held.items;
-  capacity : deque_capacity l.fn.held ≤ deque_capacity l.held;
+  capacity : vec_capacity l.fn.held ≤ vec_capacity l.held;
   few : length l.held.items ≤ length l.fn.held.items;
   swept : IsPartSwept g.N.Naming.frame false l.fn.what l.fn.held.items l.at l.at l.held.items l.fn.note.knows l.note.knows false;
 }

@@ -36,7 +36,7 @@ returns-clause-adds g c =
     let between = c.take_back-joins.result.1 in
     let back = c.take_in-takes.result.1 in
     let t = subst (λ (b : Bool). HasTakenIn frame g.N.Naming.tokens false mid c.take_in-takes.new.self between back b) c.if-not-takes.false c.take_in-takes.ensures.taken in
-    let same : c.goes_down-down.result ≡ is_down (stage_of t.turned) = c.goes_down-down.ensures mid.held.items (stage_of t.turned) t.line in
+    let same : c.goes_down-down.result ≡ is_down (stage_of t.turned) = c.goes_down-down.ensures mid.held.items (stage_of t.turned) (c.deref.ensures.value ∙ t.line) in
     subst (TryAdds frame.world known back.knows.known) (sym c.come_in.ensures)
     (come_adds frame.world known back.knows.known c.goes_down-down.result
     (λ q. new_after (IsByRouter frame.world) known between.knows.known back.knows.known c.take_back-joins.ensures.knew (c.take_in-takes.ensures.adds mid.held.items (stage_of t.turned) c.if-not-takes.false t.line (sym same ∙ q))))

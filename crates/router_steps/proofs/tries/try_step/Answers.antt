@@ -1,5 +1,5 @@
 use Rattle.std.proofs.Common.{◌≤◌, false, length, refl, arith}
-use Rattle.std.specs.VecDeque.{deque_capacity}
+use Rattle.std.specs.Prelude.{vec_capacity}
 use Rattle.router_node.specs.Node.{HasSwept, Sweeps}
 use Rattle.router_node.proofs.Holds.{keeps, stray_more}
 use Rattle.router_steps.proofs.Trying.{tried_as}
@@ -33,7 +33,7 @@ returns-clause-router g c =
     let known = c.args.note.knows.known in
     let more = c.try_each.result.1.knows.known in
     let few : length c.try_each.new.held.items ≤ r.room = omega (arith, e.few, is.few) in
-    let room : r.room ≤ deque_capacity c.try_each.new.held = omega (arith, is.room, e.capacity) in
+    let room : r.room ≤ vec_capacity c.try_each.new.held = omega (arith, is.room, e.capacity) in
     keeps frame tokens known more e.knew r (record r { held = c.try_each.new.held }) refl is e.held few room (stray_more frame tokens known more e.knew r.stray is.stray)
 
 pub returns-clause-tried : goal.returns-clause-tried

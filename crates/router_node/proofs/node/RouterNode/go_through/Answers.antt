@@ -91,12 +91,3 @@ returns-clause-below g c = c.take_in-takes.ensures.below
 
 pub returns-clause-knew : goal.returns-clause-knew
 returns-clause-knew g c = within_on c.args.note.knows.known c.take_back-joins.result.1.knows.known c.take_in-takes.result.1.knows.known (within_on c.args.note.knows.known c.sweep-passes.result.1.knows.known c.take_back-joins.result.1.knows.known (within_on c.args.note.knows.known c.sweep-sends.result.1.knows.known c.sweep-passes.result.1.knows.known (within_on c.args.note.knows.known c.sweep-ends.result.1.knows.known c.sweep-sends.result.1.knows.known c.sweep-ends.ensures.knew c.sweep-sends.ensures.knew) c.sweep-passes.ensures.knew) c.take_back-joins.ensures.knew) c.take_in-takes.ensures.knew
-
-pub sweep-ends-requires-clause-due : goal.sweep-ends-requires-clause-due
-sweep-ends-requires-clause-due g c = c.of-due.ensures.ends
-
-pub sweep-sends-requires-clause-due : goal.sweep-sends-requires-clause-due
-sweep-sends-requires-clause-due g c = c.of-due.ensures.sends
-
-pub sweep-passes-requires-clause-due : goal.sweep-passes-requires-clause-due
-sweep-passes-requires-clause-due g c = c.of-due.ensures.passes

@@ -1,5 +1,5 @@
 use Rattle.std.proofs.Common.{ℕ, List, ◌≤◌, length, Option, refl, sym, subst, ◌∙◌, arith}
-use Rattle.std.specs.VecDeque.{deque_capacity}
+use Rattle.std.specs.Prelude.{vec_capacity}
 use Rattle.router_node.specs.Finds.{AreLookedAt, HasFoundBack, IsHopBelow}
 use Rattle.router_node.specs.declared.finds.Found.{Found}
 use Rattle.router_node.proofs.Hasty.{each_looked, kept_back, not_back}
@@ -24,7 +24,7 @@ returns-clause-router g c =
     let more = c.find_back-found.result.1.knows.known in
     let count = joined_count c.in-Some.found r.held.items c.join_one.new.held.items c.join_one.result e.joined in
     let few : length c.join_one.new.held.items ≤ r.room = omega (arith, count, is.few) in
-    let room : r.room ≤ deque_capacity c.join_one.new.held = omega (arith, is.room, e.capacity) in
+    let room : r.room ≤ vec_capacity c.join_one.new.held = omega (arith, is.room, e.capacity) in
     keeps frame tokens known more c.find_back-found.ensures.knew r (record r { held = c.join_one.new.held; stray = c.join_one.result }) refl is e.held few room (strays frame tokens more c.join_one.result e.found)
 
 pub returns-then-is_some-clause-taken : goal.returns-then-is_some-clause-taken

@@ -1,5 +1,5 @@
 use Rattle.std.proofs.Common.{◌≡◌, ℕ, ◌+◌, ◌≤◌, List, [], ◌∷◌, length, Option, Some, refl, sym, ap, subst, ◌∙◌, length-append, arith}
-use Rattle.std.specs.VecDeque.{deque_capacity}
+use Rattle.std.specs.Prelude.{vec_capacity}
 use Rattle.tlm_model.specs.declared.platform.Target.TheVariants.{Router}
 use Rattle.node_hops.specs.Hops.{IsHopTo}
 use Rattle.node_hops.proofs.Latencies.{latency_to}
@@ -41,7 +41,7 @@ returns-in_default-clause-taken g c =
     not_in frame tokens c.args.hasty r hops c.args.note c.find_request-request.result.1 (omega (arith, c.len.ensures, c.if-len-self.false, r.held.ok.0)) a f
 
 -- what was found, at which hop
-found : (g : _) (c : goal.After-push_back_reserved g) → HasFoundRequest g.N.Naming.frame g.N.Naming.tokens c.args.self.now.router c.hops_at-hops.result.now c.args.note.knows c.find_request-request.result.1.knows (Some c.in-Some.request)
+found : (g : _) (c : goal.After-push_reserved g) → HasFoundRequest g.N.Naming.frame g.N.Naming.tokens c.args.self.now.router c.hops_at-hops.result.now c.args.note.knows c.find_request-request.result.1.knows (Some c.in-Some.request)
 found g c =
     subst (λ (o : Option RouterRequest). HasFoundRequest g.N.Naming.frame g.N.Naming.tokens c.args.self.now.router c.hops_at-hops.result.now c.args.note.knows c.find_request-request.result.1.knows o) c.in-Some.is c.find_request-request.ensures.found
 
@@ -62,11 +62,11 @@ returns-clause-router g c =
     let more = c.turn-turned.result.1.knows.known in
     let w = within_on known c.find_request-request.result.1.knows.known more c.find_request-request.ensures.knew c.turn-turned.ensures.knew in
     let one = turned_stage frame tokens r.router r.latency c.in-Some.request c.find_request-request.result.1 c.turn-turned.result.1 (found g c).1 c.turn-turned.result.0 c.stage_of-stage.result c.stage_of-stage.ensures c.turn-turned.ensures.turned in
-    let all = all_next (IsStage frame tokens more) r.held.items c.push_back_reserved.new.self.items c.stage_of-stage.result c.push_back_reserved.ensures.items (all_more frame tokens known more w r.held.items is.held) one in
-    let count : length c.push_back_reserved.new.self.items ≡ length r.held.items + 1 = ap (λ (l : List Stage). length l) c.push_back_reserved.ensures.items ∙ length-append r.held.items (c.stage_of-stage.result ∷ []) in
-    let few : length c.push_back_reserved.new.self.items ≤ r.room = omega (arith, count, c.len.ensures, c.if-len-self.false, r.held.ok.0) in
-    let room : r.room ≤ deque_capacity c.push_back_reserved.new.self = omega (arith, is.room, c.push_back_reserved.ensures.capacity) in
-    keeps frame tokens known more w r (record r { held = c.push_back_reserved.new.self }) refl is all few room (stray_more frame tokens known more w r.stray is.stray)
+    let all = all_next (IsStage frame tokens more) r.held.items c.push_reserved.new.self.items c.stage_of-stage.result c.push_reserved.ensures.items (all_more frame tokens known more w r.held.items is.held) one in
+    let count : length c.push_reserved.new.self.items ≡ length r.held.items + 1 = ap (λ (l : List Stage). length l) c.push_reserved.ensures.items ∙ length-append r.held.items (c.stage_of-stage.result ∷ []) in
+    let few : length c.push_reserved.new.self.items ≤ r.room = omega (arith, count, c.len.ensures, c.if-len-self.false, r.held.ok.0) in
+    let room : r.room ≤ vec_capacity c.push_reserved.new.self = omega (arith, is.room, c.push_reserved.ensures.capacity) in
+    keeps frame tokens known more w r (record r { held = c.push_reserved.new.self }) refl is all few room (stray_more frame tokens known more w r.stray is.stray)
 
 pub returns-clause-below : goal.returns-clause-below
 returns-clause-below g c = c.turn-turned.ensures.below c.find_request-request.ensures.below
@@ -86,7 +86,7 @@ returns-clause-taken g c =
       turned = c.turn-turned.result.0;
       turns = c.turn-turned.ensures.turned;
       knew = c.turn-turned.ensures.knew;
-      line = last_is r.held.items c.push_back_reserved.new.self.items c.stage_of-stage.result (stage_of c.turn-turned.result.0) c.push_back_reserved.ensures.items c.stage_of-stage.ensures;
+      line = last_is r.held.items c.push_reserved.new.self.items c.stage_of-stage.result (stage_of c.turn-turned.result.0) c.push_reserved.ensures.items c.stage_of-stage.ensures;
       same = refl;
     }
 
@@ -153,7 +153,7 @@ returns-clause-adds g c = λ before last took is down.
     let back = c.turn-turned.result.1.knows in
     let stage = c.stage_of-stage.result in
     let x = c.in-Some.request.cargo.baton.txn in
-    let same : stage ≡ last = last_same c.args.self.now.held.items before stage last (sym c.push_back_reserved.ensures.items ∙ is) in
+    let same : stage ≡ last = last_same c.args.self.now.held.items before stage last (sym c.push_reserved.ensures.items ∙ is) in
     let a = turned_adds p x.initiator mid back c.turn-turned.result.0 stage c.stage_of-stage.ensures (ap is_down same ∙ down) c.turn-turned.ensures.adds in
     let r = (found g c).2 in
     let d = r.down in
