@@ -357,24 +357,8 @@ fn put_kept<K: Sink>(out: &mut K, line: &mut Line, names: &Names<'_>, log: &Log,
     false
 }
 
-// Puts the line of the entry at this place, once the digits of its numbers are at hand.
-#[cold]
-#[inline(never)]
-fn put_turned<K: Sink>(out: &mut K, line: &mut Line, names: &mut Names<'_>, log: &Log, index: u64)
-    requires whole { log.now.whole ≡ true }
-    requires index { index < length log.now.entries }
-    ensures same { names.new ≡ names.old }
-    ensures puts { (e : Entry) → slice_get log.now.entries index ≡ Some e →
-        Puts (page (K.taken out.old) (K.faults out.old) line.old)
-        (page (K.taken out.new) (K.faults out.new) line.new) (line_of (entry_words names.old.platform e)) }
-{
-    names.turn_to(log.head(index));
-    if !put_kept(out, line, names, log, index) {
-        put_other(out, line, names, log, index);
-    }
-}
-
-// Puts the line of the entry at this place. Of nearly all lines the digits are at hand.
+// Puts the line of the entry at this place. Of nearly all lines the digits are at hand, and of most others they are once
+// they were turned to. There is one call for both, so that the compiler makes it a part of its caller.
 #[inline(always)]
 fn put_line<K: Sink>(out: &mut K, line: &mut Line, names: &mut Names<'_>, log: &Log, index: u64)
     requires whole { log.now.whole ≡ true }
@@ -384,9 +368,13 @@ fn put_line<K: Sink>(out: &mut K, line: &mut Line, names: &mut Names<'_>, log: &
         Puts (page (K.taken out.old) (K.faults out.old) line.old)
         (page (K.taken out.new) (K.faults out.new) line.new) (line_of (entry_words names.old.platform e)) }
 {
-    if !put_kept(out, line, names, log, index) {
-        put_turned(out, line, names, log, index);
+    for _k in 0..2 {
+        if put_kept(out, line, names, log, index) {
+            return;
+        }
+        names.turn_to(log.head(index));
     }
+    put_other(out, line, names, log, index);
 }
 
 // Puts the line of the entry at this place, where the trace shows it.
