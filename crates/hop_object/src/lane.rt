@@ -140,15 +140,7 @@ pub(crate) fn any_leg<T>(lanes: &[Lane<T>], name: u32) -> bool
     lanes.iter().any(|lane| lane.has_leg(name))
 }
 
-#[inline(always)]
-fn find_leg<T>(lanes: &[Lane<T>], name: u32) -> Option<usize>
-    requires { All HasPosition lanes.now }
-    ensures { result ≡ position (has_leg name) lanes.now }
-{
-    lanes.iter().position(|lane| lane.has_leg(name))
-}
-
-// The place of the lane whose leg has this name.
+// The place of the lane whose leg has this name. Nothing asks for the end of the list.
 #[inline(always)]
 pub(crate) fn lane_of<T>(lanes: &[Lane<T>], name: u32) -> usize
     requires placed { All HasPosition lanes.now }
@@ -157,7 +149,11 @@ pub(crate) fn lane_of<T>(lanes: &[Lane<T>], name: u32) -> usize
     ensures leg { HoldsAt (λ l. has_leg name l ≡ true) lanes.now result }
     ensures found { (l : _) → l ≡ slice_index_or lanes.now result l → find (has_leg name) lanes.now ≡ Some l }
 {
-    find_leg(lanes, name).unwrap()
+    let mut place = 0;
+    while !lanes[place].has_leg(name) {
+        place += 1;
+    }
+    place
 }
 
 // Moves a lane on, and hands out what it carried.

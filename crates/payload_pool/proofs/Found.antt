@@ -81,3 +81,7 @@ module _ {X : Type 0} where
   any_found p xs any =
       let below = ltb-true (position_or_len p xs) (length xs) (sym (any_place p xs) ∙ any) in
       record { first = refl; within = below; any = any }
+
+  -- where one passes, the first that does is one of the list
+  pub first_within : (p : X → Bool) (xs : List X) → list_any p xs ≡ true → position_or_len p xs < length xs
+  first_within p xs any = ltb-true (position_or_len p xs) (length xs) (sym (any_place p xs) ∙ any)

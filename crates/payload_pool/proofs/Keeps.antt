@@ -3,7 +3,7 @@ use Rattle.std.proofs.Common.{◌≡◌, ℕ, ◌+◌, ◌-◌, ◌<◌, ◌≤�
 use Rattle.std.specs.Prelude.{◌%◌, IsSome, IfSome, MatchOption}
 use Rattle.std.specs.List.{All, list_any, position}
 use Rattle.std.specs.Option.{option_map, option_or}
-use Rattle.std.proofs.lemmas.Bool.{both_ways, eqb-true, eqb-false, lt-ltb, cond-false, ne_eqb}
+use Rattle.std.proofs.lemmas.Bool.{eqb-true, eqb-false, lt-ltb, cond-false, ne_eqb}
 use Rattle.std.proofs.lemmas.List.{get_or_read}
 use Rattle.std.proofs.lemmas.List.Sums.{sum_by-set, fails_before_first}
 use Rattle.std.proofs.lemmas.List.Elements.{All-set, All-push, All-from_get_or, All-get_or}
@@ -19,7 +19,7 @@ use Rattle.payload_pool.specs.declared.slot.KeptPayload.{KeptPayload}
 use Rattle.payload_pool.specs.Slots.{SlotView, slot_at, blank_slot, tally, is_free, has_name, names_out, all_out, name_of, reference_number, acquired_of, taken_slot, acquired_more, given_back, without}
 use Rattle.payload_pool.specs.Lives.{IsOfLog, FitsLog, no_takes, takes_after}
 use Rattle.payload_pool.specs.Pool.{PoolView, IsPool, IsSlot, event_by, changed, after_take, after_acquire, after_release, is_last}
-use Rattle.payload_pool.proofs.Found.{any_sum, Found, passes_found, found_in, none_in}
+use Rattle.payload_pool.proofs.Found.{any_sum, Found, found, passes_found}
 use Rattle.payload_pool.proofs.Tallies.{tally_push, tally_few, tally_without}
 use Rattle.payload_pool.proofs.Names.{counts, names_free, names_begun, names_more, names_less, few_out, IsNamed, is_named}
 use Rattle.payload_pool.proofs.Lives.{live_life, single}
@@ -126,18 +126,15 @@ module _ (v : PoolView) (i : IsPool v) where
     pub was : 1 ≤ out_of t.name v.book.out
 
   -- the slot of a token that was retired
-  pub holds_at : (t : Slip) (name k : ℕ) (read : List SlotView) (o : Option ℕ) → read ≡ v.slots → name ≡ t.name → o ≡ position (has_name name) read → o ≡ Some k → t.amount ≡ 1 → t.amount ≤ out_of t.name v.book.out → Holds t k
-  holds_at t name k read o same e found some one was = record {
-    place = found_in (has_name t.name) v.slots read o k same (found ∙ ap (λ (n : ℕ). position (has_name n) read) e) some;
+  pub holds_at : (t : Slip) (name k : ℕ) (read : List SlotView) → read ≡ v.slots → name ≡ t.name → position (has_name name) read ≡ Some k → t.amount ≡ 1 → t.amount ≤ out_of t.name v.book.out → Holds t k
+  holds_at t name k read same e first one was = record {
+    place = found (has_name t.name) v.slots k (ap (λ (l : List SlotView). position (has_name t.name) l) (sym same) ∙ ap (λ (n : ℕ). position (has_name n) read) (sym e) ∙ first);
     one = one;
     was = omega arith;
   }
 
-  pub not_lost : (t : Slip) (name : ℕ) (read : List SlotView) (o : Option ℕ) → read ≡ v.slots → name ≡ t.name → o ≡ position (has_name name) read → o ≡ None → t.amount ≡ 1 → t.amount ≤ out_of t.name v.book.out → ⊥
-  not_lost t name read o same e found none one was =
-      let any = out_somewhere t.name (omega arith) in
-      let lost = none_in (has_name t.name) v.slots read o same (found ∙ ap (λ (n : ℕ). position (has_name n) read) e) none in
-      both_ways (list_any (has_name t.name) v.slots) lost any
+  pub is_somewhere : (t : Slip) (name : ℕ) (read : List SlotView) → read ≡ v.slots → name ≡ t.name → t.amount ≡ 1 → t.amount ≤ out_of t.name v.book.out → list_any (has_name name) read ≡ true
+  is_somewhere t name read same e one was = ap (λ (n : ℕ). list_any (has_name n) read) e ∙ ap (λ (l : List SlotView). list_any (has_name t.name) l) same ∙ out_somewhere t.name (omega arith)
 
   named : (t : Slip) (k : ℕ) → Holds t k → IsNamed (slot_at v.slots k) t.name
   named t k h = is_named (slot_at v.slots k) t.name (passes_found (has_name t.name) v.slots k blank_slot h.place)

@@ -1,15 +1,14 @@
 -- A slot and its life in the log, after each entry.
-use Rattle.std.proofs.Common.{◌≡◌, ◌⊎◌, ℕ, zero, suc, ◌+◌, ◌<◌, ◌≤◌, ◌==◌, Bool, true, false, cond, List, [], ◌∷◌, ◌++◌, length, Option, Some, None, refl, sym, ap, ◌∙◌, subst, inl, inr, ⊎_elim, arith, zero-add, length-append}
-use Rattle.std.specs.Prelude.{nat_lt, ◌%◌, min}
+use Rattle.std.proofs.Common.{◌≡◌, ◌⊎◌, ℕ, ◌+◌, ◌<◌, ◌≤◌, ◌==◌, cond, [], ◌∷◌, ◌++◌, length, Option, Some, None, refl, sym, ap, ◌∙◌, subst, inl, inr, ⊎_elim, arith, zero-add}
 use Rattle.std.proofs.lemmas.Bool.{cases_lt}
 use Rattle.std.proofs.lemmas.Bool.Decides.{nat_tests}
-use Rattle.std.proofs.lemmas.List.{length_push, nil_from_length}
+use Rattle.std.proofs.lemmas.List.{length_push}
 use Rattle.tlm_types.specs.declared.words.TxnId.{TxnId}
 use Rattle.flow_model.specs.Events.{Among}
-use Rattle.flow_model.specs.Pools.{Life, Slots, fewer, more, IsLive, AcquireStep, ReleaseStep}
-use Rattle.payload_pool.specs.Slots.{SlotView, tally, without, is_free, taken_slot, acquired_more, given_back}
+use Rattle.flow_model.specs.Pools.{Life, Slots, AcquireStep, ReleaseStep}
+use Rattle.payload_pool.specs.Slots.{SlotView, tally, taken_slot, acquired_more, given_back}
 use Rattle.payload_pool.specs.Lives.{IsOfLife, IsOfLog, numbers_of}
-use Rattle.payload_pool.proofs.Tallies.{tally_push, tally_cons, tally_few, tally_without, length_without, among_tally}
+use Rattle.payload_pool.proofs.Tallies.{tally_push, tally_cons, tally_without, length_without, among_tally}
 
 -- a free slot has no life, and a live one has one
 pub free_life : (s : SlotView) (position : ℕ) (o : Option Life) → length s.out ≡ 0 → IsOfLog s position o → o ≡ None

@@ -34,9 +34,7 @@ impl Pool {
     {
         let name = token.name();
         tokens.retire_one(&mut self.book, token);
-        let Some(place) = place_of(&self.slots, name) else {
-            unreachable!()
-        };
+        let place = place_of(&self.slots, name);
         let number = (name % 32).min(15);
         let txn = self.slots[place].txn();
         let freed = self.slots[place].give_back(number, kept);

@@ -160,19 +160,22 @@ impl Slot {
         ensures last { result ≡ (length self.old.out == 1) }
     {
         self.kept = kept.or(self.kept.take());
-        let Some(place) = place_in(&self.out, number) else {
-            unreachable!()
-        };
+        let place = place_in(&self.out, number);
         take_from(&mut self.out, place);
         self.is_free()
     }
 }
 
-// The first place of a number.
-fn place_in(numbers: &[u32], number: u32) -> Option<usize>
-    ensures { result ≡ position (λ m. m == number) numbers.now }
+// The first place of a number, which stands at one.
+fn place_in(numbers: &[u32], number: u32) -> usize
+    requires { 1 ≤ tally number numbers.now }
+    ensures { position (λ m. m == number) numbers.now ≡ Some result }
 {
-    numbers.iter().position(|m| *m == number)
+    let mut place = 0;
+    while numbers[place] != number {
+        place += 1;
+    }
+    place
 }
 
 /// The place of the least free slot.
@@ -189,11 +192,16 @@ pub(crate) fn is_out(slots: &[Slot], name: u32) -> bool
     slots.iter().any(|slot| slot.has(name))
 }
 
-/// The place of the slot that has the reference of this name.
-pub(crate) fn place_of(slots: &[Slot], name: u32) -> Option<usize>
-    ensures { result ≡ position (has_name name) slots.now }
+/// The place of the slot that has the reference of this name, which one of them has.
+pub(crate) fn place_of(slots: &[Slot], name: u32) -> usize
+    requires { list_any (has_name name) slots.now ≡ true }
+    ensures { position (has_name name) slots.now ≡ Some result }
 {
-    slots.iter().position(|slot| slot.has(name))
+    let mut place = 0;
+    while !slots[place].has(name) {
+        place += 1;
+    }
+    place
 }
 
 /// How many slots are live.

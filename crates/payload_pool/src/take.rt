@@ -99,9 +99,7 @@ impl Pool {
         let name = own.name();
         let Own { token } = own;
         tokens.retire_one(&mut self.book, token);
-        let Some(place) = place_of(&self.slots, name) else {
-            unreachable!()
-        };
+        let place = place_of(&self.slots, name);
         let event = BriefEvent::Acquire { slot: place as u8 };
         let head = head(self.initiator, position, self.slots[place].txn(), at);
         self.log.push(head, event, (name % 16) as u8);

@@ -1,6 +1,6 @@
 -- The place of an object that was found in a wallet, and what becomes of it.
-use Rattle.std.proofs.Common.{◌≡◌, ◌≢◌, ℕ, zero, suc, ◌+◌, ◌<◌, ◌==◌, true, false, cond, List, [], ◌∷◌, Option, Some, refl, sym, ap, ◌∙◌, subst, ⊎_elim, arith}
-use Rattle.std.specs.Prelude.{slice_get, slice_set, slice_index_or, remove, unwrap_or}
+use Rattle.std.proofs.Common.{◌≡◌, ◌≢◌, ℕ, zero, suc, ◌+◌, ◌<◌, ◌==◌, true, false, cond, List, [], ◌∷◌, Option, None, Some, refl, sym, ap, ◌∙◌, subst, ⊎_elim, arith}
+use Rattle.std.specs.Prelude.{slice_get, slice_set, slice_index_or, remove, unwrap_or, IsSome}
 use Rattle.std.specs.Ordering.{nat_cmp}
 use Rattle.std.specs.Cmp.{nat_cmp_total}
 use Rattle.std.proofs.lemmas.Bool.{cases_eq, cond-true, cond-false, eq-eqb, ne_eqb}
@@ -16,6 +16,11 @@ use Rattle.token_book.proofs.PlaceLists.{AreApart-remove, AreApart-set, AreFull-
 pub held_found : (w : Purse) (most o : ℕ) (es seen : List (ℕ × Pocket)) (x : Option Pocket) → purse most es ≡ w → seen ≡ es → map.find nat_cmp o seen ≡ x → map.get w.held o ≡ x
 held_found w most o es seen x is same found =
     ap (λ (v : Purse). map.get v.held o) (sym is) ∙ get-from_entries nat_cmp_total es o ∙ ap (λ (l : List (ℕ × Pocket)). map.find nat_cmp o l) (sym same) ∙ found
+
+-- what isn't none is some
+pub some_or : {A : Type 0} (o : Option A) → (o ≡ None → ⊥) → IsSome o
+some_or None lost = absurd (lost refl)
+some_or (Some x) lost = refl
 
 -- the place of an object is e, which stands at the index i
 pub record IsFound (w : Purse) (o i : ℕ) (es : List (ℕ × Pocket)) (e : ℕ × Pocket) : Type 0 where

@@ -23,6 +23,13 @@ find-drop [] i e q at is = absurd (cc (at))
 find-drop (x ∷ xs) zero e q at is = let same : x ≡ e = cc (at) in find-here q x xs (is ∙ ap (λ (y : ℕ × Pocket). y.0) (sym same)) ∙ ap (λ (y : ℕ × Pocket). Some y.1) same
 find-drop (x ∷ xs) (suc i) e q at is = find-drop xs i e q at is
 
+-- where it is found from a place on, that place is one of the list
+pub find_within : (es : List (ℕ × Pocket)) (i : ℕ) (q : ℕ) → IsSome (map.find nat_cmp q (drop i es)) → i < length es
+find_within [] zero q some = cc (some)
+find_within [] (suc i) q some = cc (some)
+find_within (x ∷ xs) zero q some = omega arith
+find_within (x ∷ xs) (suc i) q some = let below = find_within xs i q some in omega (arith, below)
+
 -- an object that isn't found stands nowhere
 not_here : (q : ℕ) (e : ℕ × Pocket) (es : List (ℕ × Pocket)) → map.find nat_cmp q (e ∷ es) ≡ None → q ≢ e.0
 not_here q e es none is = let x : Some e.1 ≡ None = sym (find-here q e es is) ∙ none in cc (x)

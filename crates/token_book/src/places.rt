@@ -1,5 +1,5 @@
 // The places of a wallet: the tickets of many objects.
-ghost use Rattle.std.specs.Prelude.{◌≡◌, ◌⊎◌, ℕ, ◌+◌, ◌-◌, ◌<◌, ◌≤◌, ◌==◌, ◌↔◌, length, remove, slice_get, vec_len, vec_capacity, if◌then◌else◌, IfOk, IfSome, IfNone, IsTrue, Some, None};
+ghost use Rattle.std.specs.Prelude.{IsSome, ◌≡◌, ◌⊎◌, ℕ, ◌+◌, ◌-◌, ◌<◌, ◌≤◌, ◌==◌, ◌↔◌, length, remove, slice_get, vec_len, vec_capacity, if◌then◌else◌, IfOk, IfSome, IfNone, IsTrue, Some, None};
 ghost use Rattle.std.specs.Ordering.{nat_cmp};
 ghost use Rattle.std.specs.FinMap as map;
 ghost use Rattle.atomic_table.specs.Seated.{TableId};
@@ -52,6 +52,23 @@ fn index_of(places: &[ObjectRights], object: u32) -> Option<usize>
         }
     }
     None
+}
+
+// The place of an object that has one. Nothing asks for the end of the list.
+fn index_in(places: &[ObjectRights], object: u32) -> usize
+    requires apart { AreApart places.now }
+    requires held { IsSome (map.find nat_cmp object places.now) }
+    ensures { (p : Pocket) × (slice_get places.now result ≡ Some (object, p)) × (map.find nat_cmp object places.now ≡ Some p) }
+{
+    let guess = object as usize;
+    if guess < places.len() && places[guess].object() == object {
+        return guess;
+    }
+    let mut i = 0;
+    while places[i].object() != object {
+        i += 1;
+    }
+    i
 }
 
 // Takes the place at an index out if it is empty.
@@ -151,9 +168,7 @@ impl Places {
         ensures ticket { IsTicket tokens.now object result }
         ensures amount { amount_of result.bytes ≡ bytes }
     {
-        let Some(i) = index_of(&self.places, object) else {
-            unreachable!()
-        };
+        let i = index_in(&self.places, object);
         let ticket = self.places[i].pull(tokens, bytes);
         drop_empty(&mut self.places, i);
         ticket
@@ -175,9 +190,7 @@ impl Places {
         ensures wallet { self.new ≡ pulled_rights tokens.now self.old object tickets bytes }
         ensures rights { result ≡ (object, rights_of tokens.now tickets bytes) }
     {
-        let Some(i) = index_of(&self.places, object) else {
-            unreachable!()
-        };
+        let i = index_in(&self.places, object);
         let rights = self.places[i].pull_rights(tokens, tickets, bytes);
         drop_empty(&mut self.places, i);
         rights

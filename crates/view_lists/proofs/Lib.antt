@@ -3,3 +3,4 @@ pub mod Members
 pub mod Totals
 pub mod Keys
 pub mod Distinct
+pub mod Searches

@@ -1,0 +1,10 @@
+use Rattle.std.proofs.Common.{◌≤◌, ◌-◌, length}
+use Rattle.std.specs.List.{position_or_len}
+use Rattle.payload_pool.specs.Slots.{has_name}
+use Rattle.payload_pool.proofs.slot.place_of.Given as goal
+
+abbrev pub invariant-loop-place : goal.invariant-loop-place
+invariant-loop-place l = l.place ≤ position_or_len (has_name l.name) l.slots
+
+abbrev pub decreases-loop-place : goal.decreases-loop-place
+decreases-loop-place l = length l.slots - l.place
