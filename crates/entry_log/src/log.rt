@@ -31,8 +31,9 @@ pub struct LoggedAccess<'a> {
 pub struct Log {
     items: Items,
     bytes: Vec<u8>,
-    // Where the bytes of large accesses begin, each at a place that follows from a few of them. It is
-    // looked whether they stand there, so that it may stay as it is where a log forgets its bytes.
+    // Where the bytes of accesses of 64 bytes and more begin, each at a place that follows from a few of them
+    // and from where the access is. It is looked whether they stand there, so that it may stay as it is where
+    // a log forgets its bytes.
     starts: Vec<u32>,
     room_bytes: u64,
     past: Past,
@@ -185,8 +186,39 @@ impl Log {
             self.settle();
             return Ok(());
         }
+        if facts.length < MIDDLE || !self.keeps {
+            self.push_new(head, facts, sent, enables, got)?;
+            self.settle();
+            return Ok(());
+        }
+        let place = middle_place(facts.offset, sent, got);
+        self.push_once(place, head, facts, sent, enables, got)
+    }
+
+    // Appends an access. Where its bytes stand already, as this place says, it refers to those.
+    #[inline(always)]
+    fn push_once(
+        &mut self,
+        place: usize,
+        head: Head,
+        facts: Facts,
+        sent: &[u8],
+        enables: &[u8],
+        got: &[u8],
+    ) -> Result<(), Memory>
+        requires { facts.command ≡ Read → sent.now ≡ [] }
+        ensures ok { OnOk result (self.new ≡ with_entry self.old
+            (entry_at head (access_by facts sent.now enables.now got.now))) }
+        ensures err { OnErr result (self.new ≡ self.old) }
+        ensures roomy { length self.old.entries < self.old.room →
+            length sent.now + length enables.now + length got.now ≤ self.old.room_bytes → IsOk result }
+    {
+        if self.push_again(place, head, facts, sent, enables, got)? {
+            return Ok(());
+        }
+        let start = self.bytes.len() as u32;
         self.push_new(head, facts, sent, enables, got)?;
-        self.settle();
+        self.note(place, start);
         Ok(())
     }
 
@@ -214,16 +246,11 @@ impl Log {
             return Ok(());
         }
         let place = place_of(facts.offset, sent, enables, got);
-        if self.push_again(place, head, facts, sent, enables, got)? {
-            return Ok(());
-        }
-        let start = self.bytes.len() as u32;
-        self.push_new(head, facts, sent, enables, got)?;
-        self.note(place, start);
-        Ok(())
+        self.push_once(place, head, facts, sent, enables, got)
     }
 
     // Appends an access whose bytes stand where this place says, and answers whether they do.
+    #[inline(always)]
     fn push_again(
         &mut self,
         place: usize,
@@ -303,6 +330,7 @@ impl Log {
     }
 
     // Notes that bytes of this place begin there.
+    #[inline(always)]
     fn note(&mut self, place: usize, start: u32)
         ensures { self.new ≡ self.old }
     {
@@ -449,6 +477,9 @@ const BYTES_MAX: u64 = 0xffff_ffff;
 // An access of so many bytes is a large one.
 const LARGE: u64 = 512;
 
+// One of so many is a middle one: below, to look for its bytes takes as long as to write them.
+const MIDDLE: u64 = 64;
+
 // The parts of a large access are handed on as copies, as its head is, so what small ones come with stays in registers.
 #[inline(always)]
 fn copied_facts(facts: &Facts) -> Facts
@@ -464,11 +495,11 @@ fn copied_facts(facts: &Facts) -> Facts
     }
 }
 
-// A log with room for so many bytes notes where those of large accesses begin.
+// A log with room for so many bytes notes where those of large and middle accesses begin.
 const NOTED_MIN: u64 = 0x1_0000;
 
 // At how many places.
-const SLOTS: usize = 1024;
+const SLOTS: usize = 8192;
 
 // An odd number by which the upper bits of a product depend on all bits of the other factor.
 const MIX: u64 = 0x9e37_79b9_7f4a_7c15;
@@ -490,6 +521,22 @@ fn place_of(offset: u64, sent: &[u8], enables: &[u8], got: &[u8]) -> usize {
     (mixed >> 48) as usize % SLOTS
 }
 
+// The place of a middle access: what it sent or got mostly follows from where, and else from the first byte.
+#[inline(always)]
+fn middle_place(offset: u64, sent: &[u8], got: &[u8]) -> usize {
+    let first = first_of(sent).wrapping_add(first_of(got));
+    let place = (offset / MIDDLE).wrapping_add(first << 10);
+    place as usize % SLOTS
+}
+
+#[inline(always)]
+fn first_of(part: &[u8]) -> u64 {
+    match part.first() {
+        Some(first) => *first as u64,
+        None => 0,
+    }
+}
+
 // The first, the middle and the last byte, with how many there are: most parts that differ have another
 // number.
 fn few_of(part: &[u8]) -> u64 {
@@ -503,6 +550,7 @@ fn few_of(part: &[u8]) -> u64 {
 }
 
 // Where these bytes of an access stand, if they do from `start` on.
+#[inline(always)]
 fn span_from(bytes: &[u8], start: u32, sent: &[u8], enables: &[u8], got: &[u8]) -> Option<Span>
     ensures { IfSome result (HasParts bytes.now sent.now enables.now got.now) }
 {
@@ -520,11 +568,15 @@ fn span_from(bytes: &[u8], start: u32, sent: &[u8], enables: &[u8], got: &[u8]) 
 }
 
 // Between these places stand just these bytes.
+#[inline(always)]
 fn is_part(bytes: &[u8], from: u32, to: u32, part: &[u8]) -> bool
     requires ordered { from ≤ to }
     requires within { to ≤ length bytes.now }
     ensures { IsTrue result → slice_range bytes.now from to ≡ part.now }
 {
+    if part.is_empty() {
+        return from == to;
+    }
     &bytes[from as usize..to as usize] == part
 }
 
