@@ -17,3 +17,4 @@ pub mod MoreLemmas
 pub mod RunEntries
 pub mod StepLemmas
 pub mod DoneLemmas
+pub mod Dropping

@@ -1,5 +1,5 @@
 -- What a move of an initiator needs, and what it leaves.
-use Rattle.std.specs.Prelude.{ℕ, ◌≡◌, Bool, true, false, List, [], ◌∷◌, ◌++◌, length, Some, slice_get}
+use Rattle.std.specs.Prelude.{ℕ, ◌≡◌, ◌<◌, ⊤, Bool, true, false, List, [], ◌∷◌, ◌++◌, length, Some, slice_get}
 use Rattle.atomic_table.specs.Seated.{TableId}
 use Rattle.view_lists.specs.Lists.{Within}
 use Rattle.one_history.specs.declared.entry.Entry.{Entry as HistoryEntry}
@@ -69,3 +69,8 @@ pub record HasMadeNext (table tokens : TableId) (frame : Frame Plan) (known : Li
 abbrev pub ComesOf : TableId → TableId → Frame Plan → List (HistoryEntry Content) → Run → Transfer → Route → Purse → TableView → UseOf → Type 0
 ComesOf table tokens frame known r x route w t (Used payload note at) = HasMadeNext table tokens frame known r x route false payload note w t
 ComesOf table tokens frame known r x route w t (Stale payload note) = IsToMake table tokens frame r x route payload note w t × Within known note.knows.known
+
+-- a grant that is stale is held no more
+abbrev pub DropsOne : TableView → TableView → UseOf → Type 0
+DropsOne old new (Used payload note at) = ⊤
+DropsOne old new (Stale payload note) = length new.held < length old.held

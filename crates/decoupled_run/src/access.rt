@@ -6,7 +6,7 @@ ghost use Rattle.script_engine.specs.Part.{command_in, is_plain_kind};
 ghost use Rattle.dmi_grants.specs.Table.{covers};
 ghost use Rattle.initiator_run.specs.Moves.{HasReached};
 ghost use Rattle.decoupled_run.specs.Job.{IsAtEase, IsJob, goes_direct};
-ghost use Rattle.decoupled_run.specs.Moves.{ComesOf, HasMadeNext, IsLeft, IsToMake};
+ghost use Rattle.decoupled_run.specs.Moves.{ComesOf, DropsOne, HasMadeNext, IsLeft, IsToMake};
 
 use crate::send::send;
 use dmi_grants::{GrantTable, UseOf};
@@ -104,7 +104,8 @@ fn use_held<N: Naming<Plan, TlmLaw>, S: Sharing<N>, R: Wait>(
     requires ready { IsToMake N.table N.tokens N.frame run.now next.now.transfer next.now.route payload note wallet.old grants.old }
     requires plain { is_plain_kind next.now.transfer.kind ≡ true }
     requires which { let x = next.now.transfer in IsSomeAnd (slice_get grants.old.held which) (λ h. IsTrue (covers x.address x.length (command_in x.kind) h)) }
-    ensures { ComesOf N.table N.tokens N.frame note.knows.known run.now next.now.transfer next.now.route wallet.new grants.new result }
+    ensures comes { ComesOf N.table N.tokens N.frame note.knows.known run.now next.now.transfer next.now.route wallet.new grants.new result }
+    ensures fewer { DropsOne grants.old grants.new result }
 {
     let txn = run.next_txn();
     let at = run.current();
@@ -133,10 +134,7 @@ fn make_plain<N: Naming<Plan, TlmLaw>, S: Sharing<N>, B: Reach<N, S>, R: Wait>(
         length,
         kind,
     } = next.transfer;
-    for _ in rt.forever() {
-        let Some(which) = grants.find(address, length, command_of(kind)) else {
-            return transport(reach, rt, run, &next, true, grants, payload, note, wallet);
-        };
+    while let Some(which) = grants.find(address, length, command_of(kind)) {
         match use_held(
             reach.net(),
             rt,
@@ -168,7 +166,7 @@ fn make_plain<N: Naming<Plan, TlmLaw>, S: Sharing<N>, B: Reach<N, S>, R: Wait>(
             }
         }
     }
-    unreachable!()
+    transport(reach, rt, run, &next, true, grants, payload, note, wallet)
 }
 
 /// Makes the access or the debug read that is next, which has a route: a plain access of a direct initiator by a grant
